@@ -1,0 +1,4 @@
+pub mod Table
+pub mod Sound
+pub mod Events
+pub mod Refusals

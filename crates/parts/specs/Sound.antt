@@ -1,0 +1,23 @@
+-- What every row of the part table keeps to: the ranges that callers need.
+-- Assumes nothing.
+use mathlib.Core.Path.{_≡_}
+use mathlib.Core.Bool.{Bool, true, false}
+use Prim.Native.Nat.{ℕ, _*_, _/_, _<_, _≤_}
+use Rattle.parts.specs.declared.Facts.{Facts}
+
+-- the address bytes reach the whole array: two of them 65,536 bytes, one with A10..A8 of the select code 2,048
+abbrev pub Reached : Bool → ℕ → Type 0
+Reached true size = size ≤ 65536
+Reached false size = size ≤ 2048
+
+pub record Sound (f : Facts) : Type 0 where
+  pub pagePos : 0 < f .page
+  pub pageMost : f .page ≤ 64
+  pub sizePos : 0 < f .size
+  pub sizeMost : f .size ≤ 32768
+  -- P divides the array size
+  pub whole : f .size ≡ f .size / f .page * f .page
+  pub reached : Reached (f .wide) (f .size)
+  -- the bit that chooses the lock stands above every location
+  pub lockAbove : f .page ≤ f .lock
+  pub enablesMost : f .enables ≤ 8

@@ -1,0 +1,287 @@
+// The six parts, the two numberings, the bus events and the refusals of document 01.
+ghost use mathlib.Core.Path.{_≡_};
+ghost use Rattle.parts.specs.Table.{factsOf, idSizeOf, addressBytesOf, enableRightOf};
+ghost use Rattle.parts.specs.Sound.{Sound};
+ghost use Rattle.parts.specs.Events.{eventOf, eventRightOf};
+ghost use Rattle.parts.specs.Refusals.{numberOf, givenOf};
+
+// The address of a byte of the array.
+pub struct ArrayAddress(pub usize);
+// The place of a byte in the identification page.
+pub struct IdLocation(pub usize);
+
+// A row of the part table.
+pub struct Facts {
+    // Whether there is such a part.
+    pub known: bool,
+    // Bytes of the array.
+    pub size: usize,
+    // Bytes of a page, and of the identification page.
+    pub page: usize,
+    // Two address bytes, and the enable in the select code; else one, and A10..A8 in the select code.
+    pub wide: bool,
+    pub ident: bool,
+    pub pin: bool,
+    // How many enables the part allows, from 0.
+    pub enables: u8,
+    // The weight of the address bit that chooses: 0 write identification page, 1 lock.
+    pub lock: usize,
+}
+
+pub fn facts_of(part: u8) -> Facts
+    ensures { λ r. ⌜ r ≡ factsOf part ⌝ }
+    ensures range { λ r. ⌜ Sound r ⌝ }
+{
+    match part {
+        0 => Facts {
+            known: true,
+            size: 2048,
+            page: 16,
+            wide: false,
+            ident: true,
+            pin: false,
+            enables: 1,
+            lock: 128,
+        },
+        1 => Facts {
+            known: true,
+            size: 2048,
+            page: 16,
+            wide: false,
+            ident: true,
+            pin: true,
+            enables: 1,
+            lock: 128,
+        },
+        2 => Facts {
+            known: true,
+            size: 8192,
+            page: 32,
+            wide: true,
+            ident: false,
+            pin: true,
+            enables: 8,
+            lock: 1024,
+        },
+        3 => Facts {
+            known: true,
+            size: 8192,
+            page: 32,
+            wide: true,
+            ident: true,
+            pin: true,
+            enables: 8,
+            lock: 1024,
+        },
+        4 => Facts {
+            known: true,
+            size: 32768,
+            page: 64,
+            wide: true,
+            ident: false,
+            pin: true,
+            enables: 8,
+            lock: 1024,
+        },
+        5 => Facts {
+            known: true,
+            size: 32768,
+            page: 64,
+            wide: true,
+            ident: true,
+            pin: true,
+            enables: 8,
+            lock: 1024,
+        },
+        _ => Facts {
+            known: false,
+            size: 1,
+            page: 1,
+            wide: false,
+            ident: false,
+            pin: false,
+            enables: 0,
+            lock: 1,
+        },
+    }
+}
+
+// The bytes of a part's identification page: 0 where there is no such page.
+pub fn id_size(f: Facts) -> usize
+    ensures { λ r. ⌜ r ≡ idSizeOf f ⌝ }
+{
+    if f.ident { f.page } else { 0 }
+}
+
+pub fn address_bytes(f: Facts) -> usize
+    ensures { λ r. ⌜ r ≡ addressBytesOf f ⌝ }
+{
+    if f.wide { 2 } else { 1 }
+}
+
+pub fn enable_right(f: Facts, enable: u8) -> bool
+    ensures { λ r. ⌜ r ≡ enableRightOf f enable ⌝ }
+{
+    enable < f.enables
+}
+
+pub enum Event {
+    Clock(bool),
+    Start,
+    Stop,
+    Ends,
+    PinLow,
+    PinHigh,
+    PinFloat,
+    Reset,
+    // A code above 8: refused before it is taken.
+    Unknown,
+}
+
+pub fn event_of(code: u8) -> Event
+    ensures { λ r. ⌜ r ≡ eventOf code ⌝ }
+{
+    match code {
+        0 => Event::Clock(false),
+        1 => Event::Clock(true),
+        2 => Event::Start,
+        3 => Event::Stop,
+        4 => Event::Ends,
+        5 => Event::PinLow,
+        6 => Event::PinHigh,
+        7 => Event::PinFloat,
+        8 => Event::Reset,
+        _ => Event::Unknown,
+    }
+}
+
+// Whether a part takes an event of this code.
+pub fn event_right(pin: bool, code: u8) -> bool
+    ensures { λ r. ⌜ r ≡ eventRightOf pin code ⌝ }
+{
+    if 8 < code {
+        return false;
+    }
+    if pin {
+        return true;
+    }
+    if code < 5 {
+        return true;
+    }
+    code == 8
+}
+
+pub enum Refusal {
+    NoPart,
+    WrongEnable,
+    WrongBuffer,
+    BadState,
+    // With the first place.
+    BadEvent(usize),
+    ShortBuffer,
+    Beyond,
+    BadLimit,
+    NoSelect,
+    NoData,
+    PollsUsed,
+    BadImage,
+    TooMany,
+}
+
+// Document 01's number of a refusal.
+pub fn number(r: Refusal) -> u8
+    ensures { λ n. ⌜ n ≡ numberOf r ⌝ }
+{
+    match r {
+        Refusal::NoPart => 1,
+        Refusal::WrongEnable => 2,
+        Refusal::WrongBuffer => 3,
+        Refusal::BadState => 4,
+        Refusal::BadEvent(_) => 5,
+        Refusal::ShortBuffer => 6,
+        Refusal::Beyond => 7,
+        Refusal::BadLimit => 8,
+        Refusal::NoSelect => 9,
+        Refusal::NoData => 10,
+        Refusal::PollsUsed => 11,
+        Refusal::BadImage => 12,
+        Refusal::TooMany => 13,
+    }
+}
+
+// Which of the refusals of bad input apply to a call.
+pub struct Faults {
+    pub part: bool,
+    pub enable: bool,
+    pub buffer: bool,
+    pub state: bool,
+    pub many: bool,
+    pub event: bool,
+    // The first place of a bad event.
+    pub place: usize,
+    pub short: bool,
+    pub beyond: bool,
+    pub limit: bool,
+    pub image: bool,
+}
+
+pub enum Verdict {
+    Fine,
+    Refused(Refusal),
+}
+
+// Which refusal a call is given: the order of document 01.
+pub fn given(f: Faults) -> Verdict
+    ensures { λ r. ⌜ r ≡ givenOf f ⌝ }
+{
+    if f.part {
+        return Verdict::Refused(Refusal::NoPart);
+    }
+    if f.enable {
+        return Verdict::Refused(Refusal::WrongEnable);
+    }
+    if f.buffer {
+        return Verdict::Refused(Refusal::WrongBuffer);
+    }
+    if f.state {
+        return Verdict::Refused(Refusal::BadState);
+    }
+    if f.many {
+        return Verdict::Refused(Refusal::TooMany);
+    }
+    if f.event {
+        return Verdict::Refused(Refusal::BadEvent(f.place));
+    }
+    if f.short {
+        return Verdict::Refused(Refusal::ShortBuffer);
+    }
+    if f.beyond {
+        return Verdict::Refused(Refusal::Beyond);
+    }
+    if f.limit {
+        return Verdict::Refused(Refusal::BadLimit);
+    }
+    if f.image {
+        return Verdict::Refused(Refusal::BadImage);
+    }
+    Verdict::Fine
+}
+
+// A call with nothing wrong: what later functions fill in.
+pub fn no_faults() -> Faults
+    ensures { λ r. ⌜ r ≡ Rattle.parts.specs.Refusals.noFaults ⌝ }
+{
+    Faults {
+        part: false,
+        enable: false,
+        buffer: false,
+        state: false,
+        many: false,
+        event: false,
+        place: 0,
+        short: false,
+        beyond: false,
+        limit: false,
+        image: false,
+    }
+}
