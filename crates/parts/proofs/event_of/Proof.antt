@@ -1,45 +1,43 @@
 use Rattle.parts.proofs.Kit.{tests}
-use mathlib.Core.Path.{sym, refl}
-use borrow.Author.Tests.{not-true, not-false}
 use Rattle.parts.specs.Events.{eventOf}
 use Rattle.parts.proofs.event_of.Statement.{statement}
 use Rattle.parts.proofs.event_of.Tie as tie
 
 returns : tie.Need-returns
 unfolding eventOf
-returns c = simp (tests, c .match .keys1)
+returns c = simp (c .match .keys1)
 
 returns-2 : tie.Need-returns-2
 unfolding eventOf
-returns-2 c = simp (tests, c .match .keys2)
+returns-2 c = simp (c .match .keys2)
 
 returns-3 : tie.Need-returns-3
 unfolding eventOf
-returns-3 c = simp (tests, c .match .keys3)
+returns-3 c = simp (c .match .keys3)
 
 returns-4 : tie.Need-returns-4
 unfolding eventOf
-returns-4 c = simp (tests, c .match .keys4)
+returns-4 c = simp (c .match .keys4)
 
 returns-5 : tie.Need-returns-5
 unfolding eventOf
-returns-5 c = simp (tests, c .match .keys5)
+returns-5 c = simp (c .match .keys5)
 
 returns-6 : tie.Need-returns-6
 unfolding eventOf
-returns-6 c = simp (tests, c .match .keys6)
+returns-6 c = simp (c .match .keys6)
 
 returns-7 : tie.Need-returns-7
 unfolding eventOf
-returns-7 c = simp (tests, c .match .keys7)
+returns-7 c = simp (c .match .keys7)
 
 returns-8 : tie.Need-returns-8
 unfolding eventOf
-returns-8 c = simp (tests, c .match .keys8)
+returns-8 c = simp (c .match .keys8)
 
 returns-9 : tie.Need-returns-9
 unfolding eventOf
-returns-9 c = simp (tests, c .match .keys9)
+returns-9 c = simp (c .match .keys9)
 
 returns-10 : tie.Need-returns-10
 unfolding eventOf
