@@ -17,6 +17,8 @@ pub record Sound (f : Facts) : Type 0 where
   pub sizeMost : f .size ≤ 32768
   -- P divides the array size
   pub whole : f .size ≡ f .size / f .page * f .page
+  -- P divides 65,536 too, so that no page of a 16-bit counter is cut off
+  pub even : 65536 ≡ 65536 / f .page * f .page
   pub reached : Reached (f .wide) (f .size)
   -- the bit that chooses the lock stands above every location
   pub lockAbove : f .page ≤ f .lock

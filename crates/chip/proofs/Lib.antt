@@ -1,0 +1,3 @@
+pub mod Kit
+pub mod Laws
+pub mod Turns

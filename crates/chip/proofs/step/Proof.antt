@@ -1,0 +1,53 @@
+use mathlib.Core.Path.{_≡_, _∙_, sym, refl}
+use borrow.Author.Needs.{needs}
+use Rattle.chip.proofs.step.Statement.{statement}
+use Rattle.chip.proofs.step.Tie as tie
+use Rattle.chip.proofs.step.Reads as reads
+use Rattle.chip.proofs.step.Lts as lts
+use Rattle.chip.proofs.step_verdict.Reads as step-verdict-reads
+use Rattle.chip.proofs.take.Reads as take-reads
+
+-- src/lib.rt:495:9
+step-verdict-requires : tie.Need-step-verdict-requires
+step-verdict-requires c κs = search needs
+
+-- src/lib.rt:497:51
+enum-told : tie.Need-enum-told
+enum-told c = search needs
+
+-- src/lib.rt:497:26
+take-requires : tie.Need-take-requires
+take-requires c κs = search needs
+
+-- src/lib.rt:498:26
+enum-known-verdict : tie.Need-enum-known-verdict
+enum-known-verdict c = search needs
+
+-- src/lib.rt:490:1
+same-length : tie.Need-same-length
+same-length c = search needs
+
+-- src/lib.rt:490:1
+same-length-2 : tie.Need-same-length-2
+same-length-2 c = search needs
+
+-- src/lib.rt:490:1
+returns : tie.Need-returns
+returns c = let v = sym (c .before .before .before .before .before .before .before .before .before .step-verdict .ensures) ∙ c .before .before .before .before .before .before .before .enum-told .given .1 in let t = c .before .before .before .before .take .ensures in (rw v (t .0), (rw v (t .1 .0), rw v (t .1 .1)))
+
+-- src/lib.rt:490:1
+returns-2 : tie.Need-returns-2
+returns-2 c = let v = sym (c .before .before .before .step-verdict .ensures) ∙ c .before .verdict .given .1 in (rw v refl, (rw v refl, rw v refl))
+
+pub step-spec : {M : Type 1} → statement M
+step-spec =
+    tie.close
+    (tie.spec
+    step-verdict-requires
+    enum-told
+    take-requires
+    enum-known-verdict
+    same-length
+    same-length-2
+    returns
+    returns-2)
