@@ -94,13 +94,14 @@ selectedOf f c b (Hit t false) = goes c (Receive (firstOf f t b)) Keep
 
 -- ---- rule 2: address
 
--- bits above the array size are ignored
+-- bits above the array size are ignored. Latches are places in the counter's page, so none is kept when it is loaded
+-- (after a Start there is none; a state from outside may hold some)
 unfoldable pub loadArrayOf : Facts → Core → ℕ → After
-loadArrayOf f c a = goes (counting c (a % f .size)) (Receive (Fill Array false)) Keep
+loadArrayOf f c a = goes (counting c (a % f .size)) (Receive (Fill Array false)) Drop
 
 -- the location is the address modulo P; one bit chooses: 0 write identification page, 1 lock
 unfoldable pub loadIdOf : Facts → Core → ℕ → After
-loadIdOf f c a = goes (counting c (a % f .page)) (Receive (cond (bitOn a (f .lock)) LockByte (Fill Ident false))) Keep
+loadIdOf f c a = goes (counting c (a % f .page)) (Receive (cond (bitOn a (f .lock)) LockByte (Fill Ident false))) Drop
 
 unfoldable pub loadedOf : Facts → Core → Target → ℕ → After
 loadedOf f c Array a = loadArrayOf f c a

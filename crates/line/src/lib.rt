@@ -300,7 +300,7 @@ fn load_array(part: u8, core: Core, a: ArrayAddress) -> After
     After {
         core: Core { counter: n, ..core },
         phase: Phase::Receive(Recv::Fill(Target::Array, false)),
-        act: Act::Keep,
+        act: Act::Drop,
     }
 }
 
@@ -315,13 +315,13 @@ fn load_id(part: u8, core: Core, a: IdLocation) -> After
         return After {
             core: Core { counter: n, ..core },
             phase: Phase::Receive(Recv::LockByte),
-            act: Act::Keep,
+            act: Act::Drop,
         };
     }
     After {
         core: Core { counter: n, ..core },
         phase: Phase::Receive(Recv::Fill(Target::Ident, false)),
-        act: Act::Keep,
+        act: Act::Drop,
     }
 }
 
