@@ -1,0 +1,4 @@
+pub mod Range
+pub mod Runs
+pub mod Bytes
+pub mod Trials
