@@ -1,0 +1,177 @@
+-- The promises of `specs/Promise.antt` are kept by the definitions that the contracts cite.
+-- Assumes nothing.
+use mathlib.Core.Path.{_≡_, refl, _∙_, ap}
+use mathlib.Core.Bool.{true, false}
+use mathlib.Core.List.{List, []}
+use Prim.Native.Nat.{ℕ, _+_, _*_, _/_, _%_, _<_, _≤_}
+use native.Mathlib.Nat.{mod-lt, div-add-mod', le-of-eq}
+use native.Mathlib.Omega.{arith}
+use lib.Dec.{eqb}
+use lib.ListN.{length, take, drop, getD, length-take, length-drop}
+use lib.Seq.{getD-take, getD-drop, take-all}
+use borrow.Author.Tests.{le-leb, lt-leb, eq-eqb, ne-eqb, eqb-true, eqb-false}
+use Rattle.parts.specs.declared.ArrayAddress.{ArrayAddress}
+use Rattle.parts.specs.declared.Facts.{Facts}
+use Rattle.parts.specs.declared.Refusal.{Refusal}
+use Rattle.parts.specs.declared.Refusal.the-variants.{NoPart, WrongEnable, WrongBuffer, BadState, BadEvent, ShortBuffer, Beyond, BadLimit, NoSelect, NoData, PollsUsed, BadImage, TooMany}
+use Rattle.parts.specs.declared.Verdict.{Verdict}
+use Rattle.parts.specs.declared.Verdict.the-variants.{Fine, Refused}
+use Rattle.parts.specs.Table.{factsOf, idSizeOf}
+use Rattle.parts.specs.Refusals.{numberOf, givenOf}
+use Rattle.parts.proofs.Laws.{branch}
+use Rattle.page.specs.declared.Place.{Place}
+use Rattle.page.specs.declared.Place.the-variants.{Array, Ident}
+use Rattle.page.specs.Look.{buffersWrongOf, lookRefusalOf, pageStartOf, lookSpanOf, lookOf, shownOf, pageSpanOf, ofArray}
+use Rattle.page.specs.Promise.{numberGiven, Lengths, RefusesRightly, IsPage, ShowsPages, LiesInBuffer}
+use Rattle.page.proofs.Laws.{room, accepted}
+
+-- ---- "part above 5"
+
+pub unknown : (part : ℕ) → 5 < part → factsOf part .known ≡ false
+unfolding factsOf
+unknown part h = simp (ne-eqb part 0 (λ e. omega arith), ne-eqb part 1 (λ e. omega arith), ne-eqb part 2 (λ e. omega arith), ne-eqb part 3 (λ e. omega arith), ne-eqb part 4 (λ e. omega arith), ne-eqb part 5 (λ e. omega arith))
+
+abbrev Known : Facts → Type 0
+Known f = f .known ≡ true
+
+pub known : (part : ℕ) → part ≤ 5 → factsOf part .known ≡ true
+unfolding factsOf
+known part h =
+    branch Known (eqb part 0) (λ _. refl) (λ h0.
+    branch Known (eqb part 1) (λ _. refl) (λ h1.
+    branch Known (eqb part 2) (λ _. refl) (λ h2.
+    branch Known (eqb part 3) (λ _. refl) (λ h3.
+    branch Known (eqb part 4) (λ _. refl) (λ h4.
+    branch Known (eqb part 5) (λ _. refl) (λ h5.
+    absurd (omega (arith, eqb-false part 0 h0, eqb-false part 1 h1, eqb-false part 2 h2, eqb-false part 3 h3, eqb-false part 4 h4, eqb-false part 5 h5))))))))
+
+-- ---- the refusals
+
+pub right : (f : Facts) (array id : ℕ) → array ≡ f .size → id ≡ idSizeOf f → buffersWrongOf f array id ≡ false
+unfolding buffersWrongOf
+right f array id a i = simp (eq-eqb array (f .size) a, eq-eqb id (idSizeOf f) i)
+
+wrong : (f : Facts) (array id : ℕ) → ((array ≡ f .size) × (id ≡ idSizeOf f) → ⊥) → buffersWrongOf f array id ≡ true
+unfolding buffersWrongOf
+wrong f array id n =
+    branch (λ b. b ≡ true) (eqb array (f .size))
+    (λ h. simp (ne-eqb id (idSizeOf f) (λ e. n (eqb-true array (f .size) h, e))))
+    (λ _. refl)
+
+-- a look within the array, and one at an identification page that is there, are not refused
+in-array : (part array id : ℕ) (a : ArrayAddress) → factsOf part .known ≡ true → Lengths part array id → a .0 < factsOf part .size → lookRefusalOf part array id (Array a) ≡ Fine
+unfolding lookRefusalOf givenOf
+in-array part array id a k l low = simp (k, right (factsOf part) array id (l .0) (l .1), lt-leb (factsOf part .size) (a .0) low)
+
+is-there : (part array id : ℕ) → factsOf part .known ≡ true → Lengths part array id → factsOf part .ident ≡ true → lookRefusalOf part array id Ident ≡ Fine
+unfolding lookRefusalOf givenOf
+is-there part array id k l i = simp (k, right (factsOf part) array id (l .0) (l .1), i)
+
+pub refuses-rightly : RefusesRightly lookRefusalOf
+unfolding lookRefusalOf givenOf
+refuses-rightly = record {
+  noPart = λ part array id place h. simp (unknown part h);
+  wrongBuffer = λ part array id place h n. simp (known part h, wrong (factsOf part) array id n);
+  beyond = λ part array id a h l far. simp (known part h, right (factsOf part) array id (l .0) (l .1), le-leb (factsOf part .size) (a .0) far);
+  noPage = λ part array id h l i. simp (known part h, right (factsOf part) array id (l .0) (l .1), i);
+  inArray = λ part array id a h l low. ap numberGiven (in-array part array id a (known part h) l low);
+  isPage = λ part array id h l i. ap numberGiven (is-there part array id (known part h) l i);
+}
+
+-- ---- a number is a refusal's, or 0
+
+positive : (r : Refusal) → 0 < numberOf r
+positive NoPart = omega arith
+positive WrongEnable = omega arith
+positive WrongBuffer = omega arith
+positive BadState = omega arith
+positive (BadEvent k) = omega arith
+positive ShortBuffer = omega arith
+positive Beyond = omega arith
+positive BadLimit = omega arith
+positive NoSelect = omega arith
+positive NoData = omega arith
+positive PollsUsed = omega arith
+positive BadImage = omega arith
+positive TooMany = omega arith
+
+fine : (v : Verdict) → numberGiven v ≡ 0 → v ≡ Fine
+fine Fine e = refl
+fine (Refused r) e = absurd (omega (arith, positive r))
+
+-- ---- where it lies
+
+module _ (part array id : ℕ) where
+  span-fine : (place : Place) → lookRefusalOf part array id place ≡ Fine → lookSpanOf part array id place ≡ pageSpanOf (factsOf part) place
+  unfolding lookSpanOf
+  span-fine place h = rw h
+
+  span-refused : (place : Place) → 0 < numberGiven (lookRefusalOf part array id place) → lookSpanOf part array id place ≡ ofArray 0 0
+  unfolding lookSpanOf
+  span-refused place h = empty (lookRefusalOf part array id place) h
+    where
+      empty : (v : Verdict) → 0 < numberGiven v → shownOf v (pageSpanOf (factsOf part) place) ≡ ofArray 0 0
+      empty Fine z = absurd (omega arith)
+      empty (Refused r) z = refl
+
+pub lies-in-buffer : LiesInBuffer lookRefusalOf lookSpanOf
+unfolding pageStartOf
+lies-in-buffer = record {
+  array = λ part array id a h. let f = fine (lookRefusalOf part array id (Array a)) h in (span-fine part array id (Array a) f, room part array id (Array a) f .1);
+  ident = λ part array id h. let f = fine (lookRefusalOf part array id Ident) h in (span-fine part array id Ident f, room part array id Ident f);
+  refused = λ part array id place h. span-refused part array id place h;
+}
+
+-- ---- what it holds
+
+module _ (P a : ℕ) (array : List ℕ) where
+  page-each : (i : ℕ) → i < P → getD (take P (drop (a / P * P) array)) i 0 ≡ getD array (a / P * P + i) 0
+  page-each i low = rw (getD-take P (drop (a / P * P) array) i 0 low, getD-drop)
+
+  is-page : 0 < P → a / P * P + P ≤ length array → IsPage P a array (take P (drop (a / P * P) array))
+  is-page pos h = record {
+    part = refl;
+    whole = simp (length-take, length-drop) (omega arith);
+    each = page-each;
+    own = page-each (a % P) (mod-lt a pos) ∙ ap (λ i. getD array i 0) (div-add-mod' a P);
+  }
+
+module _ (part : ℕ) (array id : List ℕ) where
+  looked-array : (a : ArrayAddress) → lookRefusalOf part (length array) (length id) (Array a) ≡ Fine → lookOf part array id (Array a) ≡ take (factsOf part .page) (drop (a .0 / factsOf part .page * factsOf part .page) array)
+  unfolding lookOf pageStartOf
+  looked-array a h = rw (span-fine part (length array) (length id) (Array a) h)
+
+  looked-ident : lookRefusalOf part (length array) (length id) Ident ≡ Fine → lookOf part array id Ident ≡ id
+  unfolding lookOf
+  looked-ident h = rw (span-fine part (length array) (length id) Ident h) (take-all (factsOf part .page) id (le-of-eq (room part (length array) (length id) Ident h)))
+
+  looked-refused : (place : Place) → 0 < numberGiven (lookRefusalOf part (length array) (length id) place) → lookOf part array id place ≡ []
+  unfolding lookOf
+  looked-refused place h = rw (span-refused part (length array) (length id) place h)
+
+  page-shown : (a : ArrayAddress) → lookRefusalOf part (length array) (length id) (Array a) ≡ Fine → IsPage (factsOf part .page) (a .0) array (lookOf part array id (Array a))
+  unfolding pageStartOf
+  page-shown a h =
+      let r = room part (length array) (length id) (Array a) h in
+      rw (looked-array a h) (is-page (factsOf part .page) (a .0) array (r .0) (r .1))
+
+  -- an address in the same page is in the array too
+  page-shared : (a b : ArrayAddress) → lookRefusalOf part (length array) (length id) (Array a) ≡ Fine → b .0 / factsOf part .page ≡ a .0 / factsOf part .page → lookOf part array id (Array b) ≡ lookOf part array id (Array a)
+  unfolding pageStartOf
+  page-shared a b h e =
+      let P = factsOf part .page in
+      let ok = accepted part (length array) (length id) (Array a) h in
+      let r = room part (length array) (length id) (Array a) h in
+      let below : a .0 / P * P + P ≤ length array = r .1 in
+      let same : b .0 / P * P ≡ a .0 / P * P = ap (λ q. q * P) e in
+      let low : b .0 < factsOf part .size = omega (arith, div-add-mod' (b .0) P, mod-lt (b .0) (r .0), ok .arrayRight) in
+      let hb = in-array part (length array) (length id) b (ok .known) (ok .arrayRight, ok .idRight) low in
+      rw (looked-array a h, looked-array b hb, same)
+
+pub shows-pages : ShowsPages lookRefusalOf lookOf
+shows-pages = record {
+  array = λ part array id a h. page-shown part array id a (fine (lookRefusalOf part (length array) (length id) (Array a)) h);
+  shared = λ part array id a b h e. page-shared part array id a b (fine (lookRefusalOf part (length array) (length id) (Array a)) h) e;
+  ident = λ part array id h. let f = fine (lookRefusalOf part (length array) (length id) Ident) h in (looked-ident part array id f, room part (length array) (length id) Ident f);
+  refused = λ part array id place h. looked-refused part array id place h;
+}

@@ -1,0 +1,75 @@
+-- "A page can be looked at, by an array address in it or as the identification page: it is shown as the part of that
+-- lent buffer, array or identification, uncopied." "A refused look at a page shows an empty part."
+-- Assumes nothing.
+use Prim.Native.Nat.{ℕ, _+_, _*_, _/_, _<_, _≤_}
+use mathlib.Core.Path.{_≡_}
+use mathlib.Core.Bool.{Bool, true, false, cond, not}
+use mathlib.Core.List.{List}
+use lib.Dec.{leb, eqb}
+use lib.ListN.{length, take, drop}
+use Rattle.parts.specs.declared.Facts.{Facts}
+use Rattle.parts.specs.declared.Faults.{Faults}
+use Rattle.parts.specs.declared.Verdict.{Verdict}
+use Rattle.parts.specs.declared.Verdict.the-variants.{Fine, Refused}
+use Rattle.parts.specs.Table.{factsOf, idSizeOf}
+use Rattle.parts.specs.Refusals.{givenOf}
+use Rattle.page.specs.declared.Place.{Place}
+use Rattle.page.specs.declared.Place.the-variants.{Array, Ident}
+
+-- refusal 3: "array or identification buffer not exactly the part's length (0 where there is no such page)"
+unfoldable pub buffersWrongOf : Facts → ℕ → ℕ → Bool
+buffersWrongOf f array id = cond (eqb array (f .size)) (not (eqb id (idSizeOf f))) true
+
+-- refusal 7: an address at or beyond the array's size is in no page; "no such page"
+abbrev pub outsideOf : Facts → Place → Bool
+outsideOf f (Array a) = leb (f .size) (a .0)
+outsideOf f Ident = not (f .ident)
+
+-- no other refusal applies to a look: it has no enable, state, event, output or limit
+abbrev pub lookFaultsOf : Facts → ℕ → ℕ → Place → Faults
+lookFaultsOf f array id place =
+    record { part = not (f .known); enable = false; buffer = buffersWrongOf f array id; state = false; many = false; event = false; place = 0; short = false; beyond = outsideOf f place; limit = false; image = false }
+
+-- from the part's number, the lengths of the two lent buffers, and the place
+unfoldable pub lookRefusalOf : ℕ → ℕ → ℕ → Place → Verdict
+lookRefusalOf part array id place = givenOf (lookFaultsOf (factsOf part) array id place)
+
+-- a part of one of the two lent buffers: from where, and how many bytes
+pub data Span : Type 0 where
+  ofArray : ℕ → ℕ → Span
+  ofIdent : ℕ → ℕ → Span
+
+-- where the page of P bytes that holds address a starts
+unfoldable pub pageStartOf : ℕ → ℕ → ℕ
+pageStartOf P a = a / P * P
+
+abbrev pub pageSpanOf : Facts → Place → Span
+pageSpanOf f (Array a) = ofArray (pageStartOf (f .page) (a .0)) (f .page)
+pageSpanOf f Ident = ofIdent 0 (f .page)
+
+-- the empty part is the array's, at its start: document 01 does not say which
+abbrev pub shownOf : Verdict → Span → Span
+shownOf Fine page = page
+shownOf (Refused r) page = ofArray 0 0
+
+-- what is stored has no say in it
+unfoldable pub lookSpanOf : ℕ → ℕ → ℕ → Place → Span
+lookSpanOf part array id place = shownOf (lookRefusalOf part array id place) (pageSpanOf (factsOf part) place)
+
+abbrev pub spanBytes : Span → List ℕ → List ℕ → List ℕ
+spanBytes (ofArray from many) array id = take many (drop from array)
+spanBytes (ofIdent from many) array id = take many (drop from id)
+
+-- "uncopied": where it lies, as block and offset, from where the two buffers lie
+abbrev pub spanAt : Span → ℕ × ℕ → ℕ × ℕ → ℕ × ℕ
+spanAt (ofArray from many) array id = (array .0, from + array .1)
+spanAt (ofIdent from many) array id = (id .0, from + id .1)
+
+-- the bytes that a look shows
+unfoldable pub lookOf : ℕ → List ℕ → List ℕ → Place → List ℕ
+lookOf part array id place = spanBytes (lookSpanOf part (length array) (length id) place) array id
+
+-- the page lies whole in its buffer: so it does wherever a look is not refused
+abbrev pub Room : Facts → ℕ → ℕ → Place → Type 0
+Room f array id (Array a) = (0 < f .page) × (pageStartOf (f .page) (a .0) + f .page ≤ array)
+Room f array id Ident = id ≡ f .page
