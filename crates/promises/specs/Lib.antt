@@ -1,0 +1,10 @@
+pub mod Model
+pub mod Calls
+pub mod Pages
+pub mod Lock
+pub mod Pin
+pub mod Stops
+pub mod Refused
+pub mod Histories
+pub mod Invented
+pub mod Reached
