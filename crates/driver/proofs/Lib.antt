@@ -1,0 +1,2 @@
+pub mod Kit
+pub mod Facts

@@ -1,0 +1,19 @@
+use lib.ListN.{List·getD-eq-default}
+use borrow.Author.Needs.{needs}
+use Rattle.driver.proofs.Kit.{tests}
+use mathlib.Core.Path.{sym, refl}
+use borrow.Author.Tests.{not-true, not-false}
+use Rattle.driver.proofs.peek.Statement.{statement}
+use Rattle.driver.proofs.peek.Tie as tie
+
+shared-slice-read-result : tie.Need-shared-slice-read-result
+shared-slice-read-result c = search needs
+
+returns : tie.Need-returns
+returns c = search needs
+
+returns-2 : tie.Need-returns-2
+returns-2 c = search (needs, List·getD-eq-default)
+
+pub peek-spec : {M : Type 1} → statement M
+peek-spec = tie.close (tie.spec shared-slice-read-result returns returns-2)

@@ -1,0 +1,20 @@
+use borrow.Author.Needs.{needs}
+use Rattle.driver.proofs.Kit.{tests}
+use mathlib.Core.Path.{sym, refl}
+use borrow.Author.Tests.{not-true, not-false}
+use Rattle.driver.specs.Step.{pollOf}
+use Rattle.driver.proofs.poll.Statement.{statement}
+use Rattle.driver.proofs.poll.Tie as tie
+
+add-t5 : tie.Need-add-t5
+add-t5 c = search needs
+
+add-t6 : tie.Need-add-t6
+add-t6 c = search needs
+
+returns : tie.Need-returns
+unfolding pollOf
+returns c = refl
+
+pub poll-spec : {M : Type 1} → statement M
+poll-spec = tie.close (tie.spec add-t5 add-t6 returns)

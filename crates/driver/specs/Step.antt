@@ -1,0 +1,331 @@
+-- Document 01, 'The driver': one step, which sends one event or answers that it is finished.
+-- Assumes nothing.
+use Prim.Native.Nat.{ℕ, _+_, _-_, _*_, _/_, _%_, _^_, _≤_}
+use mathlib.Core.Path.{_≡_}
+use mathlib.Core.Bool.{Bool, true, false, cond, not}
+use mathlib.Core.List.{List}
+use lib.ListN.{length, getD, set}
+use lib.Dec.{eqb, leb, ltb}
+use Rattle.parts.specs.declared.Facts.{Facts}
+use Rattle.parts.specs.declared.Refusal.{Refusal}
+use Rattle.parts.specs.declared.Refusal.the-variants.{BadState, NoSelect, NoData, PollsUsed}
+use Rattle.parts.specs.declared.Verdict.{Verdict}
+use Rattle.parts.specs.declared.Verdict.the-variants.{Fine, Refused as Judged}
+use Rattle.parts.specs.Table.{factsOf}
+use Rattle.driver.specs.Split.{firstOf}
+use Rattle.driver.specs.Request.{fromOf, judgeOf, allowedOf, kOf}
+use Rattle.driver.specs.declared.Place.{Place}
+use Rattle.driver.specs.declared.Place.the-variants.{Array, Ident}
+use Rattle.driver.specs.declared.Request.{Request}
+use Rattle.driver.specs.declared.Slot.{Slot}
+use Rattle.driver.specs.declared.Slot.the-variants.{Select, High, Low, Data, Poll, Turn, Take}
+use Rattle.driver.specs.declared.Failed.{Failed}
+use Rattle.driver.specs.declared.Failed.the-variants.{AtSelect, AtData, AtPolls}
+use Rattle.driver.specs.declared.Phase.{Phase}
+use Rattle.driver.specs.declared.Phase.the-variants.{Ready, Bits, Heard, Rest, Over}
+use Rattle.driver.specs.declared.Counts.{Counts}
+use Rattle.driver.specs.declared.Driver.{Driver}
+use Rattle.driver.specs.declared.Answer.{Answer}
+use Rattle.driver.specs.declared.Answer.the-variants.{Send, Done, Refused}
+use Rattle.driver.specs.declared.Move.{Move}
+use Rattle.driver.specs.declared.Asked.{Asked}
+use Rattle.driver.specs.declared.Wire.{Wire}
+use Rattle.driver.specs.declared.Begun.{Begun}
+
+abbrev pub both : Bool → Bool → Bool
+both true b = b
+both false b = false
+
+-- ---- the bytes on the bus
+
+-- 1010 names the array, 1011 the identification page
+abbrev pub nameOf : Place → ℕ
+nameOf (Array a) = 160
+nameOf (Ident i) = 176
+
+-- the select code with write for bytes from address x on: the enable, or A10, A9, A8 (a location has none: 0)
+unfoldable pub selectAt : ℕ → Bool → ℕ → ℕ → ℕ
+selectAt name wide enable x = name + 2 * cond wide enable (x / 256 % 8)
+
+-- the first address of the part that is under way, or of the read: every select of it has the same seven high bits
+abbrev pub hereOf : Driver → ℕ
+hereOf d = fromOf (d .request .place) + d .counts .seen
+
+-- what the part's bytes are, `value` the data byte
+unfoldable pub wireOf : Driver → ℕ → Wire
+wireOf d value =
+    record {
+      select = selectAt (nameOf (d .request .place)) (factsOf (d .request .part) .wide) (d .request .enable) (hereOf d);
+      high = hereOf d / 256 % 256;
+      low = hereOf d % 256;
+      value = value;
+    }
+
+-- the byte of a slot; "read clocks as 1"
+abbrev pub byteOf : Wire → Slot → ℕ
+byteOf w Select = w .select
+byteOf w High = w .high
+byteOf w Low = w .low
+byteOf w Data = w .value
+byteOf w Poll = w .select
+byteOf w Turn = w .select + 1
+byteOf w Take = 255
+
+-- bit number i of a byte, highest first; past the bits the line is released
+unfoldable pub bitOf : ℕ → ℕ → ℕ
+bitOf byte i = cond (ltb i 8) (byte / 2 ^ (7 - i) % 2) 1
+
+-- the ninth clock: released for the acknowledge; a byte read is acknowledged, the last one not
+abbrev pub ninthOf : Slot → Bool → ℕ
+ninthOf Select last = 1
+ninthOf High last = 1
+ninthOf Low last = 1
+ninthOf Data last = 1
+ninthOf Poll last = 1
+ninthOf Turn last = 1
+ninthOf Take last = cond last 1 0
+
+-- the level told is one bit more of the byte that is read; anything but 0 counts as 1
+unfoldable pub shiftOf : ℕ → ℕ → ℕ
+shiftOf byte level = cond (eqb level 0) (byte % 128 * 2) (byte % 128 * 2 + 1)
+
+-- ---- counts
+
+abbrev pub withByte : Counts → ℕ → Counts
+withByte c byte = record { at = c .at; seen = c .seen; tries = c .tries; polls = c .polls; byte = byte }
+
+-- one data byte more is sent, or got
+abbrev pub withNext : Counts → Counts
+withNext c = record { at = c .at + 1; seen = c .seen; tries = c .tries; polls = c .polls; byte = c .byte }
+
+-- one poll more
+abbrev pub withPoll : Counts → Counts
+withPoll c = record { at = c .at; seen = c .seen; tries = c .tries + 1; polls = c .polls + 1; byte = c .byte }
+
+-- all bytes up to here are seen to be done
+abbrev pub withSeen : Counts → Counts
+withSeen c = record { at = c .at; seen = c .at; tries = 0; polls = c .polls; byte = c .byte }
+
+-- a level told inside a byte matters only in a byte that is read
+abbrev pub takenOf : Slot → Counts → ℕ → Counts
+takenOf Select c level = c
+takenOf High c level = c
+takenOf Low c level = c
+takenOf Data c level = c
+takenOf Poll c level = c
+takenOf Turn c level = c
+takenOf Take c level = withByte c (shiftOf (c .byte) level)
+
+abbrev pub sentOf : Slot → Counts → Counts
+sentOf Select c = c
+sentOf High c = c
+sentOf Low c = c
+sentOf Data c = withNext c
+sentOf Poll c = c
+sentOf Turn c = c
+sentOf Take c = withNext c
+
+-- ---- one step, by phases
+
+-- an event is sent (2 Start, 3 Stop)
+abbrev pub goes : ℕ → Phase → Counts → Move
+goes event phase c = record { answer = Send event; phase = phase; counts = c }
+
+-- the first clock of a byte
+abbrev pub opens : Slot → ℕ → Counts → Move
+opens slot clock c = goes clock (Bits slot 1) (withByte c 0)
+
+-- before a part's Start, or done: all bytes are
+unfoldable pub readyOf : Counts → ℕ → Move
+readyOf c length =
+    cond (eqb (c .at) length) (record { answer = Done (c .polls) (c .seen); phase = Ready; counts = c }) (goes 2 (Bits Select 0) c)
+
+-- inside a byte: its next clock, or the ninth
+unfoldable pub bitsAt : Slot → ℕ → ℕ → ℕ → Counts → Counts → Move
+bitsAt slot b clock ninth taken sent = cond (ltb b 8) (goes clock (Bits slot (b + 1)) taken) (goes ninth (Heard slot) sent)
+
+-- the byte that comes after a byte, where no Start or Stop comes first
+abbrev pub followOf : Slot → Bool → Slot
+followOf Select wide = cond wide High Low
+followOf High wide = Low
+followOf Low wide = Data
+followOf Data wide = Data
+followOf Poll wide = Poll
+followOf Turn wide = Take
+followOf Take wide = Take
+
+-- a select or address byte is acknowledged, or Stop and refusal 9
+unfoldable pub leadAt : Counts → Slot → ℕ → ℕ → Move
+leadAt c next clock level = cond (eqb level 0) (opens next clock c) (goes 3 (Over AtSelect) c)
+
+-- after the address: a read starts again, for its select
+unfoldable pub lowAt : Counts → Bool → ℕ → ℕ → Move
+lowAt c reads clock level = cond (eqb level 0) (cond reads (goes 2 (Bits Turn 0) c) (opens Data clock c)) (goes 3 (Over AtSelect) c)
+
+-- a data byte is acknowledged, or Stop and refusal 10; at the end of the part, Stop
+unfoldable pub dataAt : Counts → ℕ → ℕ → ℕ → Move
+dataAt c end clock level = cond (eqb level 0) (cond (eqb (c .at) end) (goes 3 Rest c) (opens Data clock c)) (goes 3 (Over AtData) c)
+
+-- "A poll is Start and the select code with write"
+unfoldable pub pollOf : Counts → Move
+pollOf c = goes 2 (Bits Poll 0) (withPoll c)
+
+-- "on 0 it ends with Stop, on 1 the next poll starts. After the last poll allowed for a page it sends Stop and refuses"
+unfoldable pub answeredOf : Counts → ℕ → ℕ → Move
+answeredOf c allowed level =
+    cond (eqb level 0) (goes 3 Ready (withSeen c)) (cond (ltb (c .tries) allowed) (pollOf c) (goes 3 (Over AtPolls) c))
+
+-- after a byte that was read: the next, or Stop
+unfoldable pub takeAt : Counts → ℕ → ℕ → Move
+takeAt c length clock = cond (eqb (c .at) length) (goes 3 Ready (withSeen c)) (opens Take clock c)
+
+-- the number of bytes at which the part ends that is under way
+abbrev pub endOf : Driver → ℕ
+endOf d = d .counts .seen + firstOf (factsOf (d .request .part) .page) (hereOf d) (d .request .length - d .counts .seen)
+
+-- the byte's ninth clock was sent, and its level is told; clock: the first clock of the byte that follows
+abbrev pub heardAt : Driver → Slot → ℕ → ℕ → Move
+heardAt d Select level clock = leadAt (d .counts) (followOf Select (factsOf (d .request .part) .wide)) clock level
+heardAt d High level clock = leadAt (d .counts) Low clock level
+heardAt d Low level clock = lowAt (d .counts) (d .request .reads) clock level
+heardAt d Data level clock = dataAt (d .counts) (endOf d) clock level
+heardAt d Poll level clock = answeredOf (d .counts) (allowedOf (d .request)) level
+heardAt d Turn level clock = leadAt (d .counts) Take clock level
+heardAt d Take level clock = takeAt (d .counts) (d .request .length) clock
+
+unfoldable pub heardOf : Driver → Slot → ℕ → ℕ → Move
+heardOf d slot level value = heardAt d slot level (bitOf (byteOf (wireOf d value) (followOf slot (factsOf (d .request .part) .wide))) 0)
+
+unfoldable pub bitsOf : Driver → Slot → ℕ → ℕ → ℕ → Move
+bitsOf d slot b level value =
+    bitsAt slot b (bitOf (byteOf (wireOf d value) slot) b) (ninthOf slot (eqb (d .counts .at + 1) (d .request .length)))
+    (takenOf slot (d .counts) level) (sentOf slot (d .counts))
+
+-- document 01's numbers of these are 9, 10 and 11 (numberOf of crate parts)
+abbrev pub refusalOf : Failed → Refusal
+refusalOf AtSelect = NoSelect
+refusalOf AtData = NoData
+refusalOf AtPolls = PollsUsed
+
+-- "it sends Stop first": the refusal is told after it, and again
+abbrev pub overOf : Failed → Counts → Move
+overOf f c = record { answer = Refused (refusalOf f) (c .polls) (c .seen); phase = Over f; counts = c }
+
+-- a step; value: the data byte at the driver's position
+abbrev pub moveAt : Phase → Driver → ℕ → ℕ → Move
+moveAt Ready d level value = readyOf (d .counts) (d .request .length)
+moveAt (Bits slot b) d level value = bitsOf d slot b level value
+moveAt (Heard slot) d level value = heardOf d slot level value
+moveAt Rest d level value = pollOf (d .counts)
+moveAt (Over f) d level value = overOf f (d .counts)
+
+unfoldable pub stepOf : Driver → ℕ → ℕ → Asked
+stepOf d level value =
+    record {
+      answer = moveAt (d .phase) d level value .answer;
+      driver = record { request = d .request; phase = moveAt (d .phase) d level value .phase; counts = moveAt (d .phase) d level value .counts };
+    }
+
+-- ---- refusal 4, "State out of range ... Driver"
+
+-- how many clocks of a byte are sent
+abbrev pub clocksOf : Phase → ℕ
+clocksOf Ready = 0
+clocksOf (Bits slot b) = b
+clocksOf (Heard slot) = 0
+clocksOf Rest = 0
+clocksOf (Over f) = 0
+
+-- a slot of a write stands in no read, and the other way round
+abbrev pub slotRight : Slot → Bool → Bool
+slotRight Select reads = true
+slotRight High reads = true
+slotRight Low reads = true
+slotRight Data reads = not reads
+slotRight Poll reads = not reads
+slotRight Turn reads = reads
+slotRight Take reads = reads
+
+abbrev pub phaseRight : Phase → Bool → Bool
+phaseRight Ready reads = true
+phaseRight (Bits slot b) reads = slotRight slot reads
+phaseRight (Heard slot) reads = slotRight slot reads
+phaseRight Rest reads = not reads
+phaseRight (Over f) reads = true
+
+-- "data buffer of another length than asked; position above the length; more than 8 bits; polls for a page above the
+-- budget or in all above k times it"; n is the buffer's length
+unfoldable pub countsRight : Counts → ℕ → ℕ → ℕ → ℕ → ℕ → Bool
+countsRight c n length bits allowed most =
+    both (eqb n length)
+    (both (leb (c .at) n)
+    (both (leb (c .seen) (c .at))
+    (both (leb bits 8)
+    (both (leb (c .tries) allowed)
+    (leb (c .polls) most)))))
+
+abbrev pub fine : Verdict → Bool
+fine Fine = true
+fine (Judged r) = false
+
+-- "a request that 1, 2, 7 or 8 would refuse", and the above
+unfoldable pub rangeOf : Driver → ℕ → Bool
+rangeOf d n =
+    both (fine (judgeOf (d .request)))
+    (both (phaseRight (d .phase) (d .request .reads))
+    (countsRight (d .counts) n (d .request .length) (clocksOf (d .phase)) (allowedOf (d .request)) (kOf (d .request) * allowedOf (d .request))))
+
+-- what a driver in range has
+pub record GoodCounts (d : Driver) (n : ℕ) : Type 0 where
+  pub right : phaseRight (d .phase) (d .request .reads) ≡ true
+  pub count : n ≡ d .request .length
+  pub at : d .counts .at ≤ n
+  pub seen : d .counts .seen ≤ d .counts .at
+  pub bits : clocksOf (d .phase) ≤ 8
+  pub tries : d .counts .tries ≤ allowedOf (d .request)
+  pub polls : d .counts .polls ≤ kOf (d .request) * allowedOf (d .request)
+
+-- ---- what `next` answers, and what it leaves in the buffer, on every input
+
+abbrev pub unfitOf : Driver → Asked
+unfitOf d = record { answer = Refused BadState 0 0; driver = d }
+
+unfoldable pub nextOf : Driver → ℕ → List ℕ → Asked
+nextOf d level buffer = cond (rangeOf d (length buffer)) (stepOf d level (getD buffer (d .counts .at) 0)) (unfitOf d)
+
+-- the same, for writes only
+unfoldable pub nextWriteOf : Driver → ℕ → List ℕ → Asked
+nextWriteOf d level bytes = cond (d .request .reads) (unfitOf d) (nextOf d level bytes)
+
+-- the eighth bit of a byte that is read was told
+abbrev pub slotWhole : Slot → ℕ → Bool
+slotWhole Select b = false
+slotWhole High b = false
+slotWhole Low b = false
+slotWhole Data b = false
+slotWhole Poll b = false
+slotWhole Turn b = false
+slotWhole Take b = leb 8 b
+
+abbrev pub wholeOf : Phase → Bool
+wholeOf Ready = false
+wholeOf (Bits slot b) = slotWhole slot b
+wholeOf (Heard slot) = false
+wholeOf Rest = false
+wholeOf (Over f) = false
+
+unfoldable pub keptOf : Driver → ℕ → List ℕ → List ℕ
+keptOf d level buffer =
+    cond (wholeOf (d .phase))
+    (cond (ltb (d .counts .at) (length buffer)) (set buffer (d .counts .at) (shiftOf (d .counts .byte) level)) buffer) buffer
+
+unfoldable pub bufferOf : Driver → ℕ → List ℕ → List ℕ
+bufferOf d level buffer = cond (rangeOf d (length buffer)) (keptOf d level buffer) buffer
+
+-- ---- the driver before its first step; one that was refused answers 4 at each step
+abbrev pub fresh : Request → Driver
+fresh r = record { request = r; phase = Ready; counts = record { at = 0; seen = 0; tries = 0; polls = 0; byte = 0 } }
+
+-- what `begin` answers
+abbrev pub begunOf : Request → Begun
+begunOf r = record { verdict = judgeOf r; driver = fresh r }

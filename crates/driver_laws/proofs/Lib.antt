@@ -1,0 +1,12 @@
+pub mod Split
+pub mod View
+pub mod Inv
+pub mod Grow
+pub mod Bound
+pub mod Trail
+pub mod Got
+pub mod Story
+pub mod Promises
+pub mod Bytes
+pub mod Extra
+pub mod Idle

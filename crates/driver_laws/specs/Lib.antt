@@ -1,0 +1,4 @@
+pub mod Run
+pub mod Plan
+pub mod Where
+pub mod Promises

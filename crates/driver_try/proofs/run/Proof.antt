@@ -1,0 +1,52 @@
+use native.Mathlib.Omega.{arith}
+use lib.ListN.{length-take}
+use borrow.Author.Needs.{needs}
+use Rattle.driver_try.proofs.run.Statement.{statement}
+use Rattle.driver_try.proofs.run.Tie as tie
+use Rattle.driver_try.proofs.run.Reads as reads
+use Rattle.driver_try.proofs.run.Lts as lts
+use Rattle.driver_try.proofs.drive.Reads as drive-reads
+use Rattle.driver_try.proofs.say_first.Reads as say-first-reads
+use Rattle.driver_try.proofs.say_tally.Reads as say-tally-reads
+use Rattle.io.proofs.write_all.Reads as write-all-reads
+
+write-all-requires : tie.Need-write-all-requires
+write-all-requires c κs = search needs
+
+array-borrow-prefix-buffer : tie.Need-array-borrow-prefix-buffer
+array-borrow-prefix-buffer c = search needs
+
+slice-aggregate-drive : tie.Need-slice-aggregate-drive
+slice-aggregate-drive c = simp length-take (omega arith)
+
+drive-requires : tie.Need-drive-requires
+drive-requires c κs = search needs
+
+say-tally-requires : tie.Need-say-tally-requires
+say-tally-requires c κs = search needs
+
+say-first-requires : tie.Need-say-first-requires
+say-first-requires c κs = search needs
+
+slice-aggregate-write-all : tie.Need-slice-aggregate-write-all
+slice-aggregate-write-all c = search needs
+
+write-all-requires-2 : tie.Need-write-all-requires-2
+write-all-requires-2 c κs = search needs
+
+returns : tie.Need-returns
+returns c = search needs
+
+pub run-spec : {M : Type 1} → statement M
+run-spec =
+    tie.close
+    (tie.spec
+    write-all-requires
+    array-borrow-prefix-buffer
+    slice-aggregate-drive
+    drive-requires
+    say-tally-requires
+    say-first-requires
+    slice-aggregate-write-all
+    write-all-requires-2
+    returns)

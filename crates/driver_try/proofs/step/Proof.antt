@@ -1,0 +1,66 @@
+use native.Mathlib.Omega.{arith}
+use lib.ListN.{length-take}
+use borrow.Author.Needs.{needs}
+use Rattle.driver_try.proofs.step.Statement.{statement}
+use Rattle.driver_try.proofs.step.Tie as tie
+use Rattle.driver_try.proofs.step.Reads as reads
+use Rattle.driver_try.proofs.step.Lts as lts
+use Rattle.driver.proofs.next.Reads as next-reads
+use Rattle.driver_try.proofs.ended.Reads as ended-reads
+use Rattle.driver_try.proofs.say.Reads as say-reads
+use Rattle.driver_try.proofs.say_first.Reads as say-first-reads
+use Rattle.driver_try.proofs.wide.Reads as wide-reads
+use Rattle.io.proofs.write_all.Reads as write-all-reads
+
+write-all-requires : tie.Need-write-all-requires
+write-all-requires c κs = search needs
+
+array-borrow-prefix-buffer : tie.Need-array-borrow-prefix-buffer
+array-borrow-prefix-buffer c = search needs
+
+slice-aggregate-next : tie.Need-slice-aggregate-next
+slice-aggregate-next c = simp length-take (omega arith)
+
+next-requires : tie.Need-next-requires
+next-requires c κs = search needs
+
+ended-requires : tie.Need-ended-requires
+ended-requires c κs = search needs
+
+wide-requires : tie.Need-wide-requires
+wide-requires c κs = search needs
+
+say-requires : tie.Need-say-requires
+say-requires c κs = search needs
+
+say-requires-2 : tie.Need-say-requires-2
+say-requires-2 c κs = search needs
+
+say-first-requires : tie.Need-say-first-requires
+say-first-requires c κs = search needs
+
+slice-aggregate-write-all : tie.Need-slice-aggregate-write-all
+slice-aggregate-write-all c = search needs
+
+write-all-requires-2 : tie.Need-write-all-requires-2
+write-all-requires-2 c κs = search needs
+
+returns : tie.Need-returns
+returns c = search needs
+
+pub step-spec : {M : Type 1} → statement M
+step-spec =
+    tie.close
+    (tie.spec
+    write-all-requires
+    array-borrow-prefix-buffer
+    slice-aggregate-next
+    next-requires
+    ended-requires
+    wide-requires
+    say-requires
+    say-requires-2
+    say-first-requires
+    slice-aggregate-write-all
+    write-all-requires-2
+    returns)
