@@ -1,3 +1,2 @@
-pub mod Kit
 pub mod Laws
 pub mod Turns

@@ -1,5 +1,5 @@
 use Rattle.chip.specs.Calls.{buffersRightOf}
-use Rattle.chip.proofs.Kit.{tests}
+use Rattle.parts.proofs.Kit.{tests}
 use borrow.Author.Needs.{needs}
 use Rattle.chip.proofs.buffers_right.Statement.{statement}
 use Rattle.chip.proofs.buffers_right.Tie as tie

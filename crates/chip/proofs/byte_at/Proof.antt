@@ -1,7 +1,7 @@
 use denote.Ref.{now}
 use lib.ListN.{List·getD-eq-default}
 use borrow.Author.Needs.{needs}
-use Rattle.chip.proofs.Kit.{tests}
+use Rattle.parts.proofs.Kit.{tests}
 use mathlib.Core.Path.{sym, refl}
 use borrow.Author.Tests.{not-true, not-false}
 use Rattle.chip.proofs.byte_at.Statement.{statement}

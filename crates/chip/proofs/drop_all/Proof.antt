@@ -1,4 +1,4 @@
-use Rattle.chip.proofs.Kit.{tests}
+use Rattle.parts.proofs.Kit.{tests}
 use mathlib.Core.Path.{sym, refl}
 use borrow.Author.Tests.{not-true, not-false}
 use Rattle.chip.specs.Memory.{noLatch}

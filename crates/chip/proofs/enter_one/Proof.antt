@@ -3,7 +3,7 @@ use native.Mathlib.Omega.{arith}
 use lib.Seq.{set-out}
 use mathlib.Core.Path.{sym}
 use Rattle.chip.specs.Memory.{oneOf}
-use Rattle.chip.proofs.Kit.{tests}
+use Rattle.parts.proofs.Kit.{tests}
 use Rattle.chip.proofs.enter_one.Statement.{statement}
 use Rattle.chip.proofs.enter_one.Tie as tie
 use Rattle.chip.proofs.enter_one.Reads as reads
