@@ -1,7 +1,5 @@
 use borrow.Author.Needs.{needs}
 use Rattle.driver.proofs.Kit.{tests}
-use mathlib.Core.Path.{sym, refl}
-use borrow.Author.Tests.{not-true, not-false}
 use Rattle.driver.specs.Step.{dataAt}
 use Rattle.driver.proofs.after_data.Statement.{statement}
 use Rattle.driver.proofs.after_data.Tie as tie

@@ -1,7 +1,5 @@
 use borrow.Author.Needs.{needs}
 use Rattle.driver.proofs.Kit.{tests}
-use mathlib.Core.Path.{sym, refl}
-use borrow.Author.Tests.{not-true, not-false}
 use Rattle.driver.specs.Step.{leadAt}
 use Rattle.driver.proofs.after_head.Statement.{statement}
 use Rattle.driver.proofs.after_head.Tie as tie
@@ -11,7 +9,7 @@ opened-requires c κs = search needs
 
 returns : tie.Need-returns
 unfolding leadAt
-returns c = simp (tests, c .opened .ensures, c .before .if1 .taken)
+returns c = simp (c .opened .ensures, c .before .if1 .taken)
 
 refused-requires : tie.Need-refused-requires
 refused-requires c κs = search needs

@@ -1,21 +1,19 @@
 use borrow.Author.Needs.{needs}
 use Rattle.driver.proofs.Kit.{tests}
-use mathlib.Core.Path.{sym, refl}
-use borrow.Author.Tests.{not-true, not-false}
 use Rattle.driver.specs.Step.{lowAt}
 use Rattle.driver.proofs.after_low.Statement.{statement}
 use Rattle.driver.proofs.after_low.Tie as tie
 
 returns : tie.Need-returns
 unfolding lowAt
-returns c = simp (tests, c .if2 .taken, c .before .if1 .taken)
+returns c = simp (c .if2 .taken, c .before .if1 .taken)
 
 opened-requires : tie.Need-opened-requires
 opened-requires c κs = search needs
 
 returns-2 : tie.Need-returns-2
 unfolding lowAt
-returns-2 c = simp (tests, c .opened .ensures, c .before .if2 .left, c .before .before .if1 .taken)
+returns-2 c = simp (c .opened .ensures, c .before .if2 .left, c .before .before .if1 .taken)
 
 refused-requires : tie.Need-refused-requires
 refused-requires c κs = search needs

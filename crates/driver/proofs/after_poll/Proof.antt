@@ -1,7 +1,5 @@
 use borrow.Author.Needs.{needs}
 use Rattle.driver.proofs.Kit.{tests}
-use mathlib.Core.Path.{sym, refl}
-use borrow.Author.Tests.{not-true, not-false}
 use Rattle.driver.specs.Step.{answeredOf}
 use Rattle.driver.proofs.after_poll.Statement.{statement}
 use Rattle.driver.proofs.after_poll.Tie as tie
@@ -11,7 +9,7 @@ closed-requires c κs = search needs
 
 returns : tie.Need-returns
 unfolding answeredOf
-returns c = simp (tests, c .closed .ensures, c .before .if1 .taken)
+returns c = simp (c .closed .ensures, c .before .if1 .taken)
 
 poll-requires : tie.Need-poll-requires
 poll-requires c κs = search needs

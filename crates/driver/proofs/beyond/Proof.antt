@@ -1,9 +1,6 @@
 use borrow.Author.Tests.{lt-ltb, le-ltb}
 use Prim.Native.Nat.{_+_}
 use native.Mathlib.Omega.{arith}
-use Rattle.driver.proofs.Kit.{tests}
-use mathlib.Core.Path.{sym, refl}
-use borrow.Author.Tests.{not-true, not-false}
 use Rattle.driver.specs.Request.{beyondAt}
 use Rattle.driver.proofs.beyond.Statement.{statement}
 use Rattle.driver.proofs.beyond.Tie as tie
@@ -22,7 +19,7 @@ returns-3 c = let a = c .before .before .before .args in simp (le-ltb (a .room) 
 
 returns-4 : tie.Need-returns-4
 unfolding beyondAt
-returns-4 c = simp (tests, c .if1 .left)
+returns-4 c = simp (c .if1 .left)
 
 pub beyond-spec : {M : Type 1} → statement M
 beyond-spec = tie.close (tie.spec returns returns-2 returns-3 returns-4)

@@ -1,12 +1,10 @@
-use Prim.Native.Nat.{ℕ, _<_, _*_}
+use Prim.Native.Nat.{_<_}
 use Rattle.driver.specs.declared.Wire.{Wire}
-use mathlib.Core.Path.{_≡_, sym, _∙_, ap, subst}
-use Rattle.driver.proofs.Facts.{reach, first-most, enable-most, name-most, wire-small, most-fits, good-request, good-counts, range-request}
+use mathlib.Core.Path.{sym, subst}
+use Rattle.driver.proofs.Facts.{reach, wire-small}
 use native.Mathlib.Omega.{arith}
 use borrow.Author.Needs.{needs}
-use Rattle.driver.proofs.Kit.{tests}
-use mathlib.Core.Path.{sym, refl}
-use borrow.Author.Tests.{not-true, not-false}
+use mathlib.Core.Path.{sym}
 use Rattle.driver.specs.Step.{bitsOf}
 use Rattle.driver.proofs.bits.Statement.{statement}
 use Rattle.driver.proofs.bits.Tie as tie

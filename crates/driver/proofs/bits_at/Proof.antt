@@ -1,7 +1,5 @@
 use borrow.Author.Needs.{needs}
 use Rattle.driver.proofs.Kit.{tests}
-use mathlib.Core.Path.{sym, refl}
-use borrow.Author.Tests.{not-true, not-false}
 use Rattle.driver.specs.Step.{bitsAt}
 use Rattle.driver.proofs.bits_at.Statement.{statement}
 use Rattle.driver.proofs.bits_at.Tie as tie

@@ -1,7 +1,4 @@
 use borrow.Author.Needs.{needs}
-use Rattle.driver.proofs.Kit.{tests}
-use mathlib.Core.Path.{sym, refl}
-use borrow.Author.Tests.{not-true, not-false}
 use Rattle.driver.proofs.byte.Statement.{statement}
 use Rattle.driver.proofs.byte.Tie as tie
 
@@ -45,7 +42,7 @@ returns-5 : tie.Need-returns-5
 returns-5 c = search needs
 
 returns-6 : tie.Need-returns-6
-returns-6 c = simp (tests, c .before .enum-told6 .given .1)
+returns-6 c = simp (c .before .enum-told6 .given .1)
 
 returns-7 : tie.Need-returns-7
 returns-7 c = search needs

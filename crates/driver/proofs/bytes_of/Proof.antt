@@ -1,11 +1,6 @@
-use Prim.Native.Nat.{ℕ, _<_, _*_}
-use mathlib.Core.Path.{_≡_, sym, _∙_, ap, subst}
-use Rattle.driver.proofs.Facts.{reach, first-most, enable-most, name-most, wire-small, most-fits, good-request, good-counts, range-request}
+use Rattle.driver.proofs.Facts.{reach, enable-most, name-most}
 use native.Mathlib.Omega.{arith}
 use borrow.Author.Needs.{needs}
-use Rattle.driver.proofs.Kit.{tests}
-use mathlib.Core.Path.{sym, refl}
-use borrow.Author.Tests.{not-true, not-false}
 use Rattle.driver.specs.Step.{wireOf}
 use Rattle.driver.proofs.bytes_of.Statement.{statement}
 use Rattle.driver.proofs.bytes_of.Tie as tie
@@ -33,7 +28,7 @@ cast-t12 c = search needs
 
 returns : tie.Need-returns
 unfolding wireOf
-returns c = simp (tests, ← c .select .ensures, ← c .before .name .ensures, ← c .before .before .facts-of .ensures .0, ← c .before .before .before .before .from .ensures)
+returns c = simp (← c .select .ensures, ← c .before .name .ensures, ← c .before .before .facts-of .ensures .0, ← c .before .before .before .before .from .ensures)
 
 pub bytes-of-spec : {M : Type 1} → statement M
 bytes-of-spec =

@@ -1,7 +1,4 @@
 use borrow.Author.Tests.{eq-eqb, ne-eqb, lt-leb, le-leb}
-use Rattle.driver.proofs.Kit.{tests}
-use mathlib.Core.Path.{sym, refl}
-use borrow.Author.Tests.{not-true, not-false}
 use Rattle.driver.specs.Step.{countsRight}
 use Rattle.driver.proofs.counts_right.Statement.{statement}
 use Rattle.driver.proofs.counts_right.Tie as tie

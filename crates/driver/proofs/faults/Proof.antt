@@ -1,7 +1,4 @@
 use borrow.Author.Needs.{needs}
-use Rattle.driver.proofs.Kit.{tests}
-use mathlib.Core.Path.{sym, refl}
-use borrow.Author.Tests.{not-true, not-false}
 use Rattle.driver.specs.Request.{faultsOf}
 use Rattle.driver.proofs.faults.Statement.{statement}
 use Rattle.driver.proofs.faults.Tie as tie
@@ -29,7 +26,7 @@ limit-requires c κs = search needs
 
 returns : tie.Need-returns
 unfolding faultsOf
-returns c = simp (tests, ← c .before .limit .ensures, ← c .before .before .beyond .ensures, ← c .before .before .before .there .ensures, ← c .before .before .before .before .room .ensures, ← c .before .before .before .before .before .from .ensures, ← c .before .before .before .before .before .before .enable-right .ensures, ← c .before .before .before .before .before .before .before .facts-of .ensures .0)
+returns c = simp (← c .before .limit .ensures, ← c .before .before .beyond .ensures, ← c .before .before .before .there .ensures, ← c .before .before .before .before .room .ensures, ← c .before .before .before .before .before .from .ensures, ← c .before .before .before .before .before .before .enable-right .ensures, ← c .before .before .before .before .before .before .before .facts-of .ensures .0)
 
 pub faults-spec : {M : Type 1} → statement M
 faults-spec =

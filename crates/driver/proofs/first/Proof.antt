@@ -2,8 +2,6 @@ use native.Mathlib.Nat.{mod-lt}
 use native.Mathlib.Omega.{arith}
 use borrow.Author.Needs.{needs}
 use Rattle.driver.proofs.Kit.{tests}
-use mathlib.Core.Path.{sym, refl}
-use borrow.Author.Tests.{not-true, not-false}
 use Rattle.driver.specs.Split.{firstOf}
 use Rattle.driver.proofs.first.Statement.{statement}
 use Rattle.driver.proofs.first.Tie as tie

@@ -1,11 +1,9 @@
 use Rattle.driver.specs.declared.Wire.{Wire}
-use Prim.Native.Nat.{ℕ, _<_, _+_, _-_, _*_}
-use Rattle.driver.proofs.Facts.{reach, first-most, enable-most, name-most, wire-small, most-fits, good-request, good-counts, range-request}
-use mathlib.Core.Path.{_≡_, sym, _∙_, ap, subst}
+use Prim.Native.Nat.{_<_}
+use Rattle.driver.proofs.Facts.{wire-small}
+use mathlib.Core.Path.{sym, subst}
 use borrow.Author.Needs.{needs}
-use Rattle.driver.proofs.Kit.{tests}
-use mathlib.Core.Path.{sym, refl}
-use borrow.Author.Tests.{not-true, not-false}
+use mathlib.Core.Path.{sym}
 use Rattle.driver.specs.Step.{heardOf}
 use Rattle.driver.proofs.heard.Statement.{statement}
 use Rattle.driver.proofs.heard.Tie as tie
@@ -30,7 +28,7 @@ heard-at-requires c κs = search needs
 
 returns : tie.Need-returns
 unfolding heardOf
-returns c = simp (tests, c .heard-at .ensures, c .before .bit .ensures, c .before .before .byte .ensures, c .before .before .before .bytes-of .ensures, c .before .before .before .before .follow .ensures, c .before .before .before .before .before .facts-of .ensures .0)
+returns c = simp (c .heard-at .ensures, c .before .bit .ensures, c .before .before .byte .ensures, c .before .before .before .bytes-of .ensures, c .before .before .before .before .follow .ensures, c .before .before .before .before .before .facts-of .ensures .0)
 
 pub heard-spec : {M : Type 1} → statement M
 heard-spec =

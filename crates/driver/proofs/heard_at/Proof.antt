@@ -1,9 +1,6 @@
-use Rattle.driver.proofs.Facts.{reach, first-most, enable-most, name-most, wire-small, most-fits, good-request, good-counts, range-request}
+use Rattle.driver.proofs.Facts.{most-fits}
 use native.Mathlib.Omega.{arith}
 use borrow.Author.Needs.{needs}
-use Rattle.driver.proofs.Kit.{tests}
-use mathlib.Core.Path.{sym, refl}
-use borrow.Author.Tests.{not-true, not-false}
 use Rattle.driver.proofs.heard_at.Statement.{statement}
 use Rattle.driver.proofs.heard_at.Tie as tie
 
@@ -62,25 +59,25 @@ after-take-requires : tie.Need-after-take-requires
 after-take-requires c κs = search needs
 
 returns : tie.Need-returns
-returns c = simp (tests, c .after-head .ensures, c .before .follow .ensures, c .before .before .enum-told .given .1, c .before .before .before .before .facts-of .ensures .0)
+returns c = simp (c .after-head .ensures, c .before .follow .ensures, c .before .before .enum-told .given .1, c .before .before .before .before .facts-of .ensures .0)
 
 returns-2 : tie.Need-returns-2
-returns-2 c = simp (tests, c .after-head2 .ensures, c .before .enum-told2 .given .1, c .before .before .before .facts-of .ensures .0)
+returns-2 c = simp (c .after-head2 .ensures, c .before .enum-told2 .given .1)
 
 returns-3 : tie.Need-returns-3
-returns-3 c = simp (tests, c .after-low .ensures, c .before .enum-told3 .given .1, c .before .before .before .facts-of .ensures .0)
+returns-3 c = simp (c .after-low .ensures, c .before .enum-told3 .given .1)
 
 returns-4 : tie.Need-returns-4
-returns-4 c = simp (tests, c .after-data .ensures, c .before .part-end .ensures, c .before .before .enum-told4 .given .1, c .before .before .before .before .facts-of .ensures .0)
+returns-4 c = simp (c .after-data .ensures, c .before .part-end .ensures, c .before .before .enum-told4 .given .1)
 
 returns-5 : tie.Need-returns-5
-returns-5 c = simp (tests, c .after-poll .ensures, c .before .allowed .ensures, c .before .before .enum-told5 .given .1, c .before .before .before .before .facts-of .ensures .0)
+returns-5 c = simp (c .after-poll .ensures, c .before .allowed .ensures, c .before .before .enum-told5 .given .1)
 
 returns-6 : tie.Need-returns-6
-returns-6 c = simp (tests, c .after-head3 .ensures, c .before .enum-told6 .given .1, c .before .before .before .facts-of .ensures .0)
+returns-6 c = simp (c .after-head3 .ensures, c .before .enum-told6 .given .1)
 
 returns-7 : tie.Need-returns-7
-returns-7 c = simp (tests, c .after-take .ensures, c .before .enum-told7 .given .1, c .before .before .before .facts-of .ensures .0)
+returns-7 c = simp (c .after-take .ensures, c .before .enum-told7 .given .1)
 
 pub heard-at-spec : {M : Type 1} → statement M
 heard-at-spec =

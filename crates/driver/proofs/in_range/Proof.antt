@@ -2,8 +2,7 @@ use mathlib.Core.Path.{_∙_, ap}
 use Rattle.driver.proofs.Facts.{good-request}
 use Rattle.driver.specs.Step.{fine}
 use borrow.Author.Needs.{needs}
-use Rattle.driver.proofs.Kit.{tests}
-use mathlib.Core.Path.{sym, refl}
+use mathlib.Core.Path.{sym}
 use borrow.Author.Tests.{not-true, not-false}
 use Rattle.driver.specs.Step.{rangeOf}
 use Rattle.driver.proofs.in_range.Statement.{statement}
@@ -17,14 +16,14 @@ is-fine-requires c κs = search needs
 
 returns : tie.Need-returns
 unfolding rangeOf
-returns c = simp (tests, not-true (c .before .is-fine .result) (c .if1 .taken), ← c .before .is-fine .ensures, ← c .before .before .judge .ensures)
+returns c = simp (not-true (c .before .is-fine .result) (c .if1 .taken), ← c .before .is-fine .ensures, ← c .before .before .judge .ensures)
 
 phase-right-requires : tie.Need-phase-right-requires
 phase-right-requires c κs = search needs
 
 returns-2 : tie.Need-returns-2
 unfolding rangeOf
-returns-2 c = simp (tests, not-true (c .before .phase-right .result) (c .if2 .taken), ← c .before .phase-right .ensures, not-false (c .before .before .before .before .is-fine .result) (c .before .before .before .if1 .left), ← c .before .before .before .before .is-fine .ensures, ← c .before .before .before .before .before .judge .ensures)
+returns-2 c = simp (not-true (c .before .phase-right .result) (c .if2 .taken), ← c .before .phase-right .ensures, not-false (c .before .before .before .before .is-fine .result) (c .before .before .before .if1 .left), ← c .before .before .before .before .is-fine .ensures, ← c .before .before .before .before .before .judge .ensures)
 
 clocks-requires : tie.Need-clocks-requires
 clocks-requires c κs = search needs

@@ -1,7 +1,4 @@
 use borrow.Author.Needs.{needs}
-use Rattle.driver.proofs.Kit.{tests}
-use mathlib.Core.Path.{sym, refl}
-use borrow.Author.Tests.{not-true, not-false}
 use Rattle.driver.specs.Request.{judgeOf}
 use Rattle.driver.proofs.judge.Statement.{statement}
 use Rattle.driver.proofs.judge.Tie as tie

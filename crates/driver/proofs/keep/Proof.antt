@@ -1,7 +1,5 @@
 use borrow.Author.Needs.{needs}
 use Rattle.driver.proofs.Kit.{tests}
-use mathlib.Core.Path.{sym, refl}
-use borrow.Author.Tests.{not-true, not-false}
 use Rattle.driver.specs.Step.{keptOf}
 use Rattle.driver.proofs.keep.Statement.{statement}
 use Rattle.driver.proofs.keep.Tie as tie
@@ -28,7 +26,7 @@ returns-2 c = simp (tests, c .if2 .left, c .before .if1 .taken, ← c .before .b
 
 returns-3 : tie.Need-returns-3
 unfolding keptOf
-returns-3 c = simp (tests, c .if1 .left, ← c .before .whole .ensures)
+returns-3 c = simp (c .if1 .left, ← c .before .whole .ensures)
 
 pub keep-spec : {M : Type 1} → statement M
 keep-spec =

@@ -1,13 +1,11 @@
 use Rattle.driver.proofs.Kit.{tests}
-use mathlib.Core.Path.{sym, refl}
-use borrow.Author.Tests.{not-true, not-false}
 use Rattle.driver.specs.Request.{limitOf}
 use Rattle.driver.proofs.limit.Statement.{statement}
 use Rattle.driver.proofs.limit.Tie as tie
 
 returns : tie.Need-returns
 unfolding limitOf
-returns c = simp (tests, c .if1 .taken)
+returns c = simp (c .if1 .taken)
 
 returns-2 : tie.Need-returns-2
 unfolding limitOf

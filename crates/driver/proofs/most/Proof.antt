@@ -1,11 +1,8 @@
-use Prim.Native.Nat.{ℕ, _<_, _+_, _-_, _*_}
-use mathlib.Core.Path.{_≡_, sym, _∙_, ap, subst}
-use Rattle.driver.proofs.Facts.{reach, first-most, enable-most, name-most, wire-small, most-fits, good-request, good-counts, range-request}
+use Prim.Native.Nat.{_*_}
+use mathlib.Core.Path.{_≡_}
+use Rattle.driver.proofs.Facts.{reach, most-fits}
 use native.Mathlib.Omega.{arith}
 use borrow.Author.Needs.{needs}
-use Rattle.driver.proofs.Kit.{tests}
-use mathlib.Core.Path.{sym, refl}
-use borrow.Author.Tests.{not-true, not-false}
 use Rattle.driver.specs.Request.{kOf, allowedOf}
 use Rattle.driver.proofs.most.Statement.{statement}
 use Rattle.driver.proofs.most.Tie as tie

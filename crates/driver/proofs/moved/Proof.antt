@@ -1,9 +1,6 @@
-use Rattle.driver.proofs.Facts.{reach, first-most, enable-most, name-most, wire-small, most-fits, good-request, good-counts, range-request}
+use Rattle.driver.proofs.Facts.{most-fits}
 use native.Mathlib.Omega.{arith}
 use borrow.Author.Needs.{needs}
-use Rattle.driver.proofs.Kit.{tests}
-use mathlib.Core.Path.{sym, refl}
-use borrow.Author.Tests.{not-true, not-false}
 use Rattle.driver.proofs.moved.Statement.{statement}
 use Rattle.driver.proofs.moved.Tie as tie
 
@@ -38,19 +35,19 @@ over-requires : tie.Need-over-requires
 over-requires c κs = search needs
 
 returns : tie.Need-returns
-returns c = simp (tests, c .ready .ensures, c .before .enum-told .given .1)
+returns c = simp (c .ready .ensures, c .before .enum-told .given .1)
 
 returns-2 : tie.Need-returns-2
-returns-2 c = simp (tests, c .bits .ensures, c .before .before .p .given .1)
+returns-2 c = simp (c .bits .ensures, c .before .before .p .given .1)
 
 returns-3 : tie.Need-returns-3
-returns-3 c = simp (tests, c .heard .ensures, c .before .before .p2 .given .1)
+returns-3 c = simp (c .heard .ensures, c .before .before .p2 .given .1)
 
 returns-4 : tie.Need-returns-4
-returns-4 c = simp (tests, c .poll .ensures, c .before .enum-told2 .given .1)
+returns-4 c = simp (c .poll .ensures, c .before .enum-told2 .given .1)
 
 returns-5 : tie.Need-returns-5
-returns-5 c = simp (tests, c .over .ensures, c .before .before .p3 .given .1)
+returns-5 c = simp (c .over .ensures, c .before .before .p3 .given .1)
 
 pub moved-spec : {M : Type 1} → statement M
 moved-spec =

@@ -1,7 +1,4 @@
 use borrow.Author.Needs.{needs}
-use Rattle.driver.proofs.Kit.{tests}
-use mathlib.Core.Path.{sym, refl}
-use borrow.Author.Tests.{not-true, not-false}
 use Rattle.driver.proofs.over.Statement.{statement}
 use Rattle.driver.proofs.over.Tie as tie
 
@@ -9,7 +6,7 @@ refusal-requires : tie.Need-refusal-requires
 refusal-requires c κs = search needs
 
 returns : tie.Need-returns
-returns c = simp (tests, ← c .refusal .ensures)
+returns c = simp (← c .refusal .ensures)
 
 pub over-spec : {M : Type 1} → statement M
 over-spec = tie.close (tie.spec refusal-requires returns)

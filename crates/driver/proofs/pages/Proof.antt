@@ -3,15 +3,13 @@ use native.Mathlib.Nat.{mod-le, div-le-self}
 use native.Mathlib.Omega.{arith}
 use borrow.Author.Needs.{needs}
 use Rattle.driver.proofs.Kit.{tests}
-use mathlib.Core.Path.{sym, refl}
-use borrow.Author.Tests.{not-true, not-false}
 use Rattle.driver.specs.Split.{pagesOf}
 use Rattle.driver.proofs.pages.Statement.{statement}
 use Rattle.driver.proofs.pages.Tie as tie
 
 returns : tie.Need-returns
 unfolding pagesOf
-returns c = simp (tests, c .if1 .taken)
+returns c = simp (c .if1 .taken)
 
 rem-result : tie.Need-rem-result
 rem-result c = search needs

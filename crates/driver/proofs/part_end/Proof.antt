@@ -1,11 +1,8 @@
-use Prim.Native.Nat.{ℕ, _<_, _+_, _-_, _*_}
-use Rattle.driver.proofs.Facts.{reach, first-most, enable-most, name-most, wire-small, most-fits, good-request, good-counts, range-request}
-use mathlib.Core.Path.{_≡_, sym, _∙_, ap, subst}
+use Prim.Native.Nat.{ℕ, _+_, _-_}
+use Rattle.driver.proofs.Facts.{reach, first-most}
+use mathlib.Core.Path.{ap}
 use native.Mathlib.Omega.{arith}
 use borrow.Author.Needs.{needs}
-use Rattle.driver.proofs.Kit.{tests}
-use mathlib.Core.Path.{sym, refl}
-use borrow.Author.Tests.{not-true, not-false}
 use Rattle.driver.proofs.part_end.Statement.{statement}
 use Rattle.driver.proofs.part_end.Tie as tie
 

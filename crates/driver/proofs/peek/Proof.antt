@@ -1,8 +1,5 @@
 use lib.ListN.{List·getD-eq-default}
 use borrow.Author.Needs.{needs}
-use Rattle.driver.proofs.Kit.{tests}
-use mathlib.Core.Path.{sym, refl}
-use borrow.Author.Tests.{not-true, not-false}
 use Rattle.driver.proofs.peek.Statement.{statement}
 use Rattle.driver.proofs.peek.Tie as tie
 

@@ -1,7 +1,4 @@
 use borrow.Author.Needs.{needs}
-use Rattle.driver.proofs.Kit.{tests}
-use mathlib.Core.Path.{sym, refl}
-use borrow.Author.Tests.{not-true, not-false}
 use Rattle.driver.proofs.phase_right.Statement.{statement}
 use Rattle.driver.proofs.phase_right.Tie as tie
 
@@ -30,10 +27,10 @@ returns : tie.Need-returns
 returns c = search needs
 
 returns-2 : tie.Need-returns-2
-returns-2 c = simp (tests, ← c .slot-right .ensures, c .before .before .p .given .1)
+returns-2 c = simp (← c .slot-right .ensures, c .before .before .p .given .1)
 
 returns-3 : tie.Need-returns-3
-returns-3 c = simp (tests, ← c .slot-right2 .ensures, c .before .before .p2 .given .1)
+returns-3 c = simp (← c .slot-right2 .ensures, c .before .before .p2 .given .1)
 
 returns-4 : tie.Need-returns-4
 returns-4 c = search needs

@@ -1,7 +1,5 @@
 use borrow.Author.Needs.{needs}
-use Rattle.driver.proofs.Kit.{tests}
-use mathlib.Core.Path.{sym, refl}
-use borrow.Author.Tests.{not-true, not-false}
+use mathlib.Core.Path.{refl}
 use Rattle.driver.specs.Step.{pollOf}
 use Rattle.driver.proofs.poll.Statement.{statement}
 use Rattle.driver.proofs.poll.Tie as tie

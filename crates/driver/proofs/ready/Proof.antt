@@ -1,6 +1,4 @@
 use Rattle.driver.proofs.Kit.{tests}
-use mathlib.Core.Path.{sym, refl}
-use borrow.Author.Tests.{not-true, not-false}
 use Rattle.driver.specs.Step.{readyOf}
 use Rattle.driver.proofs.ready.Statement.{statement}
 use Rattle.driver.proofs.ready.Tie as tie

@@ -1,7 +1,4 @@
 use borrow.Author.Needs.{needs}
-use Rattle.driver.proofs.Kit.{tests}
-use mathlib.Core.Path.{sym, refl}
-use borrow.Author.Tests.{not-true, not-false}
 use Rattle.driver.proofs.room.Statement.{statement}
 use Rattle.driver.proofs.room.Tie as tie
 
@@ -18,7 +15,7 @@ returns : tie.Need-returns
 returns c = search needs
 
 returns-2 : tie.Need-returns-2
-returns-2 c = simp (tests, ← c .id-size .ensures, c .before .enum-told2 .given .1)
+returns-2 c = simp (← c .id-size .ensures, c .before .enum-told2 .given .1)
 
 pub room-spec : {M : Type 1} → statement M
 room-spec = tie.close (tie.spec enum-told enum-told-2 id-size-requires returns returns-2)

@@ -1,7 +1,4 @@
 use borrow.Author.Needs.{needs}
-use Rattle.driver.proofs.Kit.{tests}
-use mathlib.Core.Path.{sym, refl}
-use borrow.Author.Tests.{not-true, not-false}
 use Rattle.driver.specs.Step.{selectAt}
 use Rattle.driver.proofs.select.Statement.{statement}
 use Rattle.driver.proofs.select.Tie as tie
@@ -14,7 +11,7 @@ add-result c = search needs
 
 returns : tie.Need-returns
 unfolding selectAt
-returns c = simp (tests, c .if1 .taken)
+returns c = simp (c .if1 .taken)
 
 cast-result : tie.Need-cast-result
 cast-result c = search needs
@@ -27,7 +24,7 @@ add-result-2 c = search needs
 
 returns-2 : tie.Need-returns-2
 unfolding selectAt
-returns-2 c = simp (tests, c .if1 .left)
+returns-2 c = simp (c .if1 .left)
 
 pub select-spec : {M : Type 1} → statement M
 select-spec =

@@ -1,7 +1,4 @@
 use borrow.Author.Needs.{needs}
-use Rattle.driver.proofs.Kit.{tests}
-use mathlib.Core.Path.{sym, refl}
-use borrow.Author.Tests.{not-true, not-false}
 use Rattle.driver.proofs.sent.Statement.{statement}
 use Rattle.driver.proofs.sent.Tie as tie
 
@@ -42,7 +39,7 @@ returns-3 : tie.Need-returns-3
 returns-3 c = search needs
 
 returns-4 : tie.Need-returns-4
-returns-4 c = simp (tests, c .with-next .ensures, c .before .enum-told4 .given .1)
+returns-4 c = simp (c .with-next .ensures, c .before .enum-told4 .given .1)
 
 returns-5 : tie.Need-returns-5
 returns-5 c = search needs
@@ -51,7 +48,7 @@ returns-6 : tie.Need-returns-6
 returns-6 c = search needs
 
 returns-7 : tie.Need-returns-7
-returns-7 c = simp (tests, c .with-next2 .ensures, c .before .enum-told7 .given .1)
+returns-7 c = simp (c .with-next2 .ensures, c .before .enum-told7 .given .1)
 
 pub sent-spec : {M : Type 1} → statement M
 sent-spec =

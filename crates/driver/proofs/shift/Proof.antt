@@ -1,7 +1,5 @@
 use borrow.Author.Needs.{needs}
 use Rattle.driver.proofs.Kit.{tests}
-use mathlib.Core.Path.{sym, refl}
-use borrow.Author.Tests.{not-true, not-false}
 use Rattle.driver.specs.Step.{shiftOf}
 use Rattle.driver.proofs.shift.Statement.{statement}
 use Rattle.driver.proofs.shift.Tie as tie
@@ -11,7 +9,7 @@ mul-result c = search needs
 
 returns : tie.Need-returns
 unfolding shiftOf
-returns c = simp (tests, c .if1 .taken)
+returns c = simp (c .if1 .taken)
 
 mul-result-2 : tie.Need-mul-result-2
 mul-result-2 c = search needs

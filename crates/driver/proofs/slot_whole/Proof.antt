@@ -1,7 +1,4 @@
 use borrow.Author.Needs.{needs}
-use Rattle.driver.proofs.Kit.{tests}
-use mathlib.Core.Path.{sym, refl}
-use borrow.Author.Tests.{not-true, not-false}
 use Rattle.driver.proofs.slot_whole.Statement.{statement}
 use Rattle.driver.proofs.slot_whole.Tie as tie
 
@@ -45,7 +42,7 @@ returns-6 : tie.Need-returns-6
 returns-6 c = search needs
 
 returns-7 : tie.Need-returns-7
-returns-7 c = simp (tests, c .enum-told7 .given .1)
+returns-7 c = simp (c .enum-told7 .given .1)
 
 pub slot-whole-spec : {M : Type 1} → statement M
 slot-whole-spec =

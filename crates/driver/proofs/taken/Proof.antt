@@ -1,7 +1,4 @@
 use borrow.Author.Needs.{needs}
-use Rattle.driver.proofs.Kit.{tests}
-use mathlib.Core.Path.{sym, refl}
-use borrow.Author.Tests.{not-true, not-false}
 use Rattle.driver.proofs.taken.Statement.{statement}
 use Rattle.driver.proofs.taken.Tie as tie
 
@@ -51,7 +48,7 @@ returns-6 : tie.Need-returns-6
 returns-6 c = search needs
 
 returns-7 : tie.Need-returns-7
-returns-7 c = simp (tests, c .with-byte .ensures, ← c .before .shift .ensures, c .before .before .enum-told7 .given .1)
+returns-7 c = simp (c .with-byte .ensures, ← c .before .shift .ensures, c .before .before .enum-told7 .given .1)
 
 pub taken-spec : {M : Type 1} → statement M
 taken-spec =

@@ -1,7 +1,4 @@
 use borrow.Author.Needs.{needs}
-use Rattle.driver.proofs.Kit.{tests}
-use mathlib.Core.Path.{sym, refl}
-use borrow.Author.Tests.{not-true, not-false}
 use Rattle.driver.proofs.whole.Statement.{statement}
 use Rattle.driver.proofs.whole.Tie as tie
 
@@ -27,7 +24,7 @@ returns : tie.Need-returns
 returns c = search needs
 
 returns-2 : tie.Need-returns-2
-returns-2 c = simp (tests, ← c .slot-whole .ensures, c .before .before .p .given .1)
+returns-2 c = simp (← c .slot-whole .ensures, c .before .before .p .given .1)
 
 returns-3 : tie.Need-returns-3
 returns-3 c = search needs
