@@ -1,0 +1,151 @@
+-- Laws that the proofs of the code share: copies one after another, and what a call that is not refused has.
+-- Assumes nothing.
+use Prim.Native.Nat.{ℕ, _+_, _-_, _≤_, _<_}
+use mathlib.Core.Path.{_≡_, _∙_, refl}
+use mathlib.Core.Bool.{Bool, true, false, cond}
+use mathlib.Core.List.{List, _++_, append-nil}
+use native.Mathlib.Numerals.{add-one}
+use native.Mathlib.Nat.{zero-add, add-sub-cancel-left}
+use native.Mathlib.Omega.{arith}
+use lib.ListN.{length, getD, take, drop, set, length-append, length-take, length-drop, drop-of-length-le}
+use lib.Seq.{paste, paste-suc, take-all, take-at, drop-append-add, drop-drop}
+use lib.Dec.{ltb, eqb}
+use borrow.Author.Tests.{eqb-true, ltb-false, not-false}
+use Rattle.parts.specs.declared.Facts.{Facts}
+use Rattle.parts.specs.declared.Refusal.{Refusal}
+use Rattle.parts.specs.declared.Verdict.{Verdict}
+use Rattle.parts.specs.declared.Verdict.the-variants.{Fine, Refused}
+use Rattle.parts.specs.Table.{factsOf, idSizeOf, enableRightOf}
+use Rattle.parts.proofs.Laws.{faultless}
+use Rattle.state.specs.declared.Chip.{Chip}
+use Rattle.state.specs.Range.{inRangeOf}
+use Rattle.chip.specs.Memory.{mem}
+use Rattle.chip.proofs.Laws.{buffers-are}
+use Rattle.image.specs.Layout.{headOf, imageOf, imageLengthOf, putOf, partIn, storedIn, markRightOf, lockByteRightOf, formedOf}
+use Rattle.image.specs.Calls.{saveVerdictOf, judgedOf, loadVerdictOf}
+
+-- ---- a copy
+
+pub copy-step : (o o₀ : List ℕ) (at : ℕ) (s : List ℕ) (i : ℕ) → o ≡ paste o₀ at s i → at + i < length o₀ → i < length s
+    → set o (at + i) (getD s i 0) ≡ paste o₀ at s (i + 1)
+copy-step o o₀ at s i e h k = rw (add-one, e) (paste-suc o₀ at s i 0 h k)
+
+pub copy-end : (o o₀ : List ℕ) (at : ℕ) (s : List ℕ) (i : ℕ) → o ≡ paste o₀ at s i → i ≤ length s → length s ≤ i → o ≡ putOf o₀ at s
+unfolding putOf
+copy-end o o₀ at s i e h k =
+    let same : i ≡ length s = omega arith in
+    e ∙ rw (take-all i s k, same)
+
+-- a copy from the start on
+put-first : (s o : List ℕ) → putOf o 0 s ≡ s ++ drop (length s) o
+unfolding putOf
+put-first s o = rw zero-add refl
+
+drop-past : (a o : List ℕ) (n m : ℕ) → length a ≡ n → drop (n + m) (a ++ drop n o) ≡ drop (n + m) o
+drop-past a o n m e = rw (← e, drop-append-add, drop-drop)
+
+-- a copy that goes on where the one before it ended
+put-next : (a s o : List ℕ) (n : ℕ) → length a ≡ n → putOf (a ++ drop n o) n s ≡ (a ++ s) ++ drop (n + length s) o
+unfolding putOf
+put-next a s o n e = rw (take-at a (drop n o) n e, drop-past a o n (length s) e)
+
+-- a copy over the whole of a buffer
+pub put-whole : (o s : List ℕ) → length o ≡ length s → putOf o 0 s ≡ s
+put-whole o s e =
+    let short : length o ≤ length s = omega arith in
+    put-first s o ∙ rw (drop-of-length-le o short, append-nil)
+
+-- ---- the three copies of a save
+
+module _ (part : ℕ) (lock : Bool) (h a d o p q r : List ℕ)
+    (hh : h ≡ headOf part lock)
+    (hp : p ≡ putOf o 0 h)
+    (hq : q ≡ putOf p 7 a)
+    (hr : r ≡ putOf q (7 + length a) d) where
+  pub written : r ≡ imageOf part lock (mem a d) ++ drop (7 + length a + length d) o
+  unfolding imageOf
+  written =
+      let one : p ≡ headOf part lock ++ drop 7 o = hp ∙ rw hh (put-first (headOf part lock) o) in
+      let two : q ≡ (headOf part lock ++ a) ++ drop (7 + length a) o = hq ∙ rw one (put-next (headOf part lock) a o 7 refl) in
+      hr ∙ rw two (put-next (headOf part lock ++ a) d o (7 + length a) (length-append (headOf part lock) a))
+
+-- ---- the two copies of a load
+
+pub part-cells : (f : Facts) (l s : List ℕ) (n : ℕ) → n ≡ f .size → length s ≡ n → 7 + n ≤ length l
+    → putOf s 0 (take (7 + n - 7) (drop 7 l)) ≡ storedIn f l .cells
+unfolding storedIn
+part-cells f l s n e h k =
+    let long : length s ≡ length (take n (drop 7 l)) = simp (length-take, length-drop) (omega arith) in
+    rw (add-sub-cancel-left, ← e) (put-whole s (take n (drop 7 l)) long)
+
+pub part-ident : (f : Facts) (l s : List ℕ) (n : ℕ) → n ≡ f .size → length l ≡ 7 + n + length s
+    → putOf s 0 (take (length l - (7 + n)) (drop (7 + n) l)) ≡ storedIn f l .ident
+unfolding storedIn
+part-ident f l s n e h =
+    let short : length (drop (7 + n) l) ≤ length l - (7 + n) = simp length-drop (omega arith) in
+    let long : length s ≡ length (drop (7 + n) l) = simp length-drop (omega arith) in
+    rw (take-all (length l - (7 + n)) (drop (7 + n) l) short, ← e) (put-whole s (drop (7 + n) l) long)
+
+-- ---- what a call that is not refused has
+
+pub both : (a b : Bool) → cond a b false ≡ true → (a ≡ true) × (b ≡ true)
+both true b h = (refl, h)
+both false b h = (h, cc)
+
+passed : (b : Bool) (r : Refusal) (v : Verdict) → cond b (Refused r) v ≡ Fine → (b ≡ false) × (v ≡ Fine)
+passed true r v h = let z : _≡_ {A = ℕ} 0 1 = cc in absurd (omega arith)
+passed false r v h = (refl, h)
+
+pub id-most : (f : Facts) → f .page ≤ 64 → idSizeOf f ≤ 64
+unfolding idSizeOf
+id-most f h = most (f .ident) (f .page) h
+  where
+    most : (b : Bool) (p : ℕ) → p ≤ 64 → cond b p 0 ≤ 64
+    most true p k = k
+    most false p k = omega arith
+
+pub record CanSave (part : ℕ) (c : Chip) (n d room : ℕ) : Type 0 where
+  pub known : factsOf part .known ≡ true
+  pub cells : n ≡ factsOf part .size
+  pub ident : d ≡ idSizeOf (factsOf part)
+  pub ranged : inRangeOf (factsOf part) c ≡ true
+  pub fits : imageLengthOf (factsOf part) ≤ room
+
+pub save-fine : (part : ℕ) (c : Chip) (n d room : ℕ) → saveVerdictOf part c n d room ≡ Fine → CanSave part c n d room
+unfolding saveVerdictOf
+save-fine part c n d room h =
+    let l = faultless _ h in
+    let b = buffers-are (factsOf part) n d (not-false _ (l .buffer)) in
+    record { known = not-false _ (l .part); cells = b .0; ident = b .1; ranged = not-false _ (l .state); fits = ltb-false room (imageLengthOf (factsOf part)) (l .short) }
+
+pub save-room : (part : ℕ) (c : Chip) (n d room : ℕ) → saveVerdictOf part c n d room ≡ Fine
+    → (imageLengthOf (factsOf part) ≡ 7 + n + d) × (7 + n + d ≤ room)
+unfolding imageLengthOf
+save-room part c n d room h =
+    let k = save-fine part c n d room h in
+    (omega (arith, k .cells, k .ident), omega (arith, k .cells, k .ident, k .fits))
+
+pub record CanLoad (l : List ℕ) (enable n d : ℕ) : Type 0 where
+  pub known : factsOf (partIn l) .known ≡ true
+  pub enabled : enableRightOf (factsOf (partIn l)) enable ≡ true
+  pub cells : n ≡ factsOf (partIn l) .size
+  pub ident : d ≡ idSizeOf (factsOf (partIn l))
+  pub long : length l ≡ imageLengthOf (factsOf (partIn l))
+  pub marked : markRightOf l ≡ true
+  pub lock : lockByteRightOf (factsOf (partIn l)) (getD l 6 0) ≡ true
+
+pub load-fine : (l : List ℕ) (enable n d : ℕ) → loadVerdictOf l enable n d ≡ Fine → CanLoad l enable n d
+unfolding loadVerdictOf judgedOf formedOf
+load-fine l enable n d h =
+    let f = faultless _ (passed (ltb (length l) 6) _ _ h .1) in
+    let b = buffers-are (factsOf (partIn l)) n d (not-false _ (f .buffer)) in
+    let w = both (eqb (length l) (imageLengthOf (factsOf (partIn l)))) (cond (markRightOf l) (lockByteRightOf (factsOf (partIn l)) (getD l 6 0)) false) (not-false _ (f .image)) in
+    let t = both (markRightOf l) (lockByteRightOf (factsOf (partIn l)) (getD l 6 0)) (w .1) in
+    record { known = not-false _ (f .part); enabled = not-false _ (f .enable); cells = b .0; ident = b .1; long = eqb-true (length l) (imageLengthOf (factsOf (partIn l))) (w .0); marked = t .0; lock = t .1 }
+
+pub load-room : (l : List ℕ) (enable n d part : ℕ) → loadVerdictOf l enable n d ≡ Fine → part ≡ partIn l
+    → (n ≡ factsOf part .size) × (length l ≡ 7 + n + d)
+unfolding imageLengthOf
+load-room l enable n d part h e =
+    let k = load-fine l enable n d h in
+    (rw e (k .cells), omega (arith, k .cells, k .ident, k .long))

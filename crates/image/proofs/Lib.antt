@@ -1,0 +1,5 @@
+pub mod Kit
+pub mod Laws
+pub mod Form
+pub mod Kept
+pub mod Idle

@@ -1,0 +1,275 @@
+// The stored image of a chip: saved into a lent buffer, loaded from one. Nobody has to check first.
+ghost use mathlib.Core.Path.{_≡_};
+ghost use Prim.Native.Nat.{_+_, _≤_};
+ghost use lib.ListN.{length, getD, drop};
+ghost use mathlib.Core.List.{_++_};
+ghost use Rattle.parts.specs.Table.{factsOf};
+ghost use Rattle.chip.specs.Memory.{mem};
+ghost use Rattle.chip.specs.Calls.{buffersRightOf};
+ghost use Rattle.image.specs.Layout.{lockByteOf, headOf, imageOf, imageLengthOf, putOf, partIn, lockIn, storedIn, markRightOf, lockByteRightOf, formedOf};
+ghost use Rattle.image.specs.Calls.{saveVerdictOf, judgedOf, loadVerdictOf, saving, loading};
+use parts::Faults;
+use parts::Refusal;
+use parts::Verdict;
+use state::Chip;
+
+pub struct Saved {
+    pub verdict: Verdict,
+    // Bytes of the image; 0 where the call is refused.
+    pub length: usize,
+}
+
+pub struct Loaded {
+    pub verdict: Verdict,
+    pub part: u8,
+    pub chip: Chip,
+}
+
+// ---- shared by both
+
+fn copy_in(out: &mut [u8], at: usize, bytes: &[u8])
+    requires { ⌜ at + length (now bytes) ≤ length (now out) ⌝ }
+    ensures { λ _. ⌜ now (out .exit) ≡ putOf (now (out .entry)) at (now (bytes .entry)) ⌝ }
+{
+    let mut i = 0;
+    while i < bytes.len() {
+        out[at + i] = bytes[i];
+        i += 1;
+    }
+}
+
+fn image_length(part: u8) -> usize
+    ensures { λ r. ⌜ r ≡ imageLengthOf (factsOf part) ⌝ }
+{
+    let f = parts::facts_of(part);
+    let size = f.size;
+    let own = parts::id_size(f);
+    7 + size + own
+}
+
+fn lent_right(part: u8, n: usize, d: usize) -> bool
+    ensures { λ r. ⌜ r ≡ buffersRightOf (factsOf part) n d ⌝ }
+{
+    let f = parts::facts_of(part);
+    let size = f.size;
+    let own = parts::id_size(f);
+    if n == size {
+        return d == own;
+    }
+    false
+}
+
+// ---- saving
+
+fn lock_byte(lock: bool) -> u8
+    ensures { λ r. ⌜ r ≡ lockByteOf lock ⌝ }
+{
+    if lock { 1 } else { 0 }
+}
+
+fn head(part: u8, lock: bool) -> [u8; 7]
+    ensures { λ r. ⌜ r ≡ headOf part lock ⌝ }
+{
+    let flag = lock_byte(lock);
+    [0x45, 0x50, 0x52, 0x00, 0x01, part, flag]
+}
+
+fn save_verdict(part: u8, chip: Chip, n: usize, d: usize, room: usize) -> Verdict
+    ensures { λ r. ⌜ r ≡ saveVerdictOf part chip n d room ⌝ }
+{
+    let f = parts::facts_of(part);
+    let known = f.known;
+    let lent = lent_right(part, n, d);
+    let ranged = state::in_range(part, chip);
+    let need = image_length(part);
+    parts::given(Faults {
+        part: !known,
+        enable: false,
+        buffer: !lent,
+        state: !ranged,
+        many: false,
+        event: false,
+        place: 0,
+        short: room < need,
+        beyond: false,
+        limit: false,
+        image: false,
+    })
+}
+
+fn write(part: u8, lock: bool, array: &[u8], id: &[u8], out: &mut [u8])
+    requires { ⌜ 7 + length (now array) + length (now id) ≤ length (now out) ⌝ }
+    ensures { λ _. ⌜ now (out .exit) ≡ imageOf part lock (mem (now (array .entry)) (now (id .entry))) ++ drop (7 + length (now (array .entry)) + length (now (id .entry))) (now (out .entry)) ⌝ }
+{
+    let first = head(part, lock);
+    let n = array.len();
+    copy_in(out, 0, &first);
+    copy_in(out, 7, array);
+    copy_in(out, 7 + n, id);
+}
+
+// The chip as it stands: what is latched or under way is not saved.
+pub fn save(part: u8, chip: Chip, array: &[u8], id: &[u8], out: &mut [u8]) -> Saved
+    ensures answer { λ r. ⌜ r ≡ saving part chip (mem (now (array .entry)) (now (id .entry))) (now (out .entry)) .answer ⌝ }
+    ensures bytes { λ _. ⌜ now (out .exit) ≡ saving part chip (mem (now (array .entry)) (now (id .entry))) (now (out .entry)) .out ⌝ }
+{
+    let verdict = save_verdict(part, chip, array.len(), id.len(), out.len());
+    let line = chip.line;
+    let core = line.core;
+    let lock = core.locked;
+    match verdict {
+        Verdict::Fine => {
+            write(part, lock, array, id, out);
+            Saved {
+                verdict: Verdict::Fine,
+                length: image_length(part),
+            }
+        }
+        Verdict::Refused(r) => Saved {
+            verdict: Verdict::Refused(r),
+            length: 0,
+        },
+    }
+}
+
+// ---- loading
+
+fn byte_at(s: &[u8], at: usize) -> u8
+    ensures { λ r. ⌜ r ≡ getD (now (s .entry)) at 0 ⌝ }
+{
+    if at < s.len() {
+        return s[at];
+    }
+    0
+}
+
+// The part byte; 0 where the image is too short to hold one.
+fn part_in(image: &[u8]) -> u8
+    ensures { λ r. ⌜ r ≡ partIn (now (image .entry)) ⌝ }
+{
+    byte_at(image, 5)
+}
+
+fn lock_in(image: &[u8]) -> bool
+    ensures { λ r. ⌜ r ≡ lockIn (now (image .entry)) ⌝ }
+{
+    byte_at(image, 6) == 1
+}
+
+// The mark `EPR` and the version 0001h.
+fn mark_right(image: &[u8]) -> bool
+    ensures { λ r. ⌜ r ≡ markRightOf (now (image .entry)) ⌝ }
+{
+    if byte_at(image, 0) != 0x45 {
+        return false;
+    }
+    if byte_at(image, 1) != 0x50 {
+        return false;
+    }
+    if byte_at(image, 2) != 0x52 {
+        return false;
+    }
+    if byte_at(image, 3) != 0x00 {
+        return false;
+    }
+    byte_at(image, 4) == 0x01
+}
+
+fn lock_byte_right(part: u8, byte: u8) -> bool
+    ensures { λ r. ⌜ r ≡ lockByteRightOf (factsOf part) byte ⌝ }
+{
+    let f = parts::facts_of(part);
+    if byte == 0 {
+        return true;
+    }
+    if byte == 1 {
+        return f.ident;
+    }
+    false
+}
+
+fn formed(part: u8, image: &[u8]) -> bool
+    ensures { λ r. ⌜ r ≡ formedOf (factsOf part) (now (image .entry)) ⌝ }
+{
+    let need = image_length(part);
+    if image.len() != need {
+        return false;
+    }
+    let marked = mark_right(image);
+    if marked {
+        let flag = byte_at(image, 6);
+        return lock_byte_right(part, flag);
+    }
+    false
+}
+
+// Which refusal an image is given that holds its part byte.
+fn judged(image: &[u8], enable: u8, n: usize, d: usize) -> Verdict
+    ensures { λ r. ⌜ r ≡ judgedOf (now (image .entry)) enable n d ⌝ }
+{
+    let part = part_in(image);
+    let f = parts::facts_of(part);
+    let known = f.known;
+    let enabled = parts::enable_right(f, enable);
+    let lent = lent_right(part, n, d);
+    let right = formed(part, image);
+    parts::given(Faults {
+        part: !known,
+        enable: !enabled,
+        buffer: !lent,
+        state: false,
+        many: false,
+        event: false,
+        place: 0,
+        short: false,
+        beyond: false,
+        limit: false,
+        image: !right,
+    })
+}
+
+fn load_verdict(image: &[u8], enable: u8, n: usize, d: usize) -> Verdict
+    ensures { λ r. ⌜ r ≡ loadVerdictOf (now (image .entry)) enable n d ⌝ }
+{
+    if image.len() < 6 {
+        return Verdict::Refused(Refusal::BadImage);
+    }
+    judged(image, enable, n, d)
+}
+
+fn fill(part: u8, image: &[u8], array: &mut [u8], id: &mut [u8])
+    requires { ⌜ (length (now array) ≡ factsOf part .size) × (length (now image) ≡ 7 + length (now array) + length (now id)) ⌝ }
+    ensures cells { λ _. ⌜ now (array .exit) ≡ storedIn (factsOf part) (now (image .entry)) .cells ⌝ }
+    ensures ident { λ _. ⌜ now (id .exit) ≡ storedIn (factsOf part) (now (image .entry)) .ident ⌝ }
+{
+    let n = array.len();
+    let end = 7 + n;
+    copy_in(array, 0, &image[7..end]);
+    copy_in(id, 0, &image[end..]);
+}
+
+// A chip in standby as after reset, from the image and an enable for it.
+pub fn load(image: &[u8], enable: u8, array: &mut [u8], id: &mut [u8]) -> Loaded
+    ensures answer { λ r. ⌜ r ≡ loading (now (image .entry)) enable (mem (now (array .entry)) (now (id .entry))) .answer ⌝ }
+    ensures cells { λ _. ⌜ now (array .exit) ≡ loading (now (image .entry)) enable (mem (now (array .entry)) (now (id .entry))) .stored .cells ⌝ }
+    ensures ident { λ _. ⌜ now (id .exit) ≡ loading (now (image .entry)) enable (mem (now (array .entry)) (now (id .entry))) .stored .ident ⌝ }
+{
+    let verdict = load_verdict(image, enable, array.len(), id.len());
+    let part = part_in(image);
+    match verdict {
+        Verdict::Fine => {
+            let lock = lock_in(image);
+            fill(part, image, array, id);
+            Loaded {
+                verdict: Verdict::Fine,
+                part: part,
+                chip: chip::standby(part, lock),
+            }
+        }
+        Verdict::Refused(r) => Loaded {
+            verdict: Verdict::Refused(r),
+            part: part,
+            chip: chip::standby(part, false),
+        },
+    }
+}
