@@ -10,11 +10,14 @@ use Rattle.parts.specs.declared.Verdict.{Verdict}
 use Rattle.parts.specs.declared.Verdict.the-variants.{Fine, Refused}
 use Rattle.parts.specs.Table.{factsOf, enableRightOf}
 use Rattle.parts.proofs.Laws.{sound}
-use Rattle.chip.specs.Memory.{Mem}
+use Rattle.line.specs.Rules.{nextOf, actOf, resetOf}
+use Rattle.state.specs.declared.Chip.{Chip}
+use Rattle.state.specs.Range.{inRangeOf}
+use Rattle.chip.specs.Memory.{Mem, stateOf}
 use Rattle.chip.specs.Delivery.{standbyOf}
 use Rattle.image.specs.Layout.{imageOf, imageLengthOf, partIn, lockIn, storedIn}
-use Rattle.image.specs.Calls.{loadVerdictOf, loadBy, AfterLoad, saving, loading}
-use Rattle.image.specs.Promises.{Fits, GivesBack, SavesSame, AcceptsOnly, AcceptsAll}
+use Rattle.image.specs.Calls.{saveVerdictOf, saveOut, loadVerdictOf, loadBy, AfterLoad, saving, loading}
+use Rattle.image.specs.Promises.{Fits, GivesBack, SavesSame, AcceptsOnly, AcceptsAll, SavesLockOnly, AsAfterReset}
 use Rattle.image.proofs.Laws.{load-fine, CanLoad}
 use Rattle.image.proofs.Form.{part-of-image, lock-of-image, length-of-image, stored-of-image, accepted, stored-fits, is-image, lock-allowed, standby-in-range, range-lockable, saves}
 
@@ -62,3 +65,22 @@ saves-same l enable old out h room =
     let j : loadVerdictOf l enable (length (old .cells)) (length (old .ident)) ≡ Fine = sym (load-verdict l _) ∙ h in
     let k = load-fine l enable (length (old .cells)) (length (old .ident)) j in
     rw j (again l enable old out k room)
+
+-- ---- the chip
+
+same-verdict : (part : ℕ) (c e : Chip) (n d room : ℕ) → inRangeOf (factsOf part) c ≡ true → inRangeOf (factsOf part) e ≡ true
+    → saveVerdictOf part c n d room ≡ saveVerdictOf part e n d room
+unfolding saveVerdictOf
+same-verdict part c e n d room a b = rw (a, b)
+
+same-out : (part : ℕ) (c e : Chip) (m : Mem) (out : List ℕ) (v : Verdict) → c .line .core .locked ≡ e .line .core .locked → saveOut part c m out v ≡ saveOut part e m out v
+same-out part c e m out Fine h = rw h refl
+same-out part c e m out (Refused r) h = refl
+
+pub saves-lock-only : SavesLockOnly saving
+saves-lock-only part c e m out a b h =
+    rw (same-verdict part c e (length (m .cells)) (length (m .ident)) (length out) a b, same-out part c e m out (saveVerdictOf part e (length (m .cells)) (length (m .ident)) (length out)) h)
+
+pub as-after-reset : AsAfterReset
+unfolding standbyOf stateOf nextOf actOf resetOf
+as-after-reset f enable c = refl

@@ -6,12 +6,14 @@ use mathlib.Core.Path.{_≡_}
 use mathlib.Core.Bool.{Bool, true}
 use mathlib.Core.List.{List, _++_}
 use lib.ListN.{length, take, drop}
+use Rattle.parts.specs.declared.Event.the-variants.{Reset}
+use Rattle.parts.specs.declared.Facts.{Facts}
 use Rattle.parts.specs.declared.Verdict.the-variants.{Fine}
 use Rattle.parts.specs.Table.{factsOf, idSizeOf, enableRightOf}
 use Rattle.state.specs.declared.Chip.{Chip}
 use Rattle.state.specs.Range.{inRangeOf}
-use Rattle.chip.specs.Memory.{Mem}
-use Rattle.chip.specs.Delivery.{standbyOf}
+use Rattle.chip.specs.Memory.{Mem, stateOf}
+use Rattle.chip.specs.Delivery.{pinAtFirstOf, standbyOf}
 use Rattle.image.specs.Layout.{imageOf, imageLengthOf, partIn}
 use Rattle.image.specs.Calls.{AfterSave, AfterLoad}
 
@@ -71,3 +73,21 @@ AcceptsOnly load = (l : List ℕ) (enable : ℕ) (old : Mem) → load l enable o
 abbrev pub AcceptsAll : Loading → Type 0
 AcceptsAll load =
     (l : List ℕ) (enable : ℕ) (old : Mem) → Form l → enableRightOf (factsOf (partIn l)) enable ≡ true → Fits (partIn l) old → load l enable old .answer .verdict ≡ Fine
+
+-- "without latches": of the chip only the lock is saved, whatever transfer or cycle it is in
+abbrev pub SavesLockOnly : Saving → Type 0
+SavesLockOnly save =
+    (part : ℕ) (c e : Chip) (m : Mem) (out : List ℕ)
+    → inRangeOf (factsOf part) c ≡ true
+    → inRangeOf (factsOf part) e ≡ true
+    → c .line .core .locked ≡ e .line .core .locked
+    → save part c m out ≡ save part e m out
+
+-- a chip with its pin left alone
+abbrev pub floated : Facts → Chip → Chip
+floated f c =
+    record { line = record { core = record { counter = c .line .core .counter; pin = pinAtFirstOf f; inhibited = c .line .core .inhibited; locked = c .line .core .locked }; phase = c .line .phase; left = c .line .left; shift = c .line .shift }; latch = c .latch }
+
+-- "a standby chip as after reset, pin floating": what is given back is the chip that was saved, reset
+abbrev pub AsAfterReset : Type 0
+AsAfterReset = (f : Facts) (enable : ℕ) (c : Chip) → standbyOf f (c .line .core .locked) ≡ stateOf f enable (floated f c) Reset
