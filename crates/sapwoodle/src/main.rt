@@ -1,8 +1,179 @@
-// Prints its version and what is to come, until the trace program stands.
-fn main() {
-    io::write_all(1, b"sapwoodle 0.1.0\n");
+// The program: reads a typed trace and prints its answer. Thin over the libraries, which have the promises.
+ghost use Prim.Native.Nat.{_≤_};
+ghost use lib.ListN.{length};
+use libc::STDERR_FILENO;
+use libc::STDIN_FILENO;
+use libc::STDOUT_FILENO;
+
+enum State {
+    More,
+    End,
+    Failed,
+}
+
+// How far the reading has come, and how many bytes of the text are there.
+struct Taken {
+    state: State,
+    n: usize,
+}
+
+// ---- reading
+
+fn least(a: usize, b: usize) -> usize
+    ensures { λ r. ⌜ (r ≤ a) × (r ≤ b) ⌝ }
+{
+    if a < b { a } else { b }
+}
+
+// As much of `from` as there is room for, behind the first n bytes. The answer does not depend on what there is no room
+// for (ReadsNoFurther of the crate trace); reading it all the same spares the writer a broken pipe.
+fn append(text: &mut [u8], n: usize, from: &[u8]) -> usize
+    requires { ⌜ n ≤ length (now text) ⌝ }
+    ensures { λ r. ⌜ r ≤ length (now (text .entry)) ⌝ }
+{
+    let k = least(from.len(), text.len() - n);
+    let mut i = 0;
+    while i < k {
+        text[n + i] = from[i];
+        i += 1;
+    }
+    n + k
+}
+
+// One read.
+fn take_in(text: &mut [u8], n: usize) -> Taken
+    requires { ⌜ n ≤ length (now text) ⌝ }
+    ensures { λ r. ⌜ r .n ≤ length (now (text .entry)) ⌝ }
+{
+    let mut chunk = io::buffer();
+    let got = libc::read(STDIN_FILENO, &mut chunk);
+    if got < 0 {
+        return Taken {
+            state: State::Failed,
+            n: n,
+        };
+    }
+    if got == 0 {
+        return Taken {
+            state: State::End,
+            n: n,
+        };
+    }
+    let k = io::count(got, &chunk);
+    let m = append(text, n, &chunk[..k]);
+    Taken {
+        state: State::More,
+        n: m,
+    }
+}
+
+// Nothing says that an input ends, and a proved loop has to: so the turns are counted down from a number that no run uses up.
+fn take_all(text: &mut [u8]) -> Taken
+    ensures { λ r. ⌜ r .n ≤ length (now (text .entry)) ⌝ }
+{
+    let mut n: usize = 0;
+    let mut turns = u64::MAX;
+    while turns > 0 {
+        let t = take_in(text, n);
+        let state = t.state;
+        match state {
+            State::More => {
+                n = t.n;
+            }
+            State::End => return t,
+            State::Failed => return t,
+        }
+        turns -= 1;
+    }
+    Taken {
+        state: State::Failed,
+        n: n,
+    }
+}
+
+// ---- answering
+
+fn put(text: &[u8]) {
+    let done = io::write_all(STDOUT_FILENO, text);
+    if !done {
+        os::fail(b"sapwoodle: standard output");
+    }
+}
+
+fn answer_in(text: &[u8], out: &mut [u8]) {
+    let n = trace::trace(text, out);
+    put(&out[..n]);
+}
+
+// Every answer fits (AnswerFits of the crate trace).
+fn answer(text: &[u8]) {
+    let mut out = [0u8; 32800];
+    answer_in(text, &mut out);
+}
+
+fn run_in(text: &mut [u8]) {
+    let taken = take_all(text);
+    let state = taken.state;
+    let n = taken.n;
+    match state {
+        State::More => os::fail(b"sapwoodle: standard input"),
+        State::End => answer(&text[..n]),
+        State::Failed => os::fail(b"sapwoodle: standard input"),
+    }
+}
+
+fn run() {
+    let mut text = [0u8; 32774];
+    run_in(&mut text);
+}
+
+// ---- the words
+
+fn usage(fd: i32) {
     io::write_all(
-        1,
-        b"To come: a trace of bus events, run on a model of six M24C EEPROM parts.\n",
+        fd,
+        b"usage: sapwoodle [trace]    runs the trace on standard input\n       sapwoodle help       prints this\n       sapwoodle version    prints the version\n",
     );
+    io::write_all(
+        fd,
+        b"A trace is the part, a space, the enable, a newline, then letters: 0 1 a clock, S Start, P Stop, E cycle end,\nL H F Write Control low, high, floating, R reset.\n",
+    );
+    io::write_all(fd, b"example: printf '2 0\\nS101000001P\\n' | sapwoodle\n");
+}
+
+fn unknown(word: &[u8]) {
+    io::write_all(STDERR_FILENO, b"sapwoodle: unknown word '");
+    io::write_all(STDERR_FILENO, word);
+    io::write_all(STDERR_FILENO, b"'\n");
+    usage(STDERR_FILENO);
+}
+
+fn choose(word: &[u8]) {
+    let traced = check::same(word, b"trace");
+    if traced {
+        return run();
+    }
+    let version = check::same(word, b"version");
+    if version {
+        return put(b"sapwoodle 0.1.0\n");
+    }
+    let help = check::same(word, b"help");
+    if help {
+        return usage(STDOUT_FILENO);
+    }
+    let dashed = check::same(word, b"--help");
+    if dashed {
+        return usage(STDOUT_FILENO);
+    }
+    unknown(word);
+}
+
+fn main() {
+    let count = os::arg_count();
+    if count < 2 {
+        return run();
+    }
+    let mut word = io::buffer();
+    let n = os::arg(1, &mut word);
+    choose(&word[..n]);
 }

@@ -1,0 +1,46 @@
+use borrow.Author.Needs.{needs}
+use mathlib.Core.Path.{refl}
+use Rattle.bench.proofs.Laws.{driven}
+use Rattle.bench.proofs.drive.Statement.{statement}
+use Rattle.bench.proofs.drive.Tie as tie
+
+begin-requires : tie.Need-begin-requires
+begin-requires c κs = search needs
+
+go-requires : tie.Need-go-requires
+go-requires c κs = (c .before .before .before .before .before .before .before .before .pre .0, ((refl, refl), c .before .before .before .before .before .before .before .before .pre .1))
+
+answer-requires : tie.Need-answer-requires
+answer-requires c κs = search needs
+
+reported-requires : tie.Need-reported-requires
+reported-requires c κs = search needs
+
+same-length : tie.Need-same-length
+same-length c = search needs
+
+same-length-2 : tie.Need-same-length-2
+same-length-2 c = search needs
+
+same-length-3 : tie.Need-same-length-3
+same-length-3 c = search needs
+
+returns : tie.Need-returns
+returns c =
+    let a = c .before .before .before .before .before .before .before .before .before .before .before .before .before .before .before .before .before .before .before .before .before .args in
+    let w = c .before .before .before .before .before .before .before .before .before .before .before .before .go in
+    let q = c .before .before .before .answer in
+    driven _ _ _ _ (a .request) (a .chip) _ _ _ _ _ (c .before .before .before .before .before .before .before .before .before .before .before .before .before .before .before .before .before .begin .result) (w .result) (q .result) (c .reported .result) (c .before .before .before .before .before .before .before .before .before .before .before .before .before .before .before .before .before .begin .ensures) (w .ensures) (q .ensures .0) (q .ensures .1) (c .reported .ensures)
+
+pub drive-spec : {M : Type 1} → statement M
+drive-spec =
+    tie.close
+    (tie.spec
+    begin-requires
+    go-requires
+    answer-requires
+    reported-requires
+    same-length
+    same-length-2
+    same-length-3
+    returns)

@@ -1,0 +1,68 @@
+-- What a run of driver and chip answers and leaves, for refused input too (document 01, refusals 1 to 8 in order).
+-- Assumes nothing.
+use Prim.Native.Nat.{ℕ, _+_}
+use mathlib.Core.Bool.{Bool, true, false, cond, not}
+use mathlib.Core.List.{List, [], _∷_, _++_}
+use lib.ListN.{length, take, drop}
+use lib.Dec.{eqb, ltb}
+use Rattle.parts.specs.declared.Facts.{Facts}
+use Rattle.parts.specs.declared.Refusal.{Refusal}
+use Rattle.parts.specs.declared.Verdict.{Verdict}
+use Rattle.parts.specs.declared.Verdict.the-variants.{Fine, Refused as Judged}
+use Rattle.parts.specs.Table.{factsOf, enableRightOf}
+use Rattle.parts.specs.Refusals.{givenOf}
+use Rattle.state.specs.declared.Chip.{Chip}
+use Rattle.state.specs.Range.{inRangeOf}
+use Rattle.chip.specs.Memory.{Mem}
+use Rattle.chip.specs.Calls.{buffersRightOf}
+use Rattle.driver.specs.declared.Request.{Request}
+use Rattle.driver.specs.declared.Answer.{Answer}
+use Rattle.driver.specs.declared.Answer.the-variants.{Send, Done, Refused}
+use Rattle.driver.specs.Request.{fromOf, roomOf, thereOf, beyondAt, limitOf}
+use Rattle.driver.specs.Step.{nextOf}
+use Rattle.bench.specs.declared.Report.{Report}
+use Rattle.bench.specs.Together.{System, startOf, turnsOf, enough}
+
+-- 1, 2, 3; 4 also for data of another length than asked; 6 a read's buffer too short; 7; 8 also for d outside 1 to 65,535
+unfoldable pub benchVerdictOf : Request → ℕ → Chip → ℕ → ℕ → ℕ → Verdict
+benchVerdictOf r d c n i b =
+    givenOf
+    record {
+      part = not (factsOf (r .part) .known);
+      enable = not (enableRightOf (factsOf (r .part)) (r .enable));
+      buffer = not (buffersRightOf (factsOf (r .part)) n i);
+      state = cond (inRangeOf (factsOf (r .part)) c) (cond (r .reads) false (not (eqb b (r .length)))) true;
+      many = false;
+      event = false;
+      place = 0;
+      short = cond (r .reads) (ltb b (r .length)) false;
+      beyond = beyondAt (fromOf (r .place)) (r .length) (roomOf (factsOf (r .part)) (r .place)) (thereOf (factsOf (r .part)) (r .place));
+      limit = cond (limitOf (r .reads) (r .budget)) true (cond (ltb d 1) true (ltb 65535 d));
+      image = false;
+    }
+
+-- the system when the driver has finished; a read's buffer may be longer than asked
+unfoldable pub finalOf : Request → ℕ → Chip → Mem → List ℕ → System
+finalOf r d c m buffer = turnsOf (factsOf (r .part)) (r .enable) d enough (startOf r (take (r .length) buffer) c m)
+
+-- a driver that would still send cannot be (proved with the promises)
+abbrev pub reportBy : System → Answer → Report
+reportBy s (Send e) = record { verdict = Fine; polls = 0; bytes = 0; cycles = s .cycles; clocks = s .clocks; chip = s .chip }
+reportBy s (Done polls bytes) = record { verdict = Fine; polls = polls; bytes = bytes; cycles = s .cycles; clocks = s .clocks; chip = s .chip }
+reportBy s (Refused r polls bytes) = record { verdict = Judged r; polls = polls; bytes = bytes; cycles = s .cycles; clocks = s .clocks; chip = s .chip }
+
+abbrev pub reportOf : System → Report
+reportOf s = reportBy s (nextOf (s .driver) (s .level) (s .buffer) .answer)
+
+abbrev pub benchBy : Request → ℕ → Chip → Mem → List ℕ → Verdict → Report
+benchBy r d c m buffer Fine = reportOf (finalOf r d c m buffer)
+benchBy r d c m buffer (Judged x) = record { verdict = Judged x; polls = 0; bytes = 0; cycles = 0; clocks = 0; chip = c }
+
+abbrev pub benchMem : Request → ℕ → Chip → Mem → List ℕ → Verdict → Mem
+benchMem r d c m buffer Fine = finalOf r d c m buffer .mem
+benchMem r d c m buffer (Judged x) = m
+
+-- bytes past the answer keep their values
+abbrev pub benchBuffer : Request → ℕ → Chip → Mem → List ℕ → Verdict → List ℕ
+benchBuffer r d c m buffer Fine = finalOf r d c m buffer .buffer ++ drop (r .length) buffer
+benchBuffer r d c m buffer (Judged x) = buffer

@@ -1,0 +1,89 @@
+-- What the code keeps between two askings, beside the lent buffers, and what it needs of the chip.
+-- Assumes nothing.
+use Prim.Native.Nat.{ℕ, _+_}
+use mathlib.Core.Path.{_≡_}
+use mathlib.Core.Bool.{Bool, true, false, cond, not}
+use mathlib.Core.List.{List}
+use lib.Dec.{eqb, ltb}
+use Rattle.parts.specs.declared.Facts.{Facts}
+use Rattle.parts.specs.declared.Event.the-variants.{Ends}
+use Rattle.parts.specs.declared.Verdict.{Verdict}
+use Rattle.parts.specs.declared.Verdict.the-variants.{Fine, Refused as Judged}
+use Rattle.parts.specs.Table.{factsOf, enableRightOf}
+use Rattle.parts.specs.Events.{eventOf}
+use Rattle.parts.specs.Refusals.{numberOf}
+use Rattle.line.specs.Rules.{begunOf}
+use Rattle.state.specs.declared.Chip.{Chip}
+use Rattle.state.specs.Range.{inRangeOf}
+use Rattle.chip.specs.Memory.{Mem, stateOf, answerOf}
+use Rattle.chip.specs.Calls.{buffersRightOf}
+use Rattle.laws.specs.Range.{Typed}
+use Rattle.driver.specs.declared.Driver.{Driver}
+use Rattle.driver.specs.declared.Answer.{Answer}
+use Rattle.driver.specs.declared.Answer.the-variants.{Send, Done, Refused}
+use Rattle.driver.specs.Step.{nextOf}
+use Rattle.bench.specs.declared.Held.{Held}
+use Rattle.bench.specs.declared.Report.{Report}
+use Rattle.bench.specs.Together.{System, clockOf, dueOf}
+
+-- the system, of what is held and what is lent
+abbrev pub whole : Held → List ℕ → Mem → System
+whole h b m = record { driver = h .driver; level = h .level; buffer = b; chip = h .chip; mem = m; cycles = h .cycles; clocks = h .clocks }
+
+-- the chip takes an event that the driver sends
+abbrev pub sentOf : Facts → ℕ → Held → Mem → Driver → ℕ → Held
+sentOf f enable h m d e =
+    record {
+      driver = d;
+      level = answerOf f enable (h .chip) m (eventOf e);
+      chip = stateOf f enable (h .chip) (eventOf e);
+      cycles = h .cycles + begunOf (h .chip .line) (eventOf e);
+      clocks = h .clocks + clockOf e;
+    }
+
+-- the chip's cycle ends
+abbrev pub atEndOf : Facts → ℕ → Held → Held
+atEndOf f enable h =
+    record { driver = h .driver; level = h .level; chip = stateOf f enable (h .chip) Ends; cycles = h .cycles; clocks = h .clocks }
+
+abbrev pub sendsOf : Answer → Bool
+sendsOf (Send e) = true
+sendsOf (Done polls bytes) = false
+sendsOf (Refused r polls bytes) = false
+
+-- false: a turn changes nothing any more
+unfoldable pub goingOf : ℕ → System → Bool
+goingOf d s = cond (dueOf d s) true (sendsOf (nextOf (s .driver) (s .level) (s .buffer) .answer))
+
+-- what refuses a step of the chip does not apply; n and i are the lengths of the lent array and identification page
+pub record Fit (part enable : ℕ) (c : Chip) (n i : ℕ) : Type 0 where
+  pub known : factsOf part .known ≡ true
+  pub enabled : enableRightOf (factsOf part) enable ≡ true
+  pub lent : buffersRightOf (factsOf part) n i ≡ true
+  pub ranged : inRangeOf (factsOf part) c ≡ true
+  pub typed : Typed c
+
+-- 0 for none
+abbrev pub numberBy : Verdict → ℕ
+numberBy Fine = 0
+numberBy (Judged r) = numberOf r
+
+-- the report on what is held
+abbrev pub madeOf : Held → Answer → Report
+madeOf h (Send e) = record { verdict = Fine; polls = 0; bytes = 0; cycles = h .cycles; clocks = h .clocks; chip = h .chip }
+madeOf h (Done polls bytes) = record { verdict = Fine; polls = polls; bytes = bytes; cycles = h .cycles; clocks = h .clocks; chip = h .chip }
+madeOf h (Refused r polls bytes) = record { verdict = Judged r; polls = polls; bytes = bytes; cycles = h .cycles; clocks = h .clocks; chip = h .chip }
+
+-- ---- the parts of the verdict
+
+-- refusal 4: the chip, or data of another length than asked
+unfoldable pub unfitOf : Bool → Bool → ℕ → ℕ → Bool
+unfitOf ranged reads length b = cond ranged (cond reads false (not (eqb b length))) true
+
+-- refusal 6
+unfoldable pub shortOf : Bool → ℕ → ℕ → Bool
+shortOf reads length b = cond reads (ltb b length) false
+
+-- refusal 8: the request's own limit, or that of d
+unfoldable pub limitedOf : Bool → ℕ → Bool
+limitedOf own d = cond own true (cond (ltb d 1) true (ltb 65535 d))

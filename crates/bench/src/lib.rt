@@ -1,0 +1,462 @@
+// The driver against the model: each is told what the other does, until the driver has finished.
+ghost use mathlib.Core.Path.{_≡_};
+ghost use mathlib.Core.Bool.{cond};
+ghost use Prim.Native.Nat.{_+_, _<_, _≤_};
+ghost use lib.ListN.{length};
+ghost use lib.Dec.{eqb, ltb};
+ghost use Rattle.parts.specs.Table.{factsOf};
+ghost use Rattle.parts.specs.declared.Event.the-variants.{Ends};
+ghost use Rattle.parts.specs.Events.{eventOf};
+ghost use Rattle.chip.specs.Memory.{mem, storeOf};
+ghost use Rattle.chip.specs.Calls.{buffersRightOf};
+ghost use Rattle.driver.specs.Request.{allowedOf};
+ghost use Rattle.driver.specs.Step.{nextOf};
+ghost use Rattle.bench.specs.Together.{
+  clockOf,
+  startOf,
+  askedOf,
+  pollBy,
+  pollNext,
+  turnOf,
+  turnsOf,
+  enough,
+};
+ghost use Rattle.bench.specs.Held.{whole, sentOf, atEndOf, sendsOf, goingOf, numberBy, madeOf, unfitOf, shortOf, limitedOf, Fit};
+ghost use Rattle.bench.specs.Calls.{
+  benchVerdictOf,
+  reportBy,
+  reportOf,
+  benchBy,
+  benchMem,
+  benchBuffer,
+};
+use driver::Answer;
+use driver::Driver;
+use driver::Phase;
+use driver::Request;
+use driver::Slot;
+use parts::Faults;
+use parts::Verdict;
+use state::Chip;
+
+// How a run ended: Fine is done, refused with 1 to 8 before anything changed, with 9 to 11 by the driver.
+pub struct Report {
+    pub verdict: Verdict,
+    pub polls: usize,
+    // Leading bytes whose cycle was seen to end; of a read, the bytes got.
+    pub bytes: usize,
+    pub cycles: usize,
+    pub clocks: usize,
+    pub chip: Chip,
+}
+
+// Driver and chip between two askings; `level` is what the driver is told next.
+struct Held {
+    driver: Driver,
+    level: u8,
+    chip: Chip,
+    cycles: usize,
+    clocks: usize,
+}
+
+struct Turned {
+    held: Held,
+    // False: a turn changes nothing any more.
+    going: bool,
+}
+
+const ENDS: u8 = 4;
+
+// More askings than any request takes.
+const ENOUGH: usize = 6000000;
+
+fn clock(code: u8) -> usize
+    ensures { λ r. ⌜ r ≡ clockOf code ⌝ }
+{
+    if code < 2 { 1 } else { 0 }
+}
+
+// The chip takes an event that the driver sends.
+fn send(
+    part: u8,
+    enable: u8,
+    held: Held,
+    driver: Driver,
+    code: u8,
+    array: &mut [u8],
+    id: &mut [u8],
+) -> Held
+    requires fit { ⌜ Fit part enable (held .chip) (length (now array)) (length (now id)) ⌝ }
+    requires code { ⌜ code < 4 ⌝ }
+    requires few { ⌜ (held .cycles < 6000000) × (held .clocks < 6000000) ⌝ }
+    ensures answer { λ r. ⌜ r ≡ sentOf (factsOf part) enable held (mem (now (array .entry)) (now (id .entry))) driver code ⌝ }
+    ensures stored { λ _. ⌜ mem (now (array .exit)) (now (id .exit)) ≡ storeOf (factsOf part) (held .chip) (mem (now (array .entry)) (now (id .entry))) (eventOf code) ⌝ }
+{
+    let before = held.chip;
+    let s = chip::step(part, enable, before, array, id, code);
+    let chip = s.chip;
+    Held {
+        driver,
+        level: s.level,
+        chip,
+        cycles: held.cycles + s.cycles as usize,
+        clocks: held.clocks + clock(code),
+    }
+}
+
+// The chip's cycle ends, if one runs.
+fn end(part: u8, enable: u8, held: Held, array: &mut [u8], id: &mut [u8]) -> Held
+    requires { ⌜ Fit part enable (held .chip) (length (now array)) (length (now id)) ⌝ }
+    ensures answer { λ r. ⌜ r ≡ atEndOf (factsOf part) enable held ⌝ }
+    ensures stored { λ _. ⌜ mem (now (array .exit)) (now (id .exit)) ≡ storeOf (factsOf part) (held .chip) (mem (now (array .entry)) (now (id .entry))) Ends ⌝ }
+{
+    let before = held.chip;
+    let s = chip::step(part, enable, before, array, id, ENDS);
+    let chip = s.chip;
+    let driver = held.driver;
+    Held {
+        driver,
+        level: held.level,
+        chip,
+        cycles: held.cycles,
+        clocks: held.clocks,
+    }
+}
+
+// The driver is asked once. Where it has finished nothing changes.
+fn ask(
+    part: u8,
+    enable: u8,
+    held: Held,
+    array: &mut [u8],
+    id: &mut [u8],
+    buffer: &mut [u8],
+) -> Turned
+    requires fit { ⌜ Fit part enable (held .chip) (length (now array)) (length (now id)) ⌝ }
+    requires few { ⌜ (held .cycles < 6000000) × (held .clocks < 6000000) ⌝ }
+    ensures together { λ r. ⌜ whole (r .held) (now (buffer .exit)) (mem (now (array .exit)) (now (id .exit))) ≡ askedOf (factsOf part) enable (whole held (now (buffer .entry)) (mem (now (array .entry)) (now (id .entry)))) ⌝ }
+    ensures going { λ r. ⌜ r .going ≡ sendsOf (nextOf (held .driver) (held .level) (now (buffer .entry)) .answer) ⌝ }
+{
+    let asked = driver::next(held.driver, held.level, buffer);
+    let answer = asked.answer;
+    let driver = asked.driver;
+    match answer {
+        Answer::Send(e) => {
+            let sent = send(part, enable, held, driver, e, array, id);
+            Turned {
+                held: sent,
+                going: true,
+            }
+        }
+        Answer::Done(_, _) => Turned { held, going: false },
+        Answer::Refused(_, _, _) => Turned { held, going: false },
+    }
+}
+
+// After a poll: whether the next Start is that of poll number d of the page.
+fn polls_again(tries: usize, allowed: usize, level: u8, d: usize) -> bool
+    requires { ⌜ 0 < d ⌝ }
+    ensures { λ r. ⌜ r ≡ eqb (cond (eqb level 0) 0 (cond (ltb tries allowed) (tries + 1) 0)) d ⌝ }
+{
+    if level == 0 {
+        return false;
+    }
+    if tries < allowed {
+        return tries == d - 1;
+    }
+    false
+}
+
+fn due_after(slot: Slot, tries: usize, allowed: usize, level: u8, d: usize) -> bool
+    requires { ⌜ 0 < d ⌝ }
+    ensures { λ r. ⌜ r ≡ eqb (pollBy slot tries allowed level) d ⌝ }
+{
+    match slot {
+        Slot::Select => false,
+        Slot::High => false,
+        Slot::Low => false,
+        Slot::Data => false,
+        Slot::Poll => polls_again(tries, allowed, level, d),
+        Slot::Turn => false,
+        Slot::Take => false,
+    }
+}
+
+// "each cycle ends just before its poll number d": whether that poll's Start is sent next.
+fn due(phase: Phase, tries: usize, allowed: usize, level: u8, d: usize) -> bool
+    requires { ⌜ 0 < d ⌝ }
+    ensures { λ r. ⌜ r ≡ eqb (pollNext phase tries allowed level) d ⌝ }
+{
+    match phase {
+        Phase::Ready => false,
+        Phase::Bits(_, _) => false,
+        Phase::Heard(slot) => due_after(slot, tries, allowed, level, d),
+        Phase::Rest => tries == d - 1,
+        Phase::Over(_) => false,
+    }
+}
+
+// The polls allowed for a page: a read sends none.
+fn allowed(request: Request) -> usize
+    ensures { λ r. ⌜ r ≡ allowedOf request ⌝ }
+{
+    if request.reads { 0 } else { request.budget }
+}
+
+// The cycle ends where its poll number d comes next; then the driver is asked.
+fn turn(
+    part: u8,
+    enable: u8,
+    d: usize,
+    held: Held,
+    array: &mut [u8],
+    id: &mut [u8],
+    buffer: &mut [u8],
+) -> Turned
+    requires fit { ⌜ Fit part enable (held .chip) (length (now array)) (length (now id)) ⌝ }
+    requires few { ⌜ (held .cycles < 6000000) × (held .clocks < 6000000) ⌝ }
+    requires first { ⌜ 0 < d ⌝ }
+    ensures together { λ r. ⌜ whole (r .held) (now (buffer .exit)) (mem (now (array .exit)) (now (id .exit))) ≡ turnOf (factsOf part) enable d (whole held (now (buffer .entry)) (mem (now (array .entry)) (now (id .entry)))) ⌝ }
+    ensures going { λ r. ⌜ r .going ≡ goingOf d (whole held (now (buffer .entry)) (mem (now (array .entry)) (now (id .entry)))) ⌝ }
+{
+    let driver = held.driver;
+    let phase = driver.phase;
+    let most = allowed(driver.request);
+    if due(phase, driver.counts.tries, most, held.level, d) {
+        let ended = end(part, enable, held, array, id);
+        let turned = ask(part, enable, ended, array, id, buffer);
+        let next = turned.held;
+        return Turned {
+            held: next,
+            going: true,
+        };
+    }
+    ask(part, enable, held, array, id, buffer)
+}
+
+// Turn after turn, until nothing changes any more.
+fn go(
+    part: u8,
+    enable: u8,
+    d: usize,
+    first: Held,
+    array: &mut [u8],
+    id: &mut [u8],
+    buffer: &mut [u8],
+) -> Held
+    requires fit { ⌜ Fit part enable (first .chip) (length (now array)) (length (now id)) ⌝ }
+    requires none { ⌜ (first .cycles ≡ 0) × (first .clocks ≡ 0) ⌝ }
+    requires first { ⌜ 0 < d ⌝ }
+    ensures { λ r. ⌜ whole r (now (buffer .exit)) (mem (now (array .exit)) (now (id .exit))) ≡ turnsOf (factsOf part) enable d enough (whole first (now (buffer .entry)) (mem (now (array .entry)) (now (id .entry)))) ⌝ }
+{
+    let mut held = first;
+    let mut left = ENOUGH;
+    while 0 < left {
+        let t = turn(part, enable, d, held, array, id, buffer);
+        let next = t.held;
+        held = next;
+        if !t.going {
+            return held;
+        }
+        left -= 1;
+    }
+    held
+}
+
+// What the driver answers next. The one byte that `next` may store is put back: this is no turn.
+fn answer(driver: Driver, level: u8, buffer: &mut [u8]) -> Answer
+    ensures answer { λ r. ⌜ r ≡ nextOf driver level (now (buffer .entry)) .answer ⌝ }
+    ensures same { λ _. ⌜ now (buffer .exit) ≡ now (buffer .entry) ⌝ }
+{
+    let at = driver.counts.at;
+    if at < buffer.len() {
+        let old = buffer[at];
+        let asked = driver::next(driver, level, buffer);
+        let answer = asked.answer;
+        buffer[at] = old;
+        return answer;
+    }
+    let asked = driver::next(driver, level, buffer);
+    asked.answer
+}
+
+fn reported(held: Held, answer: Answer) -> Report
+    ensures { λ r. ⌜ r ≡ madeOf held answer ⌝ }
+{
+    let chip = held.chip;
+    match answer {
+        Answer::Send(_) => Report {
+            verdict: Verdict::Fine,
+            polls: 0,
+            bytes: 0,
+            cycles: held.cycles,
+            clocks: held.clocks,
+            chip,
+        },
+        Answer::Done(polls, bytes) => Report {
+            verdict: Verdict::Fine,
+            polls,
+            bytes,
+            cycles: held.cycles,
+            clocks: held.clocks,
+            chip,
+        },
+        Answer::Refused(r, polls, bytes) => Report {
+            verdict: Verdict::Refused(r),
+            polls,
+            bytes,
+            cycles: held.cycles,
+            clocks: held.clocks,
+            chip,
+        },
+    }
+}
+
+// A request that nothing refuses; `bytes` has the bytes asked for and no more.
+fn drive(
+    request: Request,
+    d: usize,
+    chip: Chip,
+    array: &mut [u8],
+    id: &mut [u8],
+    bytes: &mut [u8],
+) -> Report
+    requires fit { ⌜ Fit (request .part) (request .enable) chip (length (now array)) (length (now id)) ⌝ }
+    requires first { ⌜ 0 < d ⌝ }
+    ensures answer { λ r. ⌜ r ≡ reportOf (turnsOf (factsOf (request .part)) (request .enable) d enough (startOf request (now (bytes .entry)) chip (mem (now (array .entry)) (now (id .entry))))) ⌝ }
+    ensures stored { λ _. ⌜ mem (now (array .exit)) (now (id .exit)) ≡ turnsOf (factsOf (request .part)) (request .enable) d enough (startOf request (now (bytes .entry)) chip (mem (now (array .entry)) (now (id .entry)))) .mem ⌝ }
+    ensures bytes { λ _. ⌜ now (bytes .exit) ≡ turnsOf (factsOf (request .part)) (request .enable) d enough (startOf request (now (bytes .entry)) chip (mem (now (array .entry)) (now (id .entry)))) .buffer ⌝ }
+{
+    let begun = driver::begin(request);
+    let driver = begun.driver;
+    let first = Held {
+        driver,
+        level: 1,
+        chip,
+        cycles: 0,
+        clocks: 0,
+    };
+    let last = go(request.part, request.enable, d, first, array, id, bytes);
+    let asked = last.driver;
+    let answered = answer(asked, last.level, bytes);
+    reported(last, answered)
+}
+
+// ---- refusals
+
+fn buffers_right(part: u8, n: usize, i: usize) -> bool
+    ensures { λ r. ⌜ r ≡ buffersRightOf (factsOf part) n i ⌝ }
+{
+    let f = parts::facts_of(part);
+    let size = f.size;
+    let own = parts::id_size(f);
+    if n == size {
+        return i == own;
+    }
+    false
+}
+
+// 4: the chip is out of range, or the data have another length than asked.
+fn unfit(ranged: bool, reads: bool, length: usize, b: usize) -> bool
+    ensures { λ r. ⌜ r ≡ unfitOf ranged reads length b ⌝ }
+{
+    if ranged {
+        if reads {
+            return false;
+        }
+        return b != length;
+    }
+    true
+}
+
+// 6: a read's buffer is too short.
+fn short(reads: bool, length: usize, b: usize) -> bool
+    ensures { λ r. ⌜ r ≡ shortOf reads length b ⌝ }
+{
+    if reads {
+        return b < length;
+    }
+    false
+}
+
+// 8: the request's limit, or d outside 1 to 65,535.
+fn limited(own: bool, d: usize) -> bool
+    ensures { λ r. ⌜ r ≡ limitedOf own d ⌝ }
+{
+    if own {
+        return true;
+    }
+    if d < 1 {
+        return true;
+    }
+    65535 < d
+}
+
+fn number(verdict: Verdict) -> u8
+    ensures { λ r. ⌜ r ≡ numberBy verdict ⌝ }
+{
+    match verdict {
+        Verdict::Fine => 0,
+        Verdict::Refused(r) => parts::number(r),
+    }
+}
+
+// 7 and the budget's 8 are the driver's to judge.
+fn judge(request: Request, d: usize, chip: Chip, n: usize, i: usize, b: usize) -> Verdict
+    ensures { λ r. ⌜ r ≡ benchVerdictOf request d chip n i b ⌝ }
+{
+    let f = parts::facts_of(request.part);
+    let known = f.known;
+    let enabled = parts::enable_right(f, request.enable);
+    let lent = buffers_right(request.part, n, i);
+    let ranged = state::in_range(request.part, chip);
+    let own = number(driver::judge(request));
+    let wrong = unfit(ranged, request.reads, request.length, b);
+    let scant = short(request.reads, request.length, b);
+    let limit = limited(own == 8, d);
+    parts::given(Faults {
+        part: !known,
+        enable: !enabled,
+        buffer: !lent,
+        state: wrong,
+        many: false,
+        event: false,
+        place: 0,
+        short: scant,
+        beyond: own == 7,
+        limit,
+        image: false,
+    })
+}
+
+// A request on a chip and its lent buffers, each cycle ending just before its poll number d. The buffer holds the bytes to write,
+// or takes the bytes read.
+pub fn run(
+    request: Request,
+    d: usize,
+    chip: Chip,
+    array: &mut [u8],
+    id: &mut [u8],
+    buffer: &mut [u8],
+) -> Report
+    ensures answer { λ r. ⌜ r ≡ benchBy request d chip (mem (now (array .entry)) (now (id .entry))) (now (buffer .entry)) (benchVerdictOf request d chip (length (now (array .entry))) (length (now (id .entry))) (length (now (buffer .entry)))) ⌝ }
+    ensures stored { λ _. ⌜ mem (now (array .exit)) (now (id .exit)) ≡ benchMem request d chip (mem (now (array .entry)) (now (id .entry))) (now (buffer .entry)) (benchVerdictOf request d chip (length (now (array .entry))) (length (now (id .entry))) (length (now (buffer .entry)))) ⌝ }
+    ensures bytes { λ _. ⌜ now (buffer .exit) ≡ benchBuffer request d chip (mem (now (array .entry)) (now (id .entry))) (now (buffer .entry)) (benchVerdictOf request d chip (length (now (array .entry))) (length (now (id .entry))) (length (now (buffer .entry)))) ⌝ }
+{
+    let verdict = judge(request, d, chip, array.len(), id.len(), buffer.len());
+    match verdict {
+        Verdict::Fine => {
+            let n = request.length;
+            let bytes = &mut buffer[..n];
+            drive(request, d, chip, array, id, bytes)
+        }
+        Verdict::Refused(r) => Report {
+            verdict: Verdict::Refused(r),
+            polls: 0,
+            bytes: 0,
+            cycles: 0,
+            clocks: 0,
+            chip,
+        },
+    }
+}

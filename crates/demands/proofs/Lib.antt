@@ -1,0 +1,16 @@
+pub mod Hears
+pub mod Wrote
+pub mod Codes
+pub mod Rel
+pub mod Keep
+pub mod Whole
+pub mod Cycles
+pub mod Stored
+pub mod Live
+pub mod Turns
+pub mod Late
+pub mod Range
+pub mod Shut
+pub mod Calls
+pub mod Idle
+pub mod Trials

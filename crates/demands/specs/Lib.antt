@@ -1,0 +1,6 @@
+pub mod Ground
+pub mod Together
+pub mod Ends
+pub mod Calls
+pub mod Idle
+pub mod Trials

@@ -1,0 +1,5 @@
+pub mod Kit
+pub mod Laws
+pub mod Texts
+pub mod Runs
+pub mod Promises

@@ -1,0 +1,32 @@
+-- What the trace program may rely on, and the example that document 01 prints.
+-- Assumes nothing.
+use Prim.Native.Nat.{ℕ, _≤_}
+use mathlib.Core.Path.{_≡_}
+use mathlib.Core.List.{List, [], _∷_, _++_}
+use lib.ListN.{length, take}
+use Rattle.trace.specs.Trace.{newline, partWord, cyclesWord, traceOf}
+
+-- a program need not read further: the first line, 32,768 letters and the byte that may be a final newline, and one byte more,
+-- are too many letters whatever comes behind them
+abbrev pub ReadsNoFurther : Type 0
+ReadsNoFurther = (t : List ℕ) → 32774 ≤ length t → traceOf t ≡ traceOf (take 32774 t)
+
+-- every answer fits a buffer of 32,800 bytes
+abbrev pub AnswerFits : Type 0
+AnswerFits = (t : List ℕ) → length (traceOf t) ≤ 32800
+
+-- "2 0", newline, "S101000001P"
+abbrev pub exampleText : List ℕ
+exampleText = 50 ∷ 32 ∷ 48 ∷ 10 ∷ 83 ∷ 49 ∷ 48 ∷ 49 ∷ 48 ∷ 48 ∷ 48 ∷ 48 ∷ 48 ∷ 49 ∷ 80 ∷ []
+
+-- "-111111110-"
+abbrev pub exampleLevels : List ℕ
+exampleLevels = 45 ∷ 49 ∷ 49 ∷ 49 ∷ 49 ∷ 49 ∷ 49 ∷ 49 ∷ 49 ∷ 48 ∷ 45 ∷ []
+
+-- "part 2", "-111111110-", "cycles 0", a newline behind each
+abbrev pub exampleAnswer : List ℕ
+exampleAnswer = partWord ++ (50 ∷ []) ++ newline ++ exampleLevels ++ newline ++ cyclesWord ++ (48 ∷ []) ++ newline
+
+-- with and without the final newline
+abbrev pub PrintedExample : Type 0
+PrintedExample = (traceOf exampleText ≡ exampleAnswer) × (traceOf (exampleText ++ newline) ≡ exampleAnswer)
