@@ -111,20 +111,51 @@ fn answer(text: &[u8]) {
     answer_in(text, &mut out);
 }
 
-fn run_in(text: &mut [u8]) {
+// An answer that is no refusal begins with `part`.
+fn is_answered(out: &[u8]) -> bool {
+    if 0 < out.len() {
+        return out[0] == b'p';
+    }
+    false
+}
+
+// The trace told byte by byte, then its answer; of a refused one only the answer.
+fn tell_in(text: &[u8], out: &mut [u8]) {
+    let n = trace::trace(text, out);
+    let answered = is_answered(out);
+    if answered {
+        explain::explain(STDOUT_FILENO, text);
+    }
+    put(&out[..n]);
+}
+
+fn tell(text: &[u8]) {
+    let mut out = [0u8; 32800];
+    tell_in(text, &mut out);
+}
+
+fn reply(text: &[u8], bytes: bool) {
+    if bytes {
+        tell(text);
+    } else {
+        answer(text);
+    }
+}
+
+fn run_in(text: &mut [u8], bytes: bool) {
     let taken = take_all(text);
     let state = taken.state;
     let n = taken.n;
     match state {
         State::More => os::fail(b"sapwoodle: standard input"),
-        State::End => answer(&text[..n]),
+        State::End => reply(&text[..n], bytes),
         State::Failed => os::fail(b"sapwoodle: standard input"),
     }
 }
 
-fn run() {
+fn run(bytes: bool) {
     let mut text = [0u8; 32774];
-    run_in(&mut text);
+    run_in(&mut text, bytes);
 }
 
 // ---- the words
@@ -132,11 +163,15 @@ fn run() {
 fn usage(fd: i32) {
     io::write_all(
         fd,
-        b"usage: sapwoodle [trace]    runs the trace on standard input\n       sapwoodle help       prints this\n       sapwoodle version    prints the version\n",
+        b"usage: sapwoodle [trace]        runs the trace on standard input\n       sapwoodle trace --bytes  tells it byte by byte first\n       sapwoodle help           prints this\n       sapwoodle version        prints the version\n",
     );
     io::write_all(
         fd,
         b"A trace is the part, a space, the enable, a newline, then letters: 0 1 a clock, S Start, P Stop, E cycle end,\nL H F Write Control low, high, floating, R reset.\n",
+    );
+    io::write_all(
+        fd,
+        b"       sapwoodle write PART ENABLE ADDRESS HEXBYTES    the driver against the model, and its report\n       sapwoodle read PART ENABLE ADDRESS LENGTH\n       sapwoodle bench PART [--enable N]               what a board cannot try, as tables\n",
     );
     io::write_all(fd, b"example: printf '2 0\\nS101000001P\\n' | sapwoodle\n");
 }
@@ -148,10 +183,45 @@ fn unknown(word: &[u8]) {
     usage(STDERR_FILENO);
 }
 
+fn choose_bytes(word: &[u8]) {
+    let bytes = check::same(word, b"--bytes");
+    if bytes {
+        return run(true);
+    }
+    unknown(word);
+}
+
+// The word behind `trace`, if there is one.
+fn choose_trace() {
+    let count = os::arg_count();
+    if count < 3 {
+        return run(false);
+    }
+    let mut word = io::buffer();
+    let n = os::arg(2, &mut word);
+    choose_bytes(&word[..n]);
+}
+
+fn choose_station(word: &[u8]) {
+    let writes = check::same(word, b"write");
+    if writes {
+        return station::write_command();
+    }
+    let reads = check::same(word, b"read");
+    if reads {
+        return station::read_command();
+    }
+    let benched = check::same(word, b"bench");
+    if benched {
+        return station::bench_command();
+    }
+    unknown(word);
+}
+
 fn choose(word: &[u8]) {
     let traced = check::same(word, b"trace");
     if traced {
-        return run();
+        return choose_trace();
     }
     let version = check::same(word, b"version");
     if version {
@@ -165,13 +235,13 @@ fn choose(word: &[u8]) {
     if dashed {
         return usage(STDOUT_FILENO);
     }
-    unknown(word);
+    choose_station(word);
 }
 
 fn main() {
     let count = os::arg_count();
     if count < 2 {
-        return run();
+        return run(false);
     }
     let mut word = io::buffer();
     let n = os::arg(1, &mut word);

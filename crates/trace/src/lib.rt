@@ -58,7 +58,7 @@ fn letters_end(text: &[u8]) -> usize
     n
 }
 
-fn letters_of(text: &[u8]) -> &[u8]
+pub fn letters_of(text: &[u8]) -> &[u8]
     requires { ⌜ 4 ≤ length (now text) ⌝ }
     ensures { λ r. ⌜ now r ≡ lettersOf (now (text .entry)) ⌝ }
 {
@@ -66,7 +66,7 @@ fn letters_of(text: &[u8]) -> &[u8]
     &text[4..end]
 }
 
-fn code_of(b: u8) -> u8
+pub fn code_of(b: u8) -> u8
     ensures { λ r. ⌜ r ≡ codeOf b ⌝ }
 {
     match b {

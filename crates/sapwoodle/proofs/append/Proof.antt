@@ -1,13 +1,10 @@
-use mathlib.Core.Path.{_≡_, sym, refl}
+use mathlib.Core.Path.{_≡_}
 use lib.ListN.{length, length-set}
 use Prim.Native.Nat.{_-_, _≤_}
 use borrow.Author.Needs.{needs}
 use native.Mathlib.Omega.{arith}
 use Rattle.sapwoodle.proofs.append.Statement.{statement}
 use Rattle.sapwoodle.proofs.append.Tie as tie
-use Rattle.sapwoodle.proofs.append.Reads as reads
-use Rattle.sapwoodle.proofs.append.Lts as lts
-use Rattle.sapwoodle.proofs.least.Reads as least-reads
 
 abbrev Inv-loop : tie.InvT-loop
 Inv-loop text₀ n from k i₀ text i = (i ≤ k) × (length text ≡ length text₀)

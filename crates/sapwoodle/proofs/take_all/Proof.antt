@@ -1,13 +1,9 @@
-use mathlib.Core.Path.{_≡_, sym, refl}
-use lib.ListN.{length, length-set}
+use mathlib.Core.Path.{_≡_}
+use lib.ListN.{length}
 use Prim.Native.Nat.{_-_, _≤_}
 use borrow.Author.Needs.{needs}
-use native.Mathlib.Omega.{arith}
 use Rattle.sapwoodle.proofs.take_all.Statement.{statement}
 use Rattle.sapwoodle.proofs.take_all.Tie as tie
-use Rattle.sapwoodle.proofs.take_all.Reads as reads
-use Rattle.sapwoodle.proofs.take_all.Lts as lts
-use Rattle.sapwoodle.proofs.take_in.Reads as take-in-reads
 
 abbrev Inv-loop : tie.InvT-loop
 Inv-loop text₀ n₀ turns₀ text n turns = (n ≤ length text) × (length text ≡ length text₀)

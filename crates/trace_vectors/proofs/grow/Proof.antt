@@ -1,13 +1,10 @@
-use mathlib.Core.Path.{_≡_, sym, refl}
+use mathlib.Core.Path.{_≡_}
 use lib.ListN.{length, length-set}
 use Prim.Native.Nat.{_-_, _≤_}
 use borrow.Author.Needs.{needs}
 use native.Mathlib.Omega.{arith}
 use Rattle.trace_vectors.proofs.grow.Statement.{statement}
 use Rattle.trace_vectors.proofs.grow.Tie as tie
-use Rattle.trace_vectors.proofs.grow.Reads as reads
-use Rattle.trace_vectors.proofs.grow.Lts as lts
-use Rattle.trace_vectors.proofs.least.Reads as least-reads
 
 abbrev Inv-loop : tie.InvT-loop
 Inv-loop text₀ n b times k i₀ text i = (i ≤ k) × (length text ≡ length text₀)

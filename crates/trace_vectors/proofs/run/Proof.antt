@@ -1,13 +1,9 @@
 use mathlib.Core.Path.{_≡_}
-use lib.ListN.{length, length-set}
+use lib.ListN.{length}
 use Prim.Native.Nat.{_-_, _≤_}
 use borrow.Author.Needs.{needs}
-use native.Mathlib.Omega.{arith}
 use Rattle.trace_vectors.proofs.run.Statement.{statement}
 use Rattle.trace_vectors.proofs.run.Tie as tie
-use Rattle.trace_vectors.proofs.run.Reads as reads
-use Rattle.trace_vectors.proofs.run.Lts as lts
-use Rattle.trace_vectors.proofs.feed.Reads as feed-reads
 
 abbrev Inv-loop : tie.InvT-loop
 Inv-loop input text₀ n₀ i₀ text n i = (i ≤ length input) × (n ≤ length text) × (length text ≡ length text₀)

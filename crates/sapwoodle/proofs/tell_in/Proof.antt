@@ -1,0 +1,43 @@
+use Rattle.trace.proofs.Promises.{count-fits}
+use lib.Seq.{length-take-le}
+use mathlib.Core.Path.{sym}
+use borrow.Author.Needs.{needs}
+use Rattle.sapwoodle.proofs.tell_in.Statement.{statement}
+use Rattle.sapwoodle.proofs.tell_in.Tie as tie
+
+trace-requires : tie.Need-trace-requires
+trace-requires c κs = search needs
+
+is-answered-requires : tie.Need-is-answered-requires
+is-answered-requires c κs = search needs
+
+explain-requires : tie.Need-explain-requires
+explain-requires c κs = search needs
+
+slice-reshare-prefix-put : tie.Need-slice-reshare-prefix-put
+slice-reshare-prefix-put c = count-fits _ _ _ _ (c .before .before .before .before .before .trace .ensures .0) (sym (c .before .before .before .before .before .trace .kept .1 .0))
+
+slice-aggregate-put : tie.Need-slice-aggregate-put
+slice-aggregate-put c = sym (length-take-le _ _ (count-fits _ _ _ _ (c .before .before .before .before .before .before .trace .ensures .0) (sym (c .before .before .before .before .before .before .trace .kept .1 .0))))
+
+put-requires : tie.Need-put-requires
+put-requires c κs = search needs
+
+same-length : tie.Need-same-length
+same-length c = search needs
+
+returns : tie.Need-returns
+returns c = search needs
+
+pub tell-in-spec : {M : Type 1} → statement M
+tell-in-spec =
+    tie.close
+    (tie.spec
+    trace-requires
+    is-answered-requires
+    explain-requires
+    slice-reshare-prefix-put
+    slice-aggregate-put
+    put-requires
+    same-length
+    returns)
