@@ -163,15 +163,11 @@ fn run(bytes: bool) {
 fn usage(fd: i32) {
     io::write_all(
         fd,
-        b"usage: sapwoodle [trace]        runs the trace on standard input\n       sapwoodle trace --bytes  tells it byte by byte first\n       sapwoodle help           prints this\n       sapwoodle version        prints the version\n",
+        b"usage: sapwoodle [trace]        runs the trace on standard input\n       sapwoodle trace --bytes  tells it byte by byte first\n       sapwoodle write PART ENABLE ADDRESS HEXBYTES  the driver against the model\n       sapwoodle read PART ENABLE ADDRESS LENGTH\n       sapwoodle bench PART [--enable N]             what a board cannot try, as tables\n       sapwoodle help           prints this\n       sapwoodle version        prints the version\n",
     );
     io::write_all(
         fd,
         b"A trace is the part, a space, the enable, a newline, then letters: 0 1 a clock, S Start, P Stop, E cycle end,\nL H F Write Control low, high, floating, R reset.\n",
-    );
-    io::write_all(
-        fd,
-        b"       sapwoodle write PART ENABLE ADDRESS HEXBYTES    the driver against the model, and its report\n       sapwoodle read PART ENABLE ADDRESS LENGTH\n       sapwoodle bench PART [--enable N]               what a board cannot try, as tables\n",
     );
     io::write_all(fd, b"example: printf '2 0\\nS101000001P\\n' | sapwoodle\n");
 }
@@ -225,7 +221,7 @@ fn choose(word: &[u8]) {
     }
     let version = check::same(word, b"version");
     if version {
-        return put(b"sapwoodle 0.1.0\n");
+        return put(b"sapwoodle 0.6.0\n");
     }
     let help = check::same(word, b"help");
     if help {
