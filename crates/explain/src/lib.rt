@@ -396,7 +396,7 @@ pub fn explain(fd: i32, text: &[u8]) {
         let enable = text[2];
         if 48 <= part {
             if 48 <= enable {
-                explain_letters(fd, part - 48, enable - 48, trace::letters_of(text));
+                explain_letters(fd, part - 48, enable - 48, trace::letters(text));
             }
         }
     }

@@ -11,7 +11,7 @@ use lib.Seq.{length-take-le}
 use lib.Dec.{ltb, eqb}
 use borrow.Author.Tests.{ltb-true}
 use Rattle.parts.proofs.Laws.{branch}
-use Rattle.trace.specs.Trace.{eachOf, lettersEndOf}
+use Rattle.trace.specs.Trace.{eachOf, lettersEndOf, lettersOf}
 
 each-suc : (g : ℕ → ℕ) (xs d : List ℕ) (i : ℕ) → i < length xs → length d ≡ length xs
     → set (eachOf g (take i xs) ++ drop i d) i (g (getD xs i 0)) ≡ eachOf g (take (suc i) xs) ++ drop (suc i) d
@@ -62,3 +62,8 @@ letters-range t h =
     (λ e. let long : 4 < length t = ltb-true 4 (length t) e in
     branch (λ (x : ℕ). (4 ≤ x) × (x ≤ length t)) (eqb (getD t (length t - 1) 0) 10) (λ _. (omega arith, omega arith)) (λ _. (omega arith, omega arith)))
     (λ _. (omega arith, omega arith))
+
+-- a text that ends in its first line has no letters
+pub letters-none : (t : List ℕ) → length t ≤ 4 → [] ≡ lettersOf t
+unfolding lettersOf
+letters-none t h = rw (drop-of-length-le t h) (sym (take-all [] (lettersEndOf t - 4) (omega arith)))

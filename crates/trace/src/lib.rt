@@ -58,12 +58,22 @@ fn letters_end(text: &[u8]) -> usize
     n
 }
 
-pub fn letters_of(text: &[u8]) -> &[u8]
+fn letters_of(text: &[u8]) -> &[u8]
     requires { ⌜ 4 ≤ length (now text) ⌝ }
     ensures { λ r. ⌜ now r ≡ lettersOf (now (text .entry)) ⌝ }
 {
     let end = letters_end(text);
     &text[4..end]
+}
+
+// The letters of any text; of one that ends in its first line there are none.
+pub fn letters(text: &[u8]) -> &[u8]
+    ensures { λ r. ⌜ now r ≡ lettersOf (now (text .entry)) ⌝ }
+{
+    if 4 <= text.len() {
+        return letters_of(text);
+    }
+    &text[..0]
 }
 
 pub fn code_of(b: u8) -> u8
