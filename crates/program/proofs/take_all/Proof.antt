@@ -2,8 +2,8 @@ use mathlib.Core.Path.{_≡_}
 use lib.ListN.{length}
 use Prim.Native.Nat.{_-_, _≤_}
 use borrow.Author.Needs.{needs}
-use Rattle.sapwoodle.proofs.take_all.Statement.{statement}
-use Rattle.sapwoodle.proofs.take_all.Tie as tie
+use Rattle.program.proofs.take_all.Statement.{statement}
+use Rattle.program.proofs.take_all.Tie as tie
 
 abbrev Inv-loop : tie.InvT-loop
 Inv-loop text₀ n₀ turns₀ text n turns = (n ≤ length text) × (length text ≡ length text₀)

@@ -3,8 +3,8 @@ use lib.ListN.{length, length-set}
 use Prim.Native.Nat.{_-_, _≤_}
 use borrow.Author.Needs.{needs}
 use native.Mathlib.Omega.{arith}
-use Rattle.sapwoodle.proofs.append.Statement.{statement}
-use Rattle.sapwoodle.proofs.append.Tie as tie
+use Rattle.program.proofs.append.Statement.{statement}
+use Rattle.program.proofs.append.Tie as tie
 
 abbrev Inv-loop : tie.InvT-loop
 Inv-loop text₀ n from k i₀ text i = (i ≤ k) × (length text ≡ length text₀)

@@ -2,8 +2,8 @@ use lib.Seq.{length-take-le}
 use mathlib.Core.Path.{sym}
 use native.Mathlib.Omega.{arith}
 use borrow.Author.Needs.{needs}
-use Rattle.sapwoodle.proofs.run_in.Statement.{statement}
-use Rattle.sapwoodle.proofs.run_in.Tie as tie
+use Rattle.program.proofs.run_in.Statement.{statement}
+use Rattle.program.proofs.run_in.Tie as tie
 
 take-all-requires : tie.Need-take-all-requires
 take-all-requires c κs = search needs
