@@ -4,7 +4,6 @@ use Prim.Native.Nat.{ℕ, zero, suc, _+_, _-_, _*_, _/_, _%_, _<_, _≤_}
 use native.Mathlib.Omega.{arith}
 use mathlib.Core.Path.{_≡_, refl, sym, ap, subst, _∙_}
 use mathlib.Core.Bool.{Bool, true, false, not, cond, _&&_}
-use mathlib.Core.Logic.{⊎-elim}
 use mathlib.Core.List.{List, [], _∷_, _++_, append-assoc}
 use lib.ListN.{length, take}
 use lib.Dec.{eqb, ltb}
@@ -16,23 +15,22 @@ use Rattle.parts.specs.Events.{eventOf}
 use Rattle.line.specs.declared.Target.{Target}
 use Rattle.line.specs.declared.Target.the-variants.{Array, Ident}
 use Rattle.line.specs.declared.Recv.{Recv}
-use Rattle.line.specs.declared.Recv.the-variants.{Select, AddressHigh, AddressLow, Fill, LockByte, LockTaken}
+use Rattle.line.specs.declared.Recv.the-variants.{Select, AddressHigh, AddressLow, Fill}
 use Rattle.line.specs.declared.Phase.{Phase}
-use Rattle.line.specs.declared.Phase.the-variants.{Idle, Receive, Send, Busy}
+use Rattle.line.specs.declared.Phase.the-variants.{Idle, Receive}
 use Rattle.line.specs.declared.Core.{Core}
 use Rattle.line.specs.declared.Line.{Line}
 use Rattle.line.specs.declared.Act.{Act}
 use Rattle.line.specs.declared.Act.the-variants.{Keep, Drop, Put}
 use Rattle.line.specs.declared.After.{After}
-use Rattle.line.specs.declared.Heard.{Heard}
 use Rattle.line.specs.declared.Heard.the-variants.{Hit}
-use Rattle.line.specs.Rules.{isHigh, at, goes, marking, bitOn, bitNumber, rollOf, counting, decodeOf, firstOf, selectedOf, loadArrayOf, loadIdOf, loadedOf, refusesOf, latchedOf, filledOf, takenOf, landed, receivedOf, receiveActOf, clockedOf, clockActOf, opened, startedOf, startActOf, asksOf, placedOf, dueOf, begunBy, stopBegunOf, nextOf, actOf, begunOf}
+use Rattle.line.specs.Rules.{isHigh, at, goes, marking, bitNumber, rollOf, counting, decodeOf, firstOf, selectedOf, loadArrayOf, loadIdOf, loadedOf, refusesOf, latchedOf, filledOf, takenOf, landed, receivedOf, receiveActOf, clockedOf, clockActOf, opened, startedOf, startActOf, asksOf, placedOf, dueOf, begunBy, stopBegunOf, nextOf, actOf, begunOf}
 use Rattle.state.specs.declared.Chip.{Chip}
-use Rattle.chip.specs.Memory.{Mem, mem, chip, latchOf, noLatch, stateOf}
+use Rattle.chip.specs.Memory.{mem, chip, latchOf, noLatch, stateOf}
 use Rattle.chip.specs.Runs.{afterOf, cyclesOf}
 use Rattle.laws.specs.Bytes.{byteOf, Clocks}
 use Rattle.laws.proofs.Bytes.{taking, code-clock, bytes-are-clocks, cycles-append, clocks-quiet, byte-in}
-use Rattle.cut.specs.Cut.{bytesOf, Bytes, sentBy, aboveOf, Permitted, AfterData, cutOf, Write, CutByStop}
+use Rattle.cut.specs.Cut.{bytesOf, Bytes, sentBy, aboveOf, Permitted, CutByStop}
 
 -- a Stop after n clocks of bytes of which the first g are to pass before one begins a cycle
 abbrev Due : ℕ → ℕ → Type 0

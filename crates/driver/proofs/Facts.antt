@@ -1,19 +1,16 @@
 -- What a request that nothing refuses has, and a driver in range; bounds that the code needs.
 -- Assumes nothing.
 use Prim.Native.Nat.{ℕ, zero, suc, _+_, _-_, _*_, _/_, _%_, _≤_, _<_}
-use mathlib.Core.Path.{_≡_, refl, sym, _∙_, ap, subst}
+use mathlib.Core.Path.{_≡_, refl, sym, _∙_, ap}
 use mathlib.Core.Bool.{Bool, true, false, cond, not, false≢true}
 use mathlib.Core.List.{List}
 use lib.ListN.{length, length-set}
 use lib.Dec.{eqb, leb, ltb, eqb·suc-zero}
 use native.Mathlib.Omega.{arith}
 use native.Mathlib.Nat.{mod-le, div-le-self, mul-le-mul}
-use borrow.Author.Tests.{ltb-true, ltb-false, leb-true, leb-false, eqb-true, eqb-false, eq-eqb, le-leb}
-use Rattle.parts.specs.declared.Facts.{Facts}
+use borrow.Author.Tests.{ltb-true, ltb-false, leb-true, leb-false, eqb-true, eq-eqb, le-leb}
 use Rattle.parts.specs.declared.Verdict.{Verdict}
-use Rattle.parts.specs.declared.Verdict.the-variants.{Fine, Refused}
 use Rattle.parts.specs.Table.{factsOf, idSizeOf, enableRightOf}
-use Rattle.parts.specs.Sound.{Sound}
 use Rattle.parts.specs.Refusals.{givenOf}
 use Rattle.parts.proofs.Laws.{sound, branch}
 use Rattle.driver.specs.Split.{firstOf, pagesOf}
@@ -21,7 +18,6 @@ use Rattle.driver.specs.declared.Place.{Place}
 use Rattle.driver.specs.declared.Place.the-variants.{Array, Ident}
 use Rattle.driver.specs.declared.Request.{Request}
 use Rattle.driver.specs.declared.Driver.{Driver}
-use Rattle.driver.specs.declared.Phase.{Phase}
 use Rattle.driver.specs.Request.{fromOf, roomOf, thereOf, beyondAt, limitOf, faultsOf, judgeOf, allowedOf, kOf, GoodRequest}
 use Rattle.driver.specs.Step.{both, nameOf, selectAt, hereOf, wireOf, fine, phaseRight, countsRight, clocksOf, rangeOf, GoodCounts, shiftOf, wholeOf, keptOf, bufferOf}
 

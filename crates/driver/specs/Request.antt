@@ -1,9 +1,9 @@
 -- Document 01, 'The driver' and 'Refusal numbers': a request, and what refuses it (1, 2, 7, 8).
 -- Assumes nothing.
-use Prim.Native.Nat.{ℕ, _+_, _*_, _<_, _≤_}
+use Prim.Native.Nat.{ℕ, _+_, _<_, _≤_}
 use mathlib.Core.Path.{_≡_}
 use mathlib.Core.Bool.{Bool, true, false, cond, not}
-use lib.Dec.{leb, ltb}
+use lib.Dec.{ltb}
 use Rattle.parts.specs.declared.Facts.{Facts}
 use Rattle.parts.specs.declared.Faults.{Faults}
 use Rattle.parts.specs.declared.Verdict.{Verdict}

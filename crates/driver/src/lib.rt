@@ -3,7 +3,6 @@ ghost use mathlib.Core.Path.{_≡_};
 ghost use mathlib.Core.Bool.{true};
 ghost use Prim.Native.Nat.{_+_, _*_, _≤_, _<_};
 ghost use lib.ListN.{length, getD};
-ghost use Rattle.parts.specs.Sound.{Sound};
 ghost use Rattle.driver.specs.Split.{firstOf, pagesOf};
 ghost use Rattle.driver.specs.Request.{
   fromOf,
@@ -17,49 +16,7 @@ ghost use Rattle.driver.specs.Request.{
   kOf,
   GoodRequest,
 };
-ghost use Rattle.driver.specs.Step.{
-  nameOf,
-  selectAt,
-  hereOf,
-  wireOf,
-  byteOf,
-  bitOf,
-  ninthOf,
-  shiftOf,
-  takenOf,
-  sentOf,
-  readyOf,
-  bitsAt,
-  followOf,
-  leadAt,
-  lowAt,
-  dataAt,
-  pollOf,
-  answeredOf,
-  takeAt,
-  endOf,
-  heardAt,
-  heardOf,
-  bitsOf,
-  refusalOf,
-  moveAt,
-  stepOf,
-  clocksOf,
-  slotRight,
-  phaseRight,
-  countsRight,
-  fine,
-  rangeOf,
-  GoodCounts,
-  nextOf,
-  slotWhole,
-  wholeOf,
-  keptOf,
-  bufferOf,
-  begunOf,
-  unfitOf,
-  nextWriteOf,
-};
+ghost use Rattle.driver.specs.Step.{nameOf, selectAt, wireOf, byteOf, bitOf, ninthOf, shiftOf, takenOf, sentOf, readyOf, bitsAt, followOf, leadAt, lowAt, dataAt, pollOf, answeredOf, takeAt, endOf, heardAt, heardOf, bitsOf, refusalOf, moveAt, stepOf, clocksOf, slotRight, phaseRight, countsRight, fine, rangeOf, GoodCounts, nextOf, slotWhole, wholeOf, keptOf, bufferOf, begunOf, unfitOf, nextWriteOf};
 use parts::ArrayAddress;
 use parts::Facts;
 use parts::Faults;

@@ -1,7 +1,7 @@
 -- The events of any driver on the way are within the bound.
 -- Assumes nothing.
-use Prim.Native.Nat.{ℕ, zero, suc, _+_, _-_, _*_, _≤_, _<_}
-use mathlib.Core.Path.{_≡_, refl, sym, _∙_, ap, subst}
+use Prim.Native.Nat.{ℕ, zero, _+_, _-_, _*_, _≤_, _<_}
+use mathlib.Core.Path.{_≡_, refl, sym, _∙_, ap}
 use mathlib.Core.Bool.{Bool, true, false, cond, not, false≢true}
 use lib.Dec.{eqb}
 use native.Mathlib.Omega.{arith}
@@ -9,15 +9,13 @@ use native.Mathlib.Nat.{mul-le-mul-right}
 use Rattle.parts.specs.Table.{addressBytesOf}
 use Rattle.parts.proofs.Laws.{branch}
 use Rattle.driver.specs.declared.Request.{Request}
-use Rattle.driver.specs.declared.Slot.{Slot}
 use Rattle.driver.specs.declared.Slot.the-variants.{Select, High, Low, Data, Poll, Turn, Take}
 use Rattle.driver.specs.declared.Phase.{Phase}
 use Rattle.driver.specs.declared.Phase.the-variants.{Ready, Bits, Heard, Rest, Over}
 use Rattle.driver.specs.declared.Counts.{Counts}
 use Rattle.driver.specs.Request.{allowedOf, kOf}
 use Rattle.driver_laws.specs.Run.{boundOf}
-use Rattle.driver_laws.specs.Where.{leftOf}
-use Rattle.driver_laws.proofs.Inv.{wide, B, all, stop, stop-most, left-cut, Common, Inv, not-yes}
+use Rattle.driver_laws.proofs.Inv.{wide, all, stop-most, left-cut, Inv}
 use Rattle.driver_laws.proofs.Grow.{A, D, heads, ends, clocksAt, endsAt, over}
 
 -- a read sends no polls

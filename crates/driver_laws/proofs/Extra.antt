@@ -1,13 +1,11 @@
 -- Smaller laws of the driver: identification writes, select codes, and what a write does to its buffer.
 -- Assumes nothing.
-use Prim.Native.Nat.{ℕ, zero, suc, _+_, _-_, _*_, _/_, _%_, _≤_, _<_}
-use mathlib.Core.Path.{_≡_, refl, sym, _∙_, ap, subst}
-use mathlib.Core.Bool.{Bool, true, false, cond, not, false≢true}
-use mathlib.Core.List.{List, [], _∷_}
+use Prim.Native.Nat.{ℕ, _+_, _-_, _%_, _≤_, _<_}
+use mathlib.Core.Path.{_≡_, refl, ap, subst}
+use mathlib.Core.Bool.{Bool, true, false, cond, false≢true}
+use mathlib.Core.List.{List}
 use lib.ListN.{length}
-use lib.Dec.{ltb}
 use native.Mathlib.Omega.{arith}
-use Rattle.parts.specs.declared.Verdict.{Verdict}
 use Rattle.parts.specs.declared.Facts.{Facts}
 use Rattle.parts.specs.Table.{factsOf, idSizeOf}
 use Rattle.parts.proofs.Laws.{sound, branch}
@@ -19,10 +17,9 @@ use Rattle.driver.specs.declared.Slot.the-variants.{Select, High, Low, Data, Po
 use Rattle.driver.specs.declared.Phase.{Phase}
 use Rattle.driver.specs.declared.Phase.the-variants.{Ready, Bits, Heard, Rest, Over}
 use Rattle.driver.specs.declared.Driver.{Driver}
-use Rattle.driver.specs.Request.{fromOf, roomOf, thereOf, judgeOf, kOf, GoodRequest}
-use Rattle.driver.specs.Step.{fine, nameOf, selectAt, rangeOf, GoodCounts, slotRight, phaseRight, slotWhole, wholeOf, keptOf, unfitOf, nextOf, bufferOf, fresh}
+use Rattle.driver.specs.Request.{fromOf, roomOf, judgeOf, kOf}
+use Rattle.driver.specs.Step.{fine, nameOf, selectAt, rangeOf, slotRight, phaseRight, slotWhole, wholeOf, keptOf, unfitOf, nextOf, bufferOf, fresh}
 use Rattle.driver.proofs.Facts.{good-request, good-counts}
-use Rattle.driver_laws.specs.Plan.{selectOf, placeOf}
 use Rattle.driver_laws.specs.Promises.{Accepted, OnePart, SevenBits}
 use Rattle.driver_laws.proofs.Split.{one-page}
 

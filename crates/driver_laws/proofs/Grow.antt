@@ -1,15 +1,15 @@
 -- Clocks, Starts and Stops so far as functions of the state, and how one step moves them; and the polls with them.
 -- Assumes nothing.
-use Prim.Native.Nat.{ℕ, zero, suc, _+_, _-_, _*_, _%_, _≤_, _<_}
-use mathlib.Core.Path.{_≡_, refl, sym, _∙_, ap, subst}
+use Prim.Native.Nat.{ℕ, zero, suc, _+_, _-_, _*_, _<_}
+use mathlib.Core.Path.{_≡_, refl, sym, _∙_, ap}
 use mathlib.Core.Bool.{Bool, true, false, cond, not, false≢true}
-use mathlib.Core.List.{List, [], _∷_, _++_}
+use mathlib.Core.List.{List}
 use lib.ListN.{getD}
-use lib.Dec.{eqb, leb, ltb}
+use lib.Dec.{eqb, ltb}
 use native.Mathlib.Omega.{arith}
-use native.Mathlib.Nat.{mod-lt, mul-le-mul-right}
+use native.Mathlib.Nat.{mod-lt}
 use borrow.Author.Tests.{lt-ltb, eq-eqb, ne-eqb}
-use Rattle.parts.specs.Table.{factsOf, addressBytesOf}
+use Rattle.parts.specs.Table.{addressBytesOf}
 use Rattle.parts.proofs.Laws.{branch}
 use Rattle.driver.specs.declared.Request.{Request}
 use Rattle.driver.specs.declared.Slot.{Slot}
@@ -22,12 +22,12 @@ use Rattle.driver.specs.declared.Counts.{Counts}
 use Rattle.driver.specs.declared.Answer.{Answer}
 use Rattle.driver.specs.declared.Answer.the-variants.{Send, Done, Refused}
 use Rattle.driver.specs.declared.Move.{Move}
-use Rattle.driver.specs.Request.{allowedOf, kOf}
-use Rattle.driver.specs.Step.{both, wireOf, byteOf, bitOf, goes, withByte, takenOf}
+use Rattle.driver.specs.Request.{kOf}
+use Rattle.driver.specs.Step.{both, wireOf, byteOf, bitOf, goes, withByte}
 use Rattle.driver_laws.specs.Run.{addressBytes}
 use Rattle.driver_laws.specs.Where.{leftOf}
-use Rattle.driver_laws.proofs.View.{at, clockOf, leads, takes, Way, w-done, w-open, w-bit, w-ninth, w-got, w-nack, w-high, w-only, w-low, w-turn, w-data, w-more, w-close, w-drop, w-poll, w-again, w-give, w-page, w-take, w-next, w-end, w-over}
-use Rattle.driver_laws.proofs.Inv.{wide, stop, left-cut, left-all, left-none, Common, Home, Head, Fill, Filled, Closed, Got, In, After, Here, Inv, taken-elim, not-yes}
+use Rattle.driver_laws.proofs.View.{at, clockOf, leads, Way, w-done, w-open, w-bit, w-ninth, w-got, w-nack, w-high, w-only, w-low, w-turn, w-data, w-more, w-close, w-drop, w-poll, w-again, w-give, w-page, w-take, w-next, w-end, w-over}
+use Rattle.driver_laws.proofs.Inv.{wide, left-cut, Common, Closed, Inv, taken-elim, not-yes}
 
 abbrev pub A : Request → ℕ
 A r = addressBytes r

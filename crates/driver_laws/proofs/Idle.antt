@@ -1,26 +1,24 @@
 -- Drivers that only seem to work, and the promise that each breaks.
 -- Assumes nothing.
-use Prim.Native.Nat.{ℕ, zero, suc, _+_, _*_, _<_}
-use mathlib.Core.Path.{_≡_, refl, sym, _∙_, ap}
-use mathlib.Core.Bool.{Bool, true, false, cond}
-use mathlib.Core.List.{List, [], _∷_}
+use Prim.Native.Nat.{ℕ, _+_}
+use mathlib.Core.Path.{_≡_, refl, ap}
+use mathlib.Core.Bool.{true}
+use mathlib.Core.List.{[], _∷_}
 use lib.ListN.{length, replicate}
 use native.Mathlib.Omega.{arith}
-use Rattle.parts.specs.declared.Refusal.{Refusal}
 use Rattle.parts.specs.declared.Refusal.the-variants.{BadState}
 use Rattle.parts.specs.Refusals.{numberOf, givenOf}
 use Rattle.parts.specs.Table.{factsOf, enableRightOf, addressBytesOf}
-use Rattle.driver.specs.declared.Place.the-variants.{Array, Ident}
+use Rattle.driver.specs.declared.Place.the-variants.{Array}
 use Rattle.driver.specs.declared.Request.{Request}
 use Rattle.driver.specs.declared.Failed.{Failed}
 use Rattle.driver.specs.declared.Failed.the-variants.{AtSelect, AtData, AtPolls}
 use Rattle.driver.specs.declared.Answer.{Answer}
 use Rattle.driver.specs.declared.Answer.the-variants.{Send, Done, Refused}
-use Rattle.driver.specs.declared.Asked.{Asked}
 use Rattle.driver.specs.Split.{pagesOf}
 use Rattle.driver.specs.Request.{beyondAt, limitOf, faultsOf, judgeOf, allowedOf, kOf}
 use Rattle.driver.specs.Step.{refusalOf, readyOf, stepOf, countsRight, rangeOf, nextOf}
-use Rattle.driver_laws.specs.Run.{Machine, begun}
+use Rattle.driver_laws.specs.Run.{Machine}
 use Rattle.driver_laws.specs.Promises.{Accepted, Promises}
 
 -- a read of n bytes at 0, on part 0

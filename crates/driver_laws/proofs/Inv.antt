@@ -1,9 +1,9 @@
 -- What every driver on the way keeps to, by its phase.
 -- Assumes nothing.
 use Prim.Native.Nat.{ℕ, zero, suc, _+_, _-_, _*_, _≤_, _<_}
-use mathlib.Core.Path.{_≡_, refl, sym, _∙_, ap, subst}
-use mathlib.Core.Bool.{Bool, true, false, cond, not, false≢true}
-use mathlib.Core.List.{List, [], _∷_}
+use mathlib.Core.Path.{_≡_, refl, sym, _∙_, ap}
+use mathlib.Core.Bool.{Bool, true, false, not, false≢true}
+use mathlib.Core.List.{List}
 use lib.ListN.{length}
 use lib.Dec.{ltb}
 use borrow.Author.Tests.{ltb-true, ltb-false}
@@ -14,19 +14,18 @@ use Rattle.parts.proofs.Laws.{sound}
 use Rattle.driver.specs.declared.Request.{Request}
 use Rattle.driver.specs.declared.Slot.{Slot}
 use Rattle.driver.specs.declared.Slot.the-variants.{Select, High, Low, Data, Poll, Turn, Take}
-use Rattle.driver.specs.declared.Failed.{Failed}
 use Rattle.driver.specs.declared.Phase.{Phase}
 use Rattle.driver.specs.declared.Phase.the-variants.{Ready, Bits, Heard, Rest, Over}
 use Rattle.driver.specs.declared.Counts.{Counts}
 use Rattle.driver.specs.declared.Move.{Move}
-use Rattle.driver.specs.Split.{firstOf, pagesOf}
-use Rattle.driver.specs.Request.{fromOf, judgeOf, allowedOf, kOf, GoodRequest}
-use Rattle.driver.specs.Step.{withByte, takenOf, sentOf, clocksOf, phaseRight, slotRight, fine, GoodCounts}
+use Rattle.driver.specs.Split.{pagesOf}
+use Rattle.driver.specs.Request.{fromOf, judgeOf, allowedOf, kOf}
+use Rattle.driver.specs.Step.{withByte, takenOf, clocksOf, phaseRight, fine, GoodCounts}
 use Rattle.driver.proofs.Facts.{good-request}
 use Rattle.driver_laws.specs.Plan.{placeOf, lengthOf}
 use Rattle.driver_laws.specs.Where.{leftOf}
 use Rattle.driver_laws.proofs.Split.{first-is, first-pos, pages-none, cut-first}
-use Rattle.driver_laws.proofs.View.{at, leads, takes, Room, Way, w-done, w-open, w-bit, w-ninth, w-got, w-nack, w-high, w-only, w-low, w-turn, w-data, w-more, w-close, w-drop, w-poll, w-again, w-give, w-page, w-take, w-next, w-end, w-over}
+use Rattle.driver_laws.proofs.View.{at, leads, Room, Way, w-done, w-open, w-bit, w-ninth, w-got, w-nack, w-high, w-only, w-low, w-turn, w-data, w-more, w-close, w-drop, w-poll, w-again, w-give, w-page, w-take, w-next, w-end, w-over}
 
 abbrev pub wide : Request → Bool
 wide r = factsOf (r .part) .wide

@@ -1,17 +1,15 @@
 -- Our driver keeps its promises.
 -- Assumes nothing.
-use Prim.Native.Nat.{ℕ, zero, suc, _+_, _-_, _*_, _≤_, _<_}
+use Prim.Native.Nat.{ℕ, _+_, _-_, _*_, _<_}
 use mathlib.Core.Path.{_≡_, refl, sym, _∙_, ap, subst}
-use mathlib.Core.Bool.{Bool, true, false, cond, not, false≢true}
-use mathlib.Core.List.{List, [], _∷_, _++_}
+use mathlib.Core.Bool.{Bool, true, false, cond}
+use mathlib.Core.List.{List, [], _∷_}
 use lib.ListN.{length, getD}
-use lib.Dec.{eqb, ltb}
+use lib.Dec.{eqb}
 use native.Mathlib.Omega.{arith}
-use borrow.Author.Tests.{eqb-true, eqb-false, eq-eqb, ne-eqb}
+use borrow.Author.Tests.{eq-eqb, ne-eqb}
 use Rattle.parts.specs.declared.Refusal.{Refusal}
-use Rattle.parts.specs.declared.Verdict.{Verdict}
 use Rattle.driver.specs.declared.Request.{Request}
-use Rattle.driver.specs.declared.Slot.{Slot}
 use Rattle.driver.specs.declared.Failed.{Failed}
 use Rattle.driver.specs.declared.Phase.{Phase}
 use Rattle.driver.specs.declared.Phase.the-variants.{Ready, Bits, Heard, Rest, Over}
@@ -22,16 +20,16 @@ use Rattle.driver.specs.declared.Answer.the-variants.{Send, Done, Refused}
 use Rattle.driver.specs.declared.Move.{Move}
 use Rattle.driver.specs.declared.Asked.{Asked}
 use Rattle.driver.specs.Split.{sum}
-use Rattle.driver.specs.Request.{judgeOf, allowedOf, kOf}
-use Rattle.driver.specs.Step.{fine, refusalOf, bufferOf, nextOf}
-use Rattle.driver_laws.specs.Run.{Machine, ours, Held, begun, sentBy, answerOf, told, afterAll, eventsOf, Finished, clocksIn, pollsIn, addressBytes, boundOf}
+use Rattle.driver.specs.Request.{judgeOf, kOf}
+use Rattle.driver.specs.Step.{fine, refusalOf, bufferOf}
+use Rattle.driver_laws.specs.Run.{ours, Held, answerOf, told, Finished, clocksIn, addressBytes, boundOf}
 use Rattle.driver_laws.specs.Plan.{writePlan, readPlan}
 use Rattle.driver_laws.specs.Where.{leftOf, Parts, Before, Stopped}
-use Rattle.driver_laws.specs.Promises.{Accepted, after, sent, answers, OneEach, PollsSent, Written, Taken, DoneAll, DoneOf, RefusedAt, Promises}
+use Rattle.driver_laws.specs.Promises.{Accepted, after, sent, answers, OneEach, PollsSent, DoneAll, DoneOf, RefusedAt, Promises}
 use Rattle.driver_laws.proofs.View.{at, Way, w-done, w-open, w-bit, w-ninth, w-got, w-nack, w-high, w-only, w-low, w-turn, w-data, w-more, w-close, w-drop, w-poll, w-again, w-give, w-page, w-take, w-next, w-end, w-over, Steps}
-use Rattle.driver_laws.proofs.Inv.{Inv, left-all, left-none}
-use Rattle.driver_laws.proofs.Grow.{A, D, heads, clocksAt, over}
-use Rattle.driver_laws.proofs.Trail.{Trail, Told}
+use Rattle.driver_laws.proofs.Inv.{left-all, left-none}
+use Rattle.driver_laws.proofs.Grow.{A, D, heads, over}
+use Rattle.driver_laws.proofs.Trail.{Told}
 use Rattle.driver_laws.proofs.Story.{Story, Ran, held, one-step, ran}
 use Rattle.driver_laws.proofs.Bound.{bounded, no-polls}
 

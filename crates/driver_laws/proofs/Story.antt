@@ -1,33 +1,31 @@
 -- A whole run, with any levels: what holds of the driver, its buffer, the events sent and the levels told.
 -- Assumes nothing.
-use Prim.Native.Nat.{ℕ, zero, suc, _+_, _-_, _*_, _≤_, _<_}
+use Prim.Native.Nat.{ℕ, zero, _+_, _-_, _*_}
 use mathlib.Core.Path.{_≡_, refl, sym, _∙_, ap, subst}
-use mathlib.Core.Bool.{Bool, true, false, cond, not, false≢true}
+use mathlib.Core.Bool.{Bool, true, false, cond, false≢true}
 use mathlib.Core.List.{List, [], _∷_, _++_, append-nil, append-assoc}
-use lib.ListN.{length, set, length-append, length-set}
+use lib.ListN.{length, length-append, length-set}
 use lib.Dec.{eqb, ltb}
 use native.Mathlib.Omega.{arith}
 use Rattle.driver.specs.declared.Request.{Request}
 use Rattle.driver.specs.declared.Slot.{Slot}
 use Rattle.driver.specs.declared.Slot.the-variants.{Select, High, Low, Data, Poll, Turn, Take}
-use Rattle.driver.specs.declared.Failed.{Failed}
 use Rattle.driver.specs.declared.Phase.{Phase}
 use Rattle.driver.specs.declared.Phase.the-variants.{Ready, Bits, Heard, Rest, Over}
 use Rattle.driver.specs.declared.Counts.{Counts}
-use Rattle.driver.specs.declared.Driver.{Driver}
 use Rattle.driver.specs.declared.Answer.{Answer}
 use Rattle.driver.specs.declared.Answer.the-variants.{Send, Done, Refused}
 use Rattle.driver.specs.declared.Move.{Move}
 use Rattle.driver.specs.declared.Asked.{Asked}
 use Rattle.driver.specs.Request.{judgeOf, allowedOf, kOf}
-use Rattle.driver.specs.Step.{both, fine, refusalOf, shiftOf, bufferOf, nextOf, fresh}
-use Rattle.driver_laws.specs.Run.{Machine, ours, Held, begun, sentBy, answerOf, told, afterAll, eventsOf, Finished, clocksIn, pollsIn, clockOfByte}
-use Rattle.driver_laws.specs.Where.{leftOf, Before, Parts}
+use Rattle.driver.specs.Step.{both, fine, shiftOf, bufferOf, fresh}
+use Rattle.driver_laws.specs.Run.{ours, Held, begun, sentBy, told, afterAll, eventsOf, clocksIn, pollsIn, clockOfByte}
+use Rattle.driver_laws.specs.Where.{leftOf, Before}
 use Rattle.driver_laws.proofs.View.{at, leads, takes, Way, w-done, w-open, w-bit, w-ninth, w-got, w-nack, w-high, w-only, w-low, w-turn, w-data, w-more, w-close, w-drop, w-poll, w-again, w-give, w-page, w-take, w-next, w-end, w-over, Steps, steps}
 use Rattle.driver_laws.proofs.Inv.{Inv, in-range, room-in, inv-step, left-all}
-use Rattle.driver_laws.proofs.Grow.{A, heads, ends, clocksAt, endsAt, over, oddAt, turn, Grow, Grown, grow}
-use Rattle.driver_laws.proofs.Trail.{Trail, Told, trail-step}
-use Rattle.driver_laws.proofs.Got.{Bytes, Gets, Long, got-step}
+use Rattle.driver_laws.proofs.Grow.{A, heads, ends, clocksAt, endsAt, over, oddAt, turn, Grown, grow}
+use Rattle.driver_laws.proofs.Trail.{Told, trail-step}
+use Rattle.driver_laws.proofs.Got.{Gets, Long, got-step}
 use Rattle.driver_laws.proofs.Bound.{no-polls}
 
 -- ---- one event more at the end

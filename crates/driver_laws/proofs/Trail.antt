@@ -1,17 +1,15 @@
 -- The events so far as a list written out from the state: each way adds its event at the end.
 -- Assumes nothing.
-use Prim.Native.Nat.{ℕ, zero, suc, _+_, _-_, _*_, _/_, _%_, _≤_, _<_}
+use Prim.Native.Nat.{ℕ, zero, suc, _+_, _-_, _≤_, _<_}
 use mathlib.Core.Path.{_≡_, refl, sym, _∙_, ap, subst}
-use mathlib.Core.Bool.{Bool, true, false, cond, not, false≢true}
+use mathlib.Core.Bool.{Bool, true, false, cond, false≢true}
 use mathlib.Core.List.{List, [], _∷_, _++_, append-nil}
-use lib.ListN.{length, getD, set, length-append, List·getD-append}
+use lib.ListN.{length, getD, length-append, List·getD-append}
 use lib.Seq.{getD-append-seam}
-use lib.Dec.{eqb, ltb}
+use lib.Dec.{eqb}
 use native.Mathlib.Omega.{arith}
 use native.Mathlib.Numerals.{add-one}
-use native.Mathlib.Nat.{add-zero}
 use borrow.Author.Tests.{eq-eqb, ne-eqb}
-use Rattle.parts.specs.Table.{factsOf}
 use Rattle.driver.specs.declared.Request.{Request}
 use Rattle.driver.specs.declared.Slot.{Slot}
 use Rattle.driver.specs.declared.Slot.the-variants.{Select, High, Low, Data, Poll, Turn, Take}
@@ -20,17 +18,15 @@ use Rattle.driver.specs.declared.Failed.the-variants.{AtSelect, AtData, AtPolls
 use Rattle.driver.specs.declared.Phase.{Phase}
 use Rattle.driver.specs.declared.Phase.the-variants.{Ready, Bits, Heard, Rest, Over}
 use Rattle.driver.specs.declared.Counts.{Counts}
-use Rattle.driver.specs.declared.Answer.{Answer}
-use Rattle.driver.specs.declared.Answer.the-variants.{Send, Done, Refused}
 use Rattle.driver.specs.declared.Move.{Move}
 use Rattle.driver.specs.Split.{sum}
-use Rattle.driver.specs.Request.{allowedOf, kOf}
-use Rattle.driver.specs.Step.{wireOf, byteOf, bitOf, shiftOf, goes, withByte, withNext, takenOf}
+use Rattle.driver.specs.Request.{allowedOf}
+use Rattle.driver.specs.Step.{wireOf, byteOf, bitOf, withByte, withNext}
 use Rattle.driver_laws.specs.Run.{sentBy}
-use Rattle.driver_laws.specs.Plan.{thenStart, thenStop, thenBits, thenByte, thenPolls, thenData, thenTaken, placeOf, selectOf, thenSelect, thenHigh, thenHead, lengthOf, thenPart, thenParts, bytesOf, readPlan}
+use Rattle.driver_laws.specs.Plan.{thenStart, thenStop, thenBits, thenByte, thenPolls, thenData, thenTaken, selectOf, thenSelect, thenHigh, thenHead, lengthOf, thenPart, thenParts, bytesOf, readPlan}
 use Rattle.driver_laws.specs.Where.{leftOf, Within, Parts, Before, Byte, the-select, the-high, the-low, the-turn, the-data, the-poll, Stopped}
-use Rattle.driver_laws.proofs.View.{at, clockOf, leads, takes, Way, w-done, w-open, w-bit, w-ninth, w-got, w-nack, w-high, w-only, w-low, w-turn, w-data, w-more, w-close, w-drop, w-poll, w-again, w-give, w-page, w-take, w-next, w-end, w-over}
-use Rattle.driver_laws.proofs.Inv.{wide, stop, left-cut, Common, Home, Head, Fill, Filled, Closed, Got, In, After, Here, Inv, taken-elim, not-yes}
+use Rattle.driver_laws.proofs.View.{at, clockOf, leads, Way, w-done, w-open, w-bit, w-ninth, w-got, w-nack, w-high, w-only, w-low, w-turn, w-data, w-more, w-close, w-drop, w-poll, w-again, w-give, w-page, w-take, w-next, w-end, w-over}
+use Rattle.driver_laws.proofs.Inv.{wide, stop, left-cut, Closed, Inv, taken-elim, not-yes}
 
 -- ---- the events before the byte of a slot, after it, and at a phase; past: those before the part
 module _ (r : Request) (xs past : List ℕ) (a s t : ℕ) where

@@ -1,13 +1,13 @@
 -- The ways of a step: one constructor for each, with what holds there. Every law of a run goes by these.
 -- Assumes nothing.
-use Prim.Native.Nat.{ℕ, zero, suc, _+_, _-_, _*_, _≤_, _<_}
-use mathlib.Core.Path.{_≡_, refl, sym, _∙_, ap, subst}
-use mathlib.Core.Bool.{Bool, true, false, cond, not, false≢true}
-use mathlib.Core.List.{List, [], _∷_}
+use Prim.Native.Nat.{ℕ, _+_, _-_, _≤_, _<_}
+use mathlib.Core.Path.{_≡_, refl}
+use mathlib.Core.Bool.{Bool, true, false, cond}
+use mathlib.Core.List.{List}
 use lib.ListN.{length, getD, set}
-use lib.Dec.{eqb, leb, ltb}
+use lib.Dec.{eqb, ltb}
 use native.Mathlib.Omega.{arith}
-use borrow.Author.Tests.{ltb-true, ltb-false, leb-true, leb-false, eqb-true, eqb-false, lt-ltb, le-leb, lt-leb}
+use borrow.Author.Tests.{ltb-true, ltb-false, eqb-true, eqb-false, lt-ltb, le-leb, lt-leb}
 use Rattle.parts.specs.Table.{factsOf}
 use Rattle.parts.proofs.Laws.{branch}
 use Rattle.driver.specs.declared.Request.{Request}
@@ -19,12 +19,10 @@ use Rattle.driver.specs.declared.Phase.{Phase}
 use Rattle.driver.specs.declared.Phase.the-variants.{Ready, Bits, Heard, Rest, Over}
 use Rattle.driver.specs.declared.Counts.{Counts}
 use Rattle.driver.specs.declared.Driver.{Driver}
-use Rattle.driver.specs.declared.Answer.{Answer}
-use Rattle.driver.specs.declared.Answer.the-variants.{Send, Done, Refused}
+use Rattle.driver.specs.declared.Answer.the-variants.{Done}
 use Rattle.driver.specs.declared.Move.{Move}
-use Rattle.driver.specs.declared.Asked.{Asked}
 use Rattle.driver.specs.Request.{judgeOf, allowedOf}
-use Rattle.driver.specs.Step.{both, wireOf, byteOf, bitOf, ninthOf, shiftOf, withByte, withNext, withPoll, withSeen, takenOf, sentOf, goes, opens, readyOf, bitsAt, leadAt, lowAt, dataAt, pollOf, answeredOf, takeAt, endOf, heardOf, bitsOf, overOf, moveAt, stepOf, clocksOf, phaseRight, fine, rangeOf, GoodCounts, nextOf, wholeOf, keptOf, bufferOf}
+use Rattle.driver.specs.Step.{wireOf, byteOf, bitOf, shiftOf, withNext, withPoll, withSeen, takenOf, sentOf, goes, opens, readyOf, bitsAt, leadAt, lowAt, dataAt, pollOf, answeredOf, takeAt, endOf, heardOf, bitsOf, overOf, moveAt, stepOf, clocksOf, fine, GoodCounts, nextOf, wholeOf, keptOf, bufferOf}
 use Rattle.driver.proofs.Facts.{range-good}
 
 -- a driver from its parts

@@ -1,6 +1,6 @@
 -- Where a refused driver was refused: which byte of its events was not acknowledged.
 -- Assumes nothing.
-use Prim.Native.Nat.{ℕ, zero, suc, _+_, _-_, _/_, _%_, _<_, _≤_}
+use Prim.Native.Nat.{ℕ, _+_, _-_, _/_, _%_, _<_, _≤_}
 use mathlib.Core.Path.{_≡_}
 use mathlib.Core.Bool.{Bool, true, false, cond}
 use mathlib.Core.List.{List, [], _∷_}
@@ -11,7 +11,7 @@ use Rattle.driver.specs.declared.Request.{Request}
 use Rattle.driver.specs.declared.Failed.{Failed}
 use Rattle.driver.specs.declared.Failed.the-variants.{AtSelect, AtData, AtPolls}
 use Rattle.driver.specs.Split.{sum, pagesOf}
-use Rattle.driver.specs.Request.{fromOf, allowedOf, kOf}
+use Rattle.driver.specs.Request.{allowedOf, kOf}
 use Rattle.driver_laws.specs.Plan.{thenStart, thenStop, thenByte, thenPolls, thenData, placeOf, selectOf, thenSelect, thenHigh, thenHead, lengthOf, thenParts, bytesOf, readPlan}
 
 -- the pages that the bytes from number o on meet

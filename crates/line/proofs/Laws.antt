@@ -1,6 +1,6 @@
 -- Laws that the proofs of the code share: the page rule's bounds, and a byte's ninth clock and its bits by number.
 -- Assumes nothing.
-use mathlib.Core.Path.{_≡_, refl, sym, ap, subst}
+use mathlib.Core.Path.{_≡_, refl}
 use Prim.Native.Nat.{ℕ, zero, suc, _+_, _-_, _*_, _/_, _%_, _^_, _<_, _≤_}
 use native.Mathlib.Nat.{mod-lt, div-lt-iff-lt-mul, mul-le-mul-right, div-eq-of-lt, pow-le-pow-right}
 use native.Mathlib.Omega.{arith}
@@ -11,9 +11,7 @@ use Rattle.line.specs.declared.Line.{Line}
 use Rattle.line.specs.declared.Recv.{Recv}
 use Rattle.line.specs.declared.Target.{Target}
 use Rattle.line.specs.declared.Target.the-variants.{Array, Ident}
-use Rattle.line.specs.declared.Phase.{Phase}
 use Rattle.line.specs.declared.Phase.the-variants.{Receive, Send}
-use Rattle.line.specs.declared.Act.{Act}
 use Rattle.line.specs.declared.Act.the-variants.{Keep}
 use Rattle.line.specs.Rules.{receivedOf, receiveActOf, receiveLevelOf, sentOf, sendLevelOf, movedOf, bitNumber, beforeOf}
 

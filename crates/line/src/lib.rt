@@ -2,64 +2,7 @@
 ghost use mathlib.Core.Path.{_≡_};
 ghost use Prim.Native.Nat.{_+_, _*_, _<_};
 ghost use Rattle.parts.specs.Table.{factsOf};
-ghost use Rattle.line.specs.Rules.{
-  isHigh,
-  at,
-  goes,
-  givenUp,
-  landed,
-  rollOf,
-  beforeOf,
-  onwardOf,
-  enabledOf,
-  namedOf,
-  decodeOf,
-  firstOf,
-  selectedOf,
-  loadArrayOf,
-  loadIdOf,
-  loadedOf,
-  refusesOf,
-  latchedOf,
-  takenOf,
-  filledOf,
-  lockedByOf,
-  endedByOf,
-  markedIn,
-  receivedOf,
-  receiveActOf,
-  receiveLevelOf,
-  releasedIn,
-  movedOf,
-  sentOf,
-  sendLevelOf,
-  clockedOf,
-  clockActOf,
-  clockLevelOf,
-  startedOf,
-  startActOf,
-  asksOf,
-  placedOf,
-  dueOf,
-  stoppedOf,
-  stopActOf,
-  stopBegunOf,
-  endedOf,
-  endActOf,
-  pinnedOf,
-  resetOf,
-  opened,
-  marked,
-  quietly,
-  counting,
-  bitOn,
-  bitNumber,
-  levelOf,
-  begunOf,
-  nextOf,
-  actOf,
-  moveOf,
-};
+ghost use Rattle.line.specs.Rules.{isHigh, at, givenUp, rollOf, beforeOf, onwardOf, enabledOf, namedOf, decodeOf, firstOf, selectedOf, loadArrayOf, loadIdOf, loadedOf, refusesOf, latchedOf, takenOf, filledOf, lockedByOf, endedByOf, markedIn, receivedOf, receiveActOf, receiveLevelOf, releasedIn, movedOf, sentOf, sendLevelOf, clockedOf, clockActOf, clockLevelOf, startedOf, startActOf, asksOf, placedOf, dueOf, stoppedOf, stopActOf, stopBegunOf, endedOf, endActOf, pinnedOf, resetOf, opened, marked, quietly, bitNumber, moveOf};
 use parts::ArrayAddress;
 use parts::Event;
 use parts::IdLocation;
@@ -186,7 +129,7 @@ fn rolled(part: u8, counter: u16) -> u16
 }
 
 // The place before the counter in its page, rolled over.
-pub fn before(part: u8, counter: u16) -> usize
+fn before(part: u8, counter: u16) -> usize
     ensures { λ r. ⌜ r ≡ beforeOf (factsOf part .page) counter ⌝ }
 {
     let f = parts::facts_of(part);
@@ -406,7 +349,7 @@ fn lock(core: Core, byte: u8) -> After
 }
 
 // What a whole received byte does.
-pub fn take(part: u8, enable: u8, core: Core, recv: Recv, byte: u8) -> After
+fn take(part: u8, enable: u8, core: Core, recv: Recv, byte: u8) -> After
     ensures { λ r. ⌜ r ≡ takenOf (factsOf part) enable core recv byte ⌝ }
 {
     match recv {

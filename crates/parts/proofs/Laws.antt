@@ -5,7 +5,6 @@ use Prim.Native.Nat.{ℕ}
 use mathlib.Core.Bool.{Bool, true, false, cond}
 use native.Mathlib.Omega.{arith}
 use lib.Dec.{eqb}
-use Rattle.parts.specs.declared.Facts.{Facts}
 use Rattle.parts.specs.Table.{factsOf}
 use Rattle.parts.specs.Sound.{Sound}
 use Rattle.parts.specs.declared.Refusal.{Refusal}

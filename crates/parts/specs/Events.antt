@@ -1,7 +1,7 @@
 -- Document 01, 'Bus events': the codes, and which of them a part takes (refusal 5).
 -- Assumes nothing.
 use Prim.Native.Nat.{ℕ}
-use mathlib.Core.Bool.{Bool, true, false, cond, not}
+use mathlib.Core.Bool.{Bool, true, false, cond}
 use lib.Dec.{eqb, ltb}
 use Rattle.parts.specs.declared.Event.{Event}
 use Rattle.parts.specs.declared.Event.the-variants.{Clock, Start, Stop, Ends, PinLow, PinHigh, PinFloat, Reset, Unknown}

@@ -2,11 +2,10 @@
 -- Assumes nothing.
 use Prim.Native.Nat.{ℕ}
 use native.Mathlib.Omega.{arith}
-use mathlib.Core.Path.{_≡_, refl, sym, ap, _∙_}
+use mathlib.Core.Path.{_≡_, refl, ap, _∙_}
 use mathlib.Core.Bool.{Bool, true, false, false≢true}
-use mathlib.Core.List.{List, [], _∷_}
-use lib.ListN.{length, getD, replicate, length-replicate}
-use Rattle.parts.specs.declared.Refusal.{Refusal}
+use mathlib.Core.List.{List, []}
+use lib.ListN.{length, replicate}
 use Rattle.parts.specs.declared.Verdict.{Verdict}
 use Rattle.parts.specs.declared.Verdict.the-variants.{Fine, Refused}
 use Rattle.parts.specs.Table.{factsOf, idSizeOf, enableRightOf}
@@ -20,7 +19,7 @@ use Rattle.chip.specs.Delivery.{pinAtFirstOf, standbyOf}
 use Rattle.chip.specs.Calls.{buffersRightOf, deliverVerdictOf, stepVerdictOf, runVerdictOf}
 use Rattle.promises.specs.Calls.{deliverLeftOf, deliverOf, stepLeftOf, stepOf, runLeftOf, runOf, stepVerdict, runVerdict}
 use Rattle.promises.specs.Model.{ours, levelsBy}
-use Rattle.promises.specs.Idle.{RefusesByTable, RefusingBreaks, SelectTrials, constant, ConstantBreaks}
+use Rattle.promises.specs.Idle.{RefusesByTable, RefusingBreaks, SelectTrials, ConstantBreaks}
 
 -- ---- the refusal table
 

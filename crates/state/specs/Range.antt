@@ -2,7 +2,7 @@
 -- the counter's page.
 -- Assumes nothing.
 use Prim.Native.Nat.{ℕ, _+_, _-_, _%_}
-use mathlib.Core.Bool.{Bool, true, false, not, cond, _&&_, _||_}
+use mathlib.Core.Bool.{Bool, true, false, not, cond}
 use mathlib.Core.List.{List, [], _∷_}
 use lib.ListN.{getD, drop}
 use lib.Dec.{ltb, leb, eqb}
@@ -18,7 +18,6 @@ use Rattle.line.specs.declared.Cycle.the-variants.{Writing, Locking}
 use Rattle.line.specs.declared.Phase.{Phase}
 use Rattle.line.specs.declared.Phase.the-variants.{Idle, Receive, Send, Busy}
 use Rattle.line.specs.declared.Core.{Core}
-use Rattle.line.specs.declared.Line.{Line}
 use Rattle.line.specs.Rules.{isHigh}
 use Rattle.state.specs.declared.Chip.{Chip}
 

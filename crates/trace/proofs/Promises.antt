@@ -1,7 +1,7 @@
 -- The promises of specs/Promises.antt: a long text is answered as its front, and the printed example comes out by computation.
 -- Assumes nothing.
 use Prim.Native.Nat.{ℕ, _+_, _-_, _≤_, _<_}
-use mathlib.Core.Path.{_≡_, _∙_, sym, ap, refl}
+use mathlib.Core.Path.{_≡_, _∙_, sym, refl}
 use mathlib.Core.Bool.{Bool, true, false}
 use mathlib.Core.List.{List, [], _∷_, _++_}
 use native.Mathlib.Omega.{arith}
@@ -28,7 +28,7 @@ use Rattle.chip.specs.Memory.{Mem, noLatch, oneOf, pageStartOf, committedOf, cy
 use Rattle.chip.specs.Runs.{afterOf, memoryOf, levelsOf, cyclesOf}
 use Rattle.chip.specs.Delivery.{pinAtFirstOf, standbyOf, codedOf, deliveredIdOf, deliveredOf}
 use Rattle.chip.specs.Calls.{buffersRightOf, runVerdictOf}
-use Rattle.trace.specs.Trace.{headRightOf, lettersEndOf, lettersOf, codeOf, charOf, leadingOf, decimalOf, refusalTextOf, linesOf, tracedVerdictOf, tracedOf, traceOf, longVerdictOf, reportOf, charsOf, placeTextOf, placeIn, atWord, refusedWord, partWord, cyclesWord, newline, countOf}
+use Rattle.trace.specs.Trace.{headRightOf, lettersEndOf, lettersOf, codeOf, charOf, leadingOf, decimalOf, refusalTextOf, linesOf, tracedVerdictOf, tracedOf, traceOf, reportOf, charsOf, placeTextOf, placeIn, atWord, refusedWord, partWord, cyclesWord, newline, countOf}
 use Rattle.trace.specs.Promises.{ReadsNoFurther, AnswerFits, PrintedExample}
 use Rattle.trace.proofs.Laws.{letters-range}
 use Rattle.trace.proofs.Texts.{decimal-short, each-length}

@@ -7,7 +7,7 @@ ghost use lib.ListN.{length, take, drop};
 ghost use Rattle.parts.specs.Table.{factsOf, idSizeOf};
 ghost use Rattle.chip.specs.Delivery.{standbyOf, deliveredOf};
 ghost use Rattle.chip.specs.Calls.{runVerdictOf, runBy, runAnswers};
-ghost use Rattle.trace.specs.Trace.{digitOf, headRightOf, lettersEndOf, lettersOf, codeOf, codesOf, charOf, charsOf, digitsOf, leadingOf, decimalOf, placeIn, placeTextOf, refusalTextOf, answerTextOf, tracedVerdictOf, reportOf, tracedOf, longVerdictOf, traceOf, laidOf, countOf, newline};
+ghost use Rattle.trace.specs.Trace.{digitOf, headRightOf, lettersEndOf, lettersOf, codeOf, codesOf, charOf, charsOf, digitsOf, leadingOf, decimalOf, placeIn, placeTextOf, refusalTextOf, reportOf, tracedOf, longVerdictOf, traceOf, laidOf, countOf, newline};
 use chip::Ran;
 use chip::Scan;
 use parts::Faults;

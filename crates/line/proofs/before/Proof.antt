@@ -4,8 +4,6 @@ use native.Mathlib.Nat.{mod-lt}
 use native.Mathlib.Omega.{arith}
 use borrow.Author.Needs.{needs}
 use Rattle.parts.proofs.Kit.{tests}
-use mathlib.Core.Path.{sym, refl}
-use borrow.Author.Tests.{not-true, not-false}
 use Rattle.line.specs.Rules.{beforeOf}
 use Rattle.line.proofs.before.Statement.{statement}
 use Rattle.line.proofs.before.Tie as tie

@@ -2,8 +2,7 @@ use Rattle.line.proofs.Laws.{send-bit, send-past}
 use native.Mathlib.Omega.{arith}
 use borrow.Author.Needs.{needs}
 use Rattle.parts.proofs.Kit.{tests}
-use mathlib.Core.Path.{sym, refl}
-use borrow.Author.Tests.{not-true, not-false}
+use mathlib.Core.Path.{sym}
 use Rattle.line.specs.Rules.{sendLevelOf}
 use Rattle.line.proofs.bit_at.Statement.{statement}
 use Rattle.line.proofs.bit_at.Tie as tie

@@ -5,8 +5,7 @@ use native.Mathlib.Nat.{mod-lt}
 use native.Mathlib.Omega.{arith}
 use borrow.Author.Needs.{needs}
 use Rattle.parts.proofs.Kit.{tests}
-use mathlib.Core.Path.{sym, refl}
-use borrow.Author.Tests.{not-true, not-false}
+use mathlib.Core.Path.{sym}
 use Rattle.line.specs.Rules.{movedOf}
 use Rattle.line.proofs.count_on.Statement.{statement}
 use Rattle.line.proofs.count_on.Tie as tie

@@ -1,7 +1,4 @@
 use borrow.Author.Needs.{needs}
-use Rattle.parts.proofs.Kit.{tests}
-use mathlib.Core.Path.{sym, refl}
-use borrow.Author.Tests.{not-true, not-false}
 use Rattle.line.specs.Rules.{latchedOf}
 use Rattle.line.proofs.latch.Statement.{statement}
 use Rattle.line.proofs.latch.Tie as tie

@@ -2,8 +2,6 @@ use native.Mathlib.Nat.{mod-lt}
 use native.Mathlib.Omega.{arith}
 use borrow.Author.Needs.{needs}
 use Rattle.parts.proofs.Kit.{tests}
-use mathlib.Core.Path.{sym, refl}
-use borrow.Author.Tests.{not-true, not-false}
 use Rattle.line.specs.Rules.{loadArrayOf}
 use Rattle.line.proofs.load_array.Statement.{statement}
 use Rattle.line.proofs.load_array.Tie as tie

@@ -5,9 +5,6 @@ use Prim.Native.Nat.{_+_, _-_}
 use native.Mathlib.Nat.{mod-lt}
 use native.Mathlib.Omega.{arith}
 use borrow.Author.Needs.{needs}
-use Rattle.parts.proofs.Kit.{tests}
-use mathlib.Core.Path.{sym, refl}
-use borrow.Author.Tests.{not-true, not-false}
 use Rattle.line.specs.Rules.{onwardOf}
 use Rattle.line.proofs.onward.Statement.{statement}
 use Rattle.line.proofs.onward.Tie as tie

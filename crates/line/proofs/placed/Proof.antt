@@ -1,6 +1,4 @@
 use Rattle.parts.proofs.Kit.{tests}
-use mathlib.Core.Path.{sym, refl}
-use borrow.Author.Tests.{not-true, not-false}
 use Rattle.line.specs.Rules.{placedOf}
 use Rattle.line.proofs.placed.Statement.{statement}
 use Rattle.line.proofs.placed.Tie as tie

@@ -1,12 +1,10 @@
 use native.Mathlib.Nat.{mod-lt}
 use Prim.Native.Nat.{_+_, _-_}
 use Rattle.line.proofs.Laws.{page-room}
-use native.Mathlib.Nat.{mod-lt, div-mul-le-self}
+use native.Mathlib.Nat.{mod-lt}
 use native.Mathlib.Omega.{arith}
 use borrow.Author.Needs.{needs}
 use Rattle.parts.proofs.Kit.{tests}
-use mathlib.Core.Path.{sym, refl}
-use borrow.Author.Tests.{not-true, not-false}
 use Rattle.line.specs.Rules.{rollOf}
 use Rattle.line.proofs.rolled.Statement.{statement}
 use Rattle.line.proofs.rolled.Tie as tie

@@ -2,9 +2,6 @@ use Rattle.line.proofs.Laws.{sent-bit}
 use Rattle.parts.specs.Table.{factsOf}
 use native.Mathlib.Omega.{arith}
 use borrow.Author.Needs.{needs}
-use Rattle.parts.proofs.Kit.{tests}
-use mathlib.Core.Path.{sym, refl}
-use borrow.Author.Tests.{not-true, not-false}
 use Rattle.line.specs.Rules.{sentOf, sendLevelOf}
 use Rattle.line.proofs.send.Statement.{statement}
 use Rattle.line.proofs.send.Tie as tie

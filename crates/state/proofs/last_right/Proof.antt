@@ -3,8 +3,6 @@ use native.Mathlib.Nat.{mod-lt}
 use native.Mathlib.Omega.{arith}
 use borrow.Author.Needs.{needs}
 use Rattle.parts.proofs.Kit.{tests}
-use mathlib.Core.Path.{sym, refl}
-use borrow.Author.Tests.{not-true, not-false}
 use Rattle.state.specs.Range.{lastRightOf}
 use Rattle.state.proofs.last_right.Statement.{statement}
 use Rattle.state.proofs.last_right.Tie as tie
