@@ -291,10 +291,6 @@ unfitOf d = record { answer = Refused BadState 0 0; driver = d }
 unfoldable pub nextOf : Driver → ℕ → List ℕ → Asked
 nextOf d level buffer = cond (rangeOf d (length buffer)) (stepOf d level (getD buffer (d .counts .at) 0)) (unfitOf d)
 
--- the same, for writes only
-unfoldable pub nextWriteOf : Driver → ℕ → List ℕ → Asked
-nextWriteOf d level bytes = cond (d .request .reads) (unfitOf d) (nextOf d level bytes)
-
 -- the eighth bit of a byte that is read was told
 abbrev pub slotWhole : Slot → ℕ → Bool
 slotWhole Select b = false

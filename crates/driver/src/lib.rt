@@ -16,7 +16,7 @@ ghost use Rattle.driver.specs.Request.{
   kOf,
   GoodRequest,
 };
-ghost use Rattle.driver.specs.Step.{nameOf, selectAt, wireOf, byteOf, bitOf, ninthOf, shiftOf, takenOf, sentOf, readyOf, bitsAt, followOf, leadAt, lowAt, dataAt, pollOf, answeredOf, takeAt, endOf, heardAt, heardOf, bitsOf, refusalOf, moveAt, stepOf, clocksOf, slotRight, phaseRight, countsRight, fine, rangeOf, GoodCounts, nextOf, slotWhole, wholeOf, keptOf, bufferOf, begunOf, unfitOf, nextWriteOf};
+ghost use Rattle.driver.specs.Step.{nameOf, selectAt, wireOf, byteOf, bitOf, ninthOf, shiftOf, takenOf, sentOf, readyOf, bitsAt, followOf, leadAt, lowAt, dataAt, pollOf, answeredOf, takeAt, endOf, heardAt, heardOf, bitsOf, refusalOf, moveAt, stepOf, clocksOf, slotRight, phaseRight, countsRight, fine, rangeOf, GoodCounts, nextOf, slotWhole, wholeOf, keptOf, bufferOf, begunOf, unfitOf};
 use parts::ArrayAddress;
 use parts::Facts;
 use parts::Faults;
@@ -871,19 +871,6 @@ pub fn next(driver: Driver, level: u8, buffer: &mut [u8]) -> Asked
         let asked = step(driver, level, peek(buffer, driver.counts.at));
         keep(driver, level, buffer);
         return asked;
-    }
-    unfit(driver)
-}
-
-// The same for a write whose bytes cannot be lent for a change. A read is refused with 4.
-pub fn next_write(driver: Driver, level: u8, bytes: &[u8]) -> Asked
-    ensures { λ r. ⌜ r ≡ nextWriteOf driver level (now (bytes .entry)) ⌝ }
-{
-    if driver.request.reads {
-        return unfit(driver);
-    }
-    if in_range(driver, bytes.len()) {
-        return step(driver, level, peek(bytes, driver.counts.at));
     }
     unfit(driver)
 }
