@@ -2,3 +2,4 @@ pub mod Run
 pub mod Plan
 pub mod Where
 pub mod Promises
+pub mod Idle
