@@ -11,7 +11,7 @@ use lib.Dec.{eqb, ltb, leb}
 use borrow.Author.Tests.{eqb-true, eq-eqb, le-ltb, lt-ltb}
 use Rattle.parts.specs.declared.Facts.{Facts}
 use Rattle.parts.specs.declared.Verdict.the-variants.{Fine}
-use Rattle.parts.specs.Table.{factsOf, idSizeOf, enableRightOf}
+use Rattle.parts.specs.Table.{factsOf, idSizeOf, enableRightOf, buffersRightOf}
 use Rattle.parts.specs.Sound.{Sound}
 use Rattle.parts.specs.Refusals.{givenOf}
 use Rattle.line.specs.declared.Pin.the-variants.{Absent, Floating}
@@ -19,7 +19,6 @@ use Rattle.state.specs.declared.Chip.{Chip}
 use Rattle.state.specs.Range.{emptyOf, marksRightOf, pinRightOf, lockRightOf, phaseRightOf, restRightOf, inRangeOf}
 use Rattle.chip.specs.Memory.{Mem, noLatch}
 use Rattle.chip.specs.Delivery.{pinAtFirstOf, standbyOf}
-use Rattle.chip.specs.Calls.{buffersRightOf}
 use Rattle.image.specs.Layout.{lockByteOf, headOf, imageOf, imageLengthOf, partIn, lockIn, storedIn, markRightOf, lockByteRightOf, formedOf}
 use Rattle.image.specs.Calls.{saveVerdictOf, judgedOf, loadVerdictOf}
 use Rattle.image.specs.Promises.{Fits}

@@ -9,13 +9,12 @@ use Rattle.parts.specs.declared.Facts.{Facts}
 use Rattle.parts.specs.declared.Refusal.the-variants.{BadImage}
 use Rattle.parts.specs.declared.Verdict.{Verdict}
 use Rattle.parts.specs.declared.Verdict.the-variants.{Fine, Refused}
-use Rattle.parts.specs.Table.{factsOf, enableRightOf}
+use Rattle.parts.specs.Table.{factsOf, enableRightOf, buffersRightOf}
 use Rattle.parts.specs.Refusals.{givenOf}
 use Rattle.state.specs.declared.Chip.{Chip}
 use Rattle.state.specs.Range.{inRangeOf}
 use Rattle.chip.specs.Memory.{Mem}
 use Rattle.chip.specs.Delivery.{standbyOf}
-use Rattle.chip.specs.Calls.{buffersRightOf}
 use Rattle.image.specs.declared.Saved.{Saved}
 use Rattle.image.specs.declared.Loaded.{Loaded}
 use Rattle.image.specs.Layout.{imageOf, imageLengthOf, partIn, lockIn, storedIn, formedOf}

@@ -5,7 +5,6 @@ ghost use lib.ListN.{length, getD, drop};
 ghost use mathlib.Core.List.{_++_};
 ghost use Rattle.parts.specs.Table.{factsOf};
 ghost use Rattle.chip.specs.Memory.{mem};
-ghost use Rattle.chip.specs.Calls.{buffersRightOf};
 ghost use Rattle.image.specs.Layout.{lockByteOf, headOf, imageOf, imageLengthOf, putOf, partIn, lockIn, storedIn, markRightOf, lockByteRightOf, formedOf};
 ghost use Rattle.image.specs.Calls.{saveVerdictOf, judgedOf, loadVerdictOf, saving, loading};
 use parts::Faults;
@@ -47,18 +46,6 @@ fn image_length(part: u8) -> usize
     7 + size + own
 }
 
-fn lent_right(part: u8, n: usize, d: usize) -> bool
-    ensures { λ r. ⌜ r ≡ buffersRightOf (factsOf part) n d ⌝ }
-{
-    let f = parts::facts_of(part);
-    let size = f.size;
-    let own = parts::id_size(f);
-    if n == size {
-        return d == own;
-    }
-    false
-}
-
 // ---- saving
 
 fn lock_byte(lock: bool) -> u8
@@ -79,7 +66,7 @@ fn save_verdict(part: u8, chip: Chip, n: usize, d: usize, room: usize) -> Verdic
 {
     let f = parts::facts_of(part);
     let known = f.known;
-    let lent = lent_right(part, n, d);
+    let lent = parts::buffers_right(f, n, d);
     let ranged = state::in_range(part, chip);
     let need = image_length(part);
     parts::given(Faults {
@@ -211,7 +198,7 @@ fn judged(image: &[u8], enable: u8, n: usize, d: usize) -> Verdict
     let f = parts::facts_of(part);
     let known = f.known;
     let enabled = parts::enable_right(f, enable);
-    let lent = lent_right(part, n, d);
+    let lent = parts::buffers_right(f, n, d);
     let right = formed(part, image);
     parts::given(Faults {
         part: !known,

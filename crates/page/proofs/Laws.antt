@@ -10,12 +10,12 @@ use borrow.Author.Tests.{leb-false, eqb-true, not-false}
 use Rattle.parts.specs.declared.Facts.{Facts}
 use Rattle.parts.specs.declared.Refusal.the-variants.{NoPart, WrongBuffer, Beyond}
 use Rattle.parts.specs.declared.Verdict.the-variants.{Fine, Refused}
-use Rattle.parts.specs.Table.{factsOf, idSizeOf}
+use Rattle.parts.specs.Table.{factsOf, idSizeOf, buffersRightOf}
 use Rattle.parts.specs.Refusals.{givenOf}
 use Rattle.parts.proofs.Laws.{sound}
 use Rattle.page.specs.declared.Place.{Place}
 use Rattle.page.specs.declared.Place.the-variants.{Array, Ident}
-use Rattle.page.specs.Look.{buffersWrongOf, outsideOf, lookRefusalOf, pageStartOf, Room}
+use Rattle.page.specs.Look.{outsideOf, lookRefusalOf, pageStartOf, Room}
 
 -- P divides the array, so the page of an address of the array ends in it
 pub fits : (P size a : ℕ) → 0 < P → size ≡ size / P * P → a < size → pageStartOf P a + P ≤ size
@@ -33,13 +33,13 @@ none-applies true b o e = (cc, cc, cc)
 none-applies false true o e = (cc, cc, cc)
 none-applies false false true e = (cc, cc, cc)
 
-both : (a b : Bool) → cond a (not b) true ≡ false → (a ≡ true) × (b ≡ true)
+both : (a b : Bool) → not (cond a b false) ≡ false → (a ≡ true) × (b ≡ true)
 both true true e = (refl, refl)
 both true false e = (cc, cc)
 both false b e = (cc, cc)
 
-pub lengths-right : (f : Facts) (array id : ℕ) → buffersWrongOf f array id ≡ false → (array ≡ f .size) × (id ≡ idSizeOf f)
-unfolding buffersWrongOf
+pub lengths-right : (f : Facts) (array id : ℕ) → not (buffersRightOf f array id) ≡ false → (array ≡ f .size) × (id ≡ idSizeOf f)
+unfolding buffersRightOf
 lengths-right f array id h =
     let b = both (eqb array (f .size)) (eqb id (idSizeOf f)) h in
     (eqb-true array (f .size) (b .0), eqb-true id (idSizeOf f) (b .1))
@@ -55,7 +55,7 @@ pub accepted : (part array id : ℕ) (place : Place) → lookRefusalOf part arra
 unfolding lookRefusalOf givenOf
 accepted part array id place h =
     let f = factsOf part in
-    let t = none-applies (not (f .known)) (buffersWrongOf f array id) (outsideOf f place) h in
+    let t = none-applies (not (f .known)) (not (buffersRightOf f array id)) (outsideOf f place) h in
     let l = lengths-right f array id (t .1) in
     record {
       known = not-false (f .known) (t .0);

@@ -1,7 +1,7 @@
 -- The promises of `specs/Promise.antt` are kept by the definitions that the contracts cite.
 -- Assumes nothing.
 use mathlib.Core.Path.{_≡_, refl, _∙_, ap}
-use mathlib.Core.Bool.{true, false}
+use mathlib.Core.Bool.{true, false, not}
 use mathlib.Core.List.{List, []}
 use Prim.Native.Nat.{ℕ, _+_, _*_, _/_, _%_, _<_, _≤_}
 use native.Mathlib.Nat.{mod-lt, div-add-mod', le-of-eq}
@@ -16,12 +16,12 @@ use Rattle.parts.specs.declared.Refusal.{Refusal}
 use Rattle.parts.specs.declared.Refusal.the-variants.{NoPart, WrongEnable, WrongBuffer, BadState, BadEvent, ShortBuffer, Beyond, BadLimit, NoSelect, NoData, PollsUsed, BadImage, TooMany}
 use Rattle.parts.specs.declared.Verdict.{Verdict}
 use Rattle.parts.specs.declared.Verdict.the-variants.{Fine, Refused}
-use Rattle.parts.specs.Table.{factsOf, idSizeOf}
+use Rattle.parts.specs.Table.{factsOf, idSizeOf, buffersRightOf}
 use Rattle.parts.specs.Refusals.{numberOf, givenOf}
 use Rattle.parts.proofs.Laws.{branch}
 use Rattle.page.specs.declared.Place.{Place}
 use Rattle.page.specs.declared.Place.the-variants.{Array, Ident}
-use Rattle.page.specs.Look.{buffersWrongOf, lookRefusalOf, pageStartOf, lookSpanOf, lookOf, shownOf, pageSpanOf, ofArray}
+use Rattle.page.specs.Look.{lookRefusalOf, pageStartOf, lookSpanOf, lookOf, shownOf, pageSpanOf, ofArray}
 use Rattle.page.specs.Promise.{numberGiven, Lengths, RefusesRightly, IsPage, ShowsPages, LiesInBuffer}
 use Rattle.page.proofs.Laws.{room, accepted}
 
@@ -47,14 +47,14 @@ known part h =
 
 -- ---- the refusals
 
-pub right : (f : Facts) (array id : ℕ) → array ≡ f .size → id ≡ idSizeOf f → buffersWrongOf f array id ≡ false
-unfolding buffersWrongOf
+pub right : (f : Facts) (array id : ℕ) → array ≡ f .size → id ≡ idSizeOf f → not (buffersRightOf f array id) ≡ false
+unfolding buffersRightOf
 right f array id a i = simp (eq-eqb array (f .size) a, eq-eqb id (idSizeOf f) i)
 
-wrong : (f : Facts) (array id : ℕ) → ((array ≡ f .size) × (id ≡ idSizeOf f) → ⊥) → buffersWrongOf f array id ≡ true
-unfolding buffersWrongOf
+wrong : (f : Facts) (array id : ℕ) → ((array ≡ f .size) × (id ≡ idSizeOf f) → ⊥) → not (buffersRightOf f array id) ≡ true
+unfolding buffersRightOf
 wrong f array id n =
-    branch (λ b. b ≡ true) (eqb array (f .size))
+    branch (λ b. not b ≡ true) (eqb array (f .size))
     (λ h. simp (ne-eqb id (idSizeOf f) (λ e. n (eqb-true array (f .size) h, e))))
     (λ _. refl)
 

@@ -2,7 +2,7 @@
 -- Looks that do nothing, or show other bytes than the page, break them.
 -- Assumes nothing.
 use mathlib.Core.Path.{_≡_, refl, sym, _∙_}
-use mathlib.Core.Bool.{Bool, true, false}
+use mathlib.Core.Bool.{Bool, true, false, not}
 use mathlib.Core.List.{List, []}
 use mathlib.Core.Logic.{⊎-elim}
 use Prim.Native.Nat.{ℕ, _<_, _≤_}
@@ -15,10 +15,10 @@ use borrow.Author.Tests.{leb-true, leb-false}
 use Rattle.parts.specs.declared.ArrayAddress.{ArrayAddress}
 use Rattle.parts.specs.declared.Refusal.the-variants.{Beyond}
 use Rattle.parts.specs.declared.Verdict.the-variants.{Refused}
-use Rattle.parts.specs.Table.{factsOf, idSizeOf}
+use Rattle.parts.specs.Table.{factsOf, idSizeOf, buffersRightOf}
 use Rattle.page.specs.declared.Place.{Place}
 use Rattle.page.specs.declared.Place.the-variants.{Array, Ident}
-use Rattle.page.specs.Look.{buffersWrongOf, lookRefusalOf, lookSpanOf, lookOf, spanAt}
+use Rattle.page.specs.Look.{lookRefusalOf, lookSpanOf, lookOf, spanAt}
 use Rattle.page.specs.Promise.{Refusing, Looking, numberGiven, Lengths, RefusesRightly, ShowsPages}
 use Rattle.page.proofs.Laws.{lengths-right}
 use Rattle.page.proofs.Promise.{right, refuses-rightly}
@@ -28,7 +28,7 @@ either {ℓ} : {A : Type ℓ} (b : Bool) → (b ≡ true → A) → (b ≡ false
 either true f g = f refl
 either false f g = g refl
 
-lengths-wrong : (part array id : ℕ) → buffersWrongOf (factsOf part) array id ≡ true → Lengths part array id → ⊥
+lengths-wrong : (part array id : ℕ) → not (buffersRightOf (factsOf part) array id) ≡ true → Lengths part array id → ⊥
 lengths-wrong part array id w l =
     let e = right (factsOf part) array id (l .0) (l .1) in
     let z : _≡_ {A = ℕ} 0 1 = cc in
@@ -49,7 +49,7 @@ module _ (r q : Refusing) (R : RefusesRightly r) (Q : RefusesRightly q) (part ar
   same-number place =
       either (leb part 5)
       (λ t.
-      either (buffersWrongOf (factsOf part) array id)
+      either (not (buffersRightOf (factsOf part) array id))
       (λ w.
       let n = lengths-wrong part array id w in
       R .wrongBuffer part array id place (leb-true part 5 t) n ∙ sym (Q .wrongBuffer part array id place (leb-true part 5 t) n))

@@ -11,24 +11,20 @@ use Rattle.parts.specs.declared.Facts.{Facts}
 use Rattle.parts.specs.declared.Faults.{Faults}
 use Rattle.parts.specs.declared.Verdict.{Verdict}
 use Rattle.parts.specs.declared.Verdict.the-variants.{Fine, Refused}
-use Rattle.parts.specs.Table.{factsOf, idSizeOf}
+use Rattle.parts.specs.Table.{factsOf, buffersRightOf}
 use Rattle.parts.specs.Refusals.{givenOf}
 use Rattle.page.specs.declared.Place.{Place}
 use Rattle.page.specs.declared.Place.the-variants.{Array, Ident}
-
--- refusal 3: "array or identification buffer not exactly the part's length (0 where there is no such page)"
-unfoldable pub buffersWrongOf : Facts → ℕ → ℕ → Bool
-buffersWrongOf f array id = cond (eqb array (f .size)) (not (eqb id (idSizeOf f))) true
 
 -- refusal 7: an address at or beyond the array's size is in no page; "no such page"
 abbrev pub outsideOf : Facts → Place → Bool
 outsideOf f (Array a) = leb (f .size) (a .0)
 outsideOf f Ident = not (f .ident)
 
--- no other refusal applies to a look: it has no enable, state, event, output or limit
+-- refusals 1, 3 and 7; no other applies to a look: it has no enable, state, event, output or limit
 abbrev pub lookFaultsOf : Facts → ℕ → ℕ → Place → Faults
 lookFaultsOf f array id place =
-    record { part = not (f .known); enable = false; buffer = buffersWrongOf f array id; state = false; many = false; event = false; place = 0; short = false; beyond = outsideOf f place; limit = false; image = false }
+    record { part = not (f .known); enable = false; buffer = not (buffersRightOf f array id); state = false; many = false; event = false; place = 0; short = false; beyond = outsideOf f place; limit = false; image = false }
 
 -- from the part's number, the lengths of the two lent buffers, and the place
 unfoldable pub lookRefusalOf : ℕ → ℕ → ℕ → Place → Verdict

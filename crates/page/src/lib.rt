@@ -2,7 +2,7 @@
 ghost use mathlib.Core.Path.{_≡_};
 ghost use Prim.Native.Nat.{_+_, _<_, _≤_};
 ghost use lib.ListN.{length, take, drop};
-ghost use Rattle.page.specs.Look.{buffersWrongOf, outsideOf, lookFaultsOf, lookRefusalOf, pageStartOf, pageSpanOf, lookSpanOf, spanBytes, spanAt, lookOf, Room};
+ghost use Rattle.page.specs.Look.{outsideOf, lookFaultsOf, lookRefusalOf, pageStartOf, pageSpanOf, lookSpanOf, spanBytes, spanAt, lookOf, Room};
 use parts::ArrayAddress;
 use parts::Facts;
 use parts::Faults;
@@ -12,17 +12,6 @@ use parts::Verdict;
 pub enum Place {
     Array(ArrayAddress),
     Ident,
-}
-
-// Refusal 3.
-fn buffers_wrong(f: Facts, array: usize, id: usize) -> bool
-    ensures { λ r. ⌜ r ≡ buffersWrongOf f array id ⌝ }
-{
-    let ident = parts::id_size(f);
-    if array == f.size {
-        return id != ident;
-    }
-    true
 }
 
 // Refusal 7.
@@ -39,11 +28,11 @@ fn faults(f: Facts, array: usize, id: usize, place: Place) -> Faults
     ensures { λ r. ⌜ r ≡ lookFaultsOf f array id place ⌝ }
 {
     let none = parts::no_faults();
-    let buffer = buffers_wrong(f, array, id);
+    let lent = parts::buffers_right(f, array, id);
     let beyond = outside(f, place);
     Faults {
         part: !f.known,
-        buffer: buffer,
+        buffer: !lent,
         beyond: beyond,
         ..none
     }

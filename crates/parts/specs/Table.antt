@@ -32,6 +32,10 @@ idSizeOf f = cond (f .ident) (f .page) 0
 unfoldable pub addressBytesOf : Facts → ℕ
 addressBytesOf f = cond (f .wide) 2 1
 
+-- refusal 3: both buffers have exactly the part's length
+unfoldable pub buffersRightOf : Facts → ℕ → ℕ → Bool
+buffersRightOf f array id = cond (eqb array (f .size)) (eqb id (idSizeOf f)) false
+
 -- the last column: 0 only, or 0..7
 unfoldable pub enableRightOf : Facts → ℕ → Bool
 enableRightOf f enable = ltb enable (f .enables)

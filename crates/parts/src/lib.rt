@@ -1,6 +1,6 @@
 // The six parts, the two numberings, the bus events and the refusals of document 01.
 ghost use mathlib.Core.Path.{_≡_};
-ghost use Rattle.parts.specs.Table.{factsOf, idSizeOf, addressBytesOf, enableRightOf};
+ghost use Rattle.parts.specs.Table.{factsOf, idSizeOf, buffersRightOf, addressBytesOf, enableRightOf};
 ghost use Rattle.parts.specs.Sound.{Sound};
 ghost use Rattle.parts.specs.Events.{eventOf, eventRightOf};
 ghost use Rattle.parts.specs.Refusals.{numberOf, givenOf};
@@ -111,6 +111,17 @@ pub fn id_size(f: Facts) -> usize
     ensures { λ r. ⌜ r ≡ idSizeOf f ⌝ }
 {
     if f.ident { f.page } else { 0 }
+}
+
+// Refusal 3 does not apply: the lengths of the lent array and identification buffer are the part's.
+pub fn buffers_right(f: Facts, array: usize, id: usize) -> bool
+    ensures { λ r. ⌜ r ≡ buffersRightOf f array id ⌝ }
+{
+    let own = id_size(f);
+    if array == f.size {
+        return id == own;
+    }
+    false
 }
 
 pub fn address_bytes(f: Facts) -> usize

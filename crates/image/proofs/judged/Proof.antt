@@ -12,8 +12,8 @@ facts-of-requires c κs = search needs
 enable-right-requires : tie.Need-enable-right-requires
 enable-right-requires c κs = search needs
 
-lent-right-requires : tie.Need-lent-right-requires
-lent-right-requires c κs = search needs
+buffers-right-requires : tie.Need-buffers-right-requires
+buffers-right-requires c κs = search needs
 
 formed-requires : tie.Need-formed-requires
 formed-requires c κs = search needs
@@ -23,7 +23,7 @@ given-requires c κs = search needs
 
 returns : tie.Need-returns
 unfolding judgedOf
-returns c = rw (c .given .ensures, c .before .formed .ensures, c .before .before .lent-right .ensures, c .before .before .before .enable-right .ensures, c .before .before .before .before .facts-of .ensures .0, c .before .before .before .before .before .part-in .ensures)
+returns c = rw (c .given .ensures, c .before .formed .ensures, c .before .before .buffers-right .ensures, c .before .before .before .enable-right .ensures, c .before .before .before .before .facts-of .ensures .0, c .before .before .before .before .before .part-in .ensures)
 
 pub judged-spec : {M : Type 1} → statement M
 judged-spec =
@@ -32,7 +32,7 @@ judged-spec =
     part-in-requires
     facts-of-requires
     enable-right-requires
-    lent-right-requires
+    buffers-right-requires
     formed-requires
     given-requires
     returns)

@@ -6,8 +6,8 @@ use Rattle.image.proofs.save_verdict.Tie as tie
 facts-of-requires : tie.Need-facts-of-requires
 facts-of-requires c κs = search needs
 
-lent-right-requires : tie.Need-lent-right-requires
-lent-right-requires c κs = search needs
+buffers-right-requires : tie.Need-buffers-right-requires
+buffers-right-requires c κs = search needs
 
 in-range-requires : tie.Need-in-range-requires
 in-range-requires c κs = search needs
@@ -20,14 +20,14 @@ given-requires c κs = search needs
 
 returns : tie.Need-returns
 unfolding saveVerdictOf
-returns c = rw (c .given .ensures, c .before .image-length .ensures, c .before .before .in-range .ensures, c .before .before .before .lent-right .ensures, c .before .before .before .before .facts-of .ensures .0)
+returns c = rw (c .given .ensures, c .before .image-length .ensures, c .before .before .in-range .ensures, c .before .before .before .buffers-right .ensures, c .before .before .before .before .facts-of .ensures .0)
 
 pub save-verdict-spec : {M : Type 1} → statement M
 save-verdict-spec =
     tie.close
     (tie.spec
     facts-of-requires
-    lent-right-requires
+    buffers-right-requires
     in-range-requires
     image-length-requires
     given-requires
