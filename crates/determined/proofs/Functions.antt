@@ -13,8 +13,6 @@ use Rattle.determined.specs.Functions.{
   GivenDetermined,
   NoFaultsDetermined,
   IsHighDetermined,
-  BeforeDetermined,
-  TakeDetermined,
   AdvanceDetermined,
   InRangeDetermined,
   StandbyDetermined,
@@ -31,8 +29,9 @@ use Rattle.determined.specs.Functions.{
   JudgeDetermined,
   BeginDetermined,
   NextDetermined,
-  NextWriteDetermined,
   BenchRunDetermined,
+  DriverPackDetermined,
+  DriverUnpackDetermined,
 }
 use Rattle.determined.proofs.Answers.{agree, same, plainly}
 
@@ -65,12 +64,6 @@ no-faults-determined = plainly (λ κs a u v. refl)
 
 pub is-high-determined : IsHighDetermined
 is-high-determined = plainly (λ κs a u v. refl)
-
-pub before-determined : BeforeDetermined
-before-determined = plainly (λ κs a u v. refl)
-
-pub take-determined : TakeDetermined
-take-determined = plainly (λ κs a u v. refl)
 
 pub advance-determined : AdvanceDetermined
 advance-determined = plainly (λ κs a u v. refl)
@@ -154,12 +147,19 @@ next-determined = record {
       (λ i. (tt, (tt, (agree (p .1) (q .1) i, tt))));
 }
 
-pub next-write-determined : NextWriteDetermined
-next-write-determined = plainly (λ κs a u v. refl)
-
 pub bench-run-determined : BenchRunDetermined
 bench-run-determined = record {
   taken = λ κs a. tt;
   equal = λ κs a x y p q. same (agree (p .0) (q .0))
       (λ i. (tt, (tt, (tt, (agree (p .1 .0) (q .1 .0) i .cells, (agree (p .1 .0) (q .1 .0) i .ident, (agree (p .1 .1) (q .1 .1) i, tt)))))));
 }
+
+pub driver-pack-determined : DriverPackDetermined
+driver-pack-determined = record {
+  taken = λ κs a. tt;
+  equal = λ κs a x y p q. same (agree (p .0) (q .0))
+      (λ i. (tt, (agree (p .1) (q .1) i, tt)));
+}
+
+pub driver-unpack-determined : DriverUnpackDetermined
+driver-unpack-determined = plainly (λ κs a u v. refl)

@@ -11,8 +11,6 @@ use Rattle.parts.proofs.number as number
 use Rattle.parts.proofs.given as given
 use Rattle.parts.proofs.no_faults as no-faults
 use Rattle.line.proofs.is_high as is-high
-use Rattle.line.proofs.before as before
-use Rattle.line.proofs.take as take
 use Rattle.line.proofs.advance as advance
 use Rattle.state.proofs.in_range as in-range
 use Rattle.chip.proofs.standby as standby
@@ -29,8 +27,9 @@ use Rattle.trace.proofs.trace as trace
 use Rattle.driver.proofs.judge as judge
 use Rattle.driver.proofs.begin as begin
 use Rattle.driver.proofs.next as next
-use Rattle.driver.proofs.next_write as next-write
 use Rattle.bench.proofs.run as bench-run
+use Rattle.pack_driver.proofs.pack as driver-pack
+use Rattle.pack_driver.proofs.unpack as driver-unpack
 use Rattle.determined.specs.Determined.{Determined, DeterminedAs, part}
 
 -- ---- parts
@@ -66,12 +65,6 @@ NoFaultsDetermined = Determined no-faults.ended no-faults.Reads.Asked no-faults.
 
 abbrev pub IsHighDetermined : Type 0
 IsHighDetermined = Determined is-high.ended is-high.Reads.Asked is-high.Reads.Learnt
-
-abbrev pub BeforeDetermined : Type 0
-BeforeDetermined = Determined before.ended before.Reads.Asked before.Reads.Learnt
-
-abbrev pub TakeDetermined : Type 0
-TakeDetermined = Determined take.ended take.Reads.Asked take.Reads.Learnt
 
 abbrev pub AdvanceDetermined : Type 0
 AdvanceDetermined = Determined advance.ended advance.Reads.Asked advance.Reads.Learnt
@@ -135,10 +128,15 @@ BeginDetermined = Determined begin.ended begin.Reads.Asked begin.Reads.Learnt
 abbrev pub NextDetermined : Type 0
 NextDetermined = Determined next.ended next.Reads.Asked next.Reads.Learnt
 
-abbrev pub NextWriteDetermined : Type 0
-NextWriteDetermined = Determined next-write.ended next-write.Reads.Asked next-write.Reads.Learnt
-
 -- ---- bench
 
 abbrev pub BenchRunDetermined : Type 0
 BenchRunDetermined = Determined bench-run.ended bench-run.Reads.Asked bench-run.Reads.Learnt
+
+-- ---- pack_driver
+
+abbrev pub DriverPackDetermined : Type 0
+DriverPackDetermined = Determined driver-pack.ended driver-pack.Reads.Asked driver-pack.Reads.Learnt
+
+abbrev pub DriverUnpackDetermined : Type 0
+DriverUnpackDetermined = Determined driver-unpack.ended driver-unpack.Reads.Asked driver-unpack.Reads.Learnt
