@@ -1,0 +1,165 @@
+-- Every contract determines its answer. `p` and `q` are what the contract says of the two answers, one part for each clause, in the
+-- clauses' order. What is left is a row of the parameters: what the clause says of one that is lent for a change, `tt` of any other.
+-- Assumes nothing.
+use mathlib.Core.Path.{refl}
+use Rattle.determined.specs.Functions.{
+  FactsOfDetermined,
+  IdSizeDetermined,
+  AddressBytesDetermined,
+  EnableRightDetermined,
+  EventOfDetermined,
+  EventRightDetermined,
+  NumberDetermined,
+  GivenDetermined,
+  NoFaultsDetermined,
+  IsHighDetermined,
+  AdvanceDetermined,
+  InRangeDetermined,
+  StandbyDetermined,
+  DeliverDetermined,
+  StepDetermined,
+  ChipRunDetermined,
+  LookRefusalDetermined,
+  LookDetermined,
+  SaveDetermined,
+  LoadDetermined,
+  LettersDetermined,
+  CodeOfDetermined,
+  TraceDetermined,
+  JudgeDetermined,
+  BeginDetermined,
+  NextDetermined,
+  BenchRunDetermined,
+  DriverPackDetermined,
+  DriverUnpackDetermined,
+}
+use Rattle.determined.proofs.Answers.{agree, same, plainly}
+
+pub facts-of-determined : FactsOfDetermined
+facts-of-determined = record { taken = λ κs a. tt; equal = λ κs a x y p q. same (agree (p .0) (q .0)) refl }
+
+pub id-size-determined : IdSizeDetermined
+id-size-determined = plainly (λ κs a u v. refl)
+
+pub address-bytes-determined : AddressBytesDetermined
+address-bytes-determined = plainly (λ κs a u v. refl)
+
+pub enable-right-determined : EnableRightDetermined
+enable-right-determined = plainly (λ κs a u v. refl)
+
+pub event-of-determined : EventOfDetermined
+event-of-determined = plainly (λ κs a u v. refl)
+
+pub event-right-determined : EventRightDetermined
+event-right-determined = plainly (λ κs a u v. refl)
+
+pub number-determined : NumberDetermined
+number-determined = plainly (λ κs a u v. refl)
+
+pub given-determined : GivenDetermined
+given-determined = plainly (λ κs a u v. refl)
+
+pub no-faults-determined : NoFaultsDetermined
+no-faults-determined = plainly (λ κs a u v. refl)
+
+pub is-high-determined : IsHighDetermined
+is-high-determined = plainly (λ κs a u v. refl)
+
+pub advance-determined : AdvanceDetermined
+advance-determined = plainly (λ κs a u v. refl)
+
+pub in-range-determined : InRangeDetermined
+in-range-determined = plainly (λ κs a u v. refl)
+
+pub standby-determined : StandbyDetermined
+standby-determined = plainly (λ κs a u v. refl)
+
+pub deliver-determined : DeliverDetermined
+deliver-determined = record {
+  taken = λ κs a. tt;
+  equal = λ κs a x y p q. same (agree (p .0) (q .0))
+      (λ i. (tt, (agree (p .1 .0) (q .1 .0) i, (agree (p .1 .1) (q .1 .1) i, tt))));
+}
+
+pub step-determined : StepDetermined
+step-determined = record {
+  taken = λ κs a. tt;
+  equal = λ κs a x y p q. same (agree (p .0) (q .0))
+      (λ i. (tt, (tt, (tt, (agree (p .1 .0) (q .1 .0) i, (agree (p .1 .1) (q .1 .1) i, (tt, tt)))))));
+}
+
+pub chip-run-determined : ChipRunDetermined
+chip-run-determined = record {
+  taken = λ κs a. tt;
+  equal = λ κs a x y p q. same (agree (p .0) (q .0))
+      (λ i. (tt, (tt, (tt, (agree (p .1 .0) (q .1 .0) i .cells, (agree (p .1 .0) (q .1 .0) i .ident, (tt, (agree (p .1 .1) (q .1 .1) i, tt))))))));
+}
+
+pub look-refusal-determined : LookRefusalDetermined
+look-refusal-determined = plainly (λ κs a u v. refl)
+
+pub look-determined : LookDetermined
+look-determined = record {
+  taken = λ κs a. tt;
+  equal = λ κs a x y p q. (λ i. record { bytes = agree (p .0) (q .0) i; place = agree (p .1) (q .1) i }, refl);
+}
+
+pub save-determined : SaveDetermined
+save-determined = record {
+  taken = λ κs a. tt;
+  equal = λ κs a x y p q. same (agree (p .0) (q .0))
+      (λ i. (tt, (tt, (tt, (tt, (agree (p .1) (q .1) i, tt))))));
+}
+
+pub load-determined : LoadDetermined
+load-determined = record {
+  taken = λ κs a. tt;
+  equal = λ κs a x y p q. same (agree (p .0) (q .0))
+      (λ i. (tt, (tt, (agree (p .1 .0) (q .1 .0) i, (agree (p .1 .1) (q .1 .1) i, tt)))));
+}
+
+pub letters-determined : LettersDetermined
+letters-determined = record {
+  taken = λ κs a. tt;
+  equal = λ κs a x y p q. (agree p q, refl);
+}
+
+pub code-of-determined : CodeOfDetermined
+code-of-determined = plainly (λ κs a u v. refl)
+
+pub trace-determined : TraceDetermined
+trace-determined = record {
+  taken = λ κs a. tt;
+  equal = λ κs a x y p q. same (agree (p .0) (q .0))
+      (λ i. (tt, (agree (p .1) (q .1) i, tt)));
+}
+
+pub judge-determined : JudgeDetermined
+judge-determined = plainly (λ κs a u v. refl)
+
+pub begin-determined : BeginDetermined
+begin-determined = plainly (λ κs a u v. refl)
+
+pub next-determined : NextDetermined
+next-determined = record {
+  taken = λ κs a. tt;
+  equal = λ κs a x y p q. same (agree (p .0) (q .0))
+      (λ i. (tt, (tt, (agree (p .1) (q .1) i, tt))));
+}
+
+pub bench-run-determined : BenchRunDetermined
+bench-run-determined = record {
+  taken = λ κs a. tt;
+  equal = λ κs a x y p q. same (agree (p .0) (q .0))
+      (λ i. (tt, (tt, (tt, (agree (p .1 .0) (q .1 .0) i .cells, (agree (p .1 .0) (q .1 .0) i .ident, (agree (p .1 .1) (q .1 .1) i, tt)))))));
+}
+
+pub driver-pack-determined : DriverPackDetermined
+driver-pack-determined = record {
+  taken = λ κs a. tt;
+  equal = λ κs a x y p q. same (agree (p .0) (q .0))
+      (λ i. (tt, (agree (p .1) (q .1) i, tt)));
+}
+
+pub driver-unpack-determined : DriverUnpackDetermined
+driver-unpack-determined = plainly (λ κs a u v. refl)

@@ -1,0 +1,142 @@
+-- For each public function of each library: its contract determines the answer, on every input (`Determined`). The contract is the
+-- function's own, as it stands in src/: nothing of it is copied here, and a clause that is weakened there is weakened here.
+-- Assumes nothing.
+use Rattle.parts.proofs.facts_of as facts-of
+use Rattle.parts.proofs.id_size as id-size
+use Rattle.parts.proofs.address_bytes as address-bytes
+use Rattle.parts.proofs.enable_right as enable-right
+use Rattle.parts.proofs.event_of as event-of
+use Rattle.parts.proofs.event_right as event-right
+use Rattle.parts.proofs.number as number
+use Rattle.parts.proofs.given as given
+use Rattle.parts.proofs.no_faults as no-faults
+use Rattle.line.proofs.is_high as is-high
+use Rattle.line.proofs.advance as advance
+use Rattle.state.proofs.in_range as in-range
+use Rattle.chip.proofs.standby as standby
+use Rattle.chip.proofs.deliver as deliver
+use Rattle.chip.proofs.step as step
+use Rattle.chip.proofs.run as chip-run
+use Rattle.page.proofs.look_refusal as look-refusal
+use Rattle.page.proofs.look as look
+use Rattle.image.proofs.save as save
+use Rattle.image.proofs.load as load
+use Rattle.trace.proofs.letters as letters
+use Rattle.trace.proofs.code_of as code-of
+use Rattle.trace.proofs.trace as trace
+use Rattle.driver.proofs.judge as judge
+use Rattle.driver.proofs.begin as begin
+use Rattle.driver.proofs.next as next
+use Rattle.bench.proofs.run as bench-run
+use Rattle.pack_driver.proofs.pack as driver-pack
+use Rattle.pack_driver.proofs.unpack as driver-unpack
+use Rattle.determined.specs.Determined.{Determined, DeterminedAs, part}
+
+-- ---- parts
+
+abbrev pub FactsOfDetermined : Type 0
+FactsOfDetermined = Determined facts-of.ended facts-of.Reads.Asked facts-of.Reads.Learnt
+
+abbrev pub IdSizeDetermined : Type 0
+IdSizeDetermined = Determined id-size.ended id-size.Reads.Asked id-size.Reads.Learnt
+
+abbrev pub AddressBytesDetermined : Type 0
+AddressBytesDetermined = Determined address-bytes.ended address-bytes.Reads.Asked address-bytes.Reads.Learnt
+
+abbrev pub EnableRightDetermined : Type 0
+EnableRightDetermined = Determined enable-right.ended enable-right.Reads.Asked enable-right.Reads.Learnt
+
+abbrev pub EventOfDetermined : Type 0
+EventOfDetermined = Determined event-of.ended event-of.Reads.Asked event-of.Reads.Learnt
+
+abbrev pub EventRightDetermined : Type 0
+EventRightDetermined = Determined event-right.ended event-right.Reads.Asked event-right.Reads.Learnt
+
+abbrev pub NumberDetermined : Type 0
+NumberDetermined = Determined number.ended number.Reads.Asked number.Reads.Learnt
+
+abbrev pub GivenDetermined : Type 0
+GivenDetermined = Determined given.ended given.Reads.Asked given.Reads.Learnt
+
+abbrev pub NoFaultsDetermined : Type 0
+NoFaultsDetermined = Determined no-faults.ended no-faults.Reads.Asked no-faults.Reads.Learnt
+
+-- ---- line
+
+abbrev pub IsHighDetermined : Type 0
+IsHighDetermined = Determined is-high.ended is-high.Reads.Asked is-high.Reads.Learnt
+
+abbrev pub AdvanceDetermined : Type 0
+AdvanceDetermined = Determined advance.ended advance.Reads.Asked advance.Reads.Learnt
+
+-- ---- state
+
+abbrev pub InRangeDetermined : Type 0
+InRangeDetermined = Determined in-range.ended in-range.Reads.Asked in-range.Reads.Learnt
+
+-- ---- chip
+
+abbrev pub StandbyDetermined : Type 0
+StandbyDetermined = Determined standby.ended standby.Reads.Asked standby.Reads.Learnt
+
+abbrev pub DeliverDetermined : Type 0
+DeliverDetermined = Determined deliver.ended deliver.Reads.Asked deliver.Reads.Learnt
+
+abbrev pub StepDetermined : Type 0
+StepDetermined = Determined step.ended step.Reads.Asked step.Reads.Learnt
+
+abbrev pub ChipRunDetermined : Type 0
+ChipRunDetermined = Determined chip-run.ended chip-run.Reads.Asked chip-run.Reads.Learnt
+
+-- ---- page
+
+abbrev pub LookRefusalDetermined : Type 0
+LookRefusalDetermined = Determined look-refusal.ended look-refusal.Reads.Asked look-refusal.Reads.Learnt
+
+-- its bytes, and where it lies: it is uncopied
+abbrev pub LookDetermined : Type 0
+LookDetermined = DeterminedAs look.ended (λ κs r. part r) look.Reads.Asked look.Reads.Learnt
+
+-- ---- image
+
+abbrev pub SaveDetermined : Type 0
+SaveDetermined = Determined save.ended save.Reads.Asked save.Reads.Learnt
+
+abbrev pub LoadDetermined : Type 0
+LoadDetermined = Determined load.ended load.Reads.Asked load.Reads.Learnt
+
+-- ---- trace
+
+-- its bytes: no rule asks where they lie
+abbrev pub LettersDetermined : Type 0
+LettersDetermined = DeterminedAs letters.ended (λ κs r. part r .bytes) letters.Reads.Asked letters.Reads.Learnt
+
+abbrev pub CodeOfDetermined : Type 0
+CodeOfDetermined = Determined code-of.ended code-of.Reads.Asked code-of.Reads.Learnt
+
+abbrev pub TraceDetermined : Type 0
+TraceDetermined = Determined trace.ended trace.Reads.Asked trace.Reads.Learnt
+
+-- ---- driver
+
+abbrev pub JudgeDetermined : Type 0
+JudgeDetermined = Determined judge.ended judge.Reads.Asked judge.Reads.Learnt
+
+abbrev pub BeginDetermined : Type 0
+BeginDetermined = Determined begin.ended begin.Reads.Asked begin.Reads.Learnt
+
+abbrev pub NextDetermined : Type 0
+NextDetermined = Determined next.ended next.Reads.Asked next.Reads.Learnt
+
+-- ---- bench
+
+abbrev pub BenchRunDetermined : Type 0
+BenchRunDetermined = Determined bench-run.ended bench-run.Reads.Asked bench-run.Reads.Learnt
+
+-- ---- pack_driver
+
+abbrev pub DriverPackDetermined : Type 0
+DriverPackDetermined = Determined driver-pack.ended driver-pack.Reads.Asked driver-pack.Reads.Learnt
+
+abbrev pub DriverUnpackDetermined : Type 0
+DriverUnpackDetermined = Determined driver-unpack.ended driver-unpack.Reads.Asked driver-unpack.Reads.Learnt

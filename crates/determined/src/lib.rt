@@ -1,0 +1,1 @@
+// Every contract leaves one answer: no code, only statements (specs/) and their proofs (proofs/).

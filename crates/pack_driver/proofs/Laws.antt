@@ -1,0 +1,49 @@
+-- Laws that the proofs of the code share: numbers stored four bytes at a time, and a buffer that is stored over whole.
+-- Assumes nothing.
+use Prim.Native.Nat.{ℕ, _+_, _/_, _%_, _≤_}
+use mathlib.Core.Path.{_≡_, _∙_, refl}
+use mathlib.Core.Bool.{Bool, true, false, cond}
+use mathlib.Core.List.{List, append-nil}
+use native.Mathlib.Numerals.{add-one, add-two, add-three}
+use native.Mathlib.Nat.{zero-add}
+use native.Mathlib.Omega.{arith}
+use lib.ListN.{length, set, drop-of-length-le}
+use lib.Seq.{sets, sets-eq}
+use borrow.Author.Tests.{eqb-true}
+use Rattle.driver.specs.declared.Driver.{Driver}
+use Rattle.driver.specs.Request.{fromOf}
+use Rattle.pack_driver.specs.Layout.{packedLength, wordOf, wordsOf, headOf, numbersOf, packedOf, holdsOf}
+
+pub word-put : (out : List ℕ) (at x a b c : ℕ) → a ≡ x / 16777216 % 256 → b ≡ x / 65536 % 256 → c ≡ x / 256 % 256
+    → set (set (set (set out at a) (at + 1) b) (at + 2) c) (at + 3) (x % 256) ≡ sets out at (wordOf x)
+word-put out at x a b c p q r = rw (p, q, r, add-one, add-two, add-three)
+
+-- one number after the other, each where the one before ends
+module _ (o o₁ o₂ o₃ o₄ o₅ o₆ o₇ : List ℕ) (d : Driver) (from : ℕ) (f : from ≡ fromOf (d .request .place))
+    (e₁ : o₁ ≡ sets o 7 (wordOf from))
+    (e₂ : o₂ ≡ sets o₁ 11 (wordOf (d .request .length)))
+    (e₃ : o₃ ≡ sets o₂ 15 (wordOf (d .request .budget)))
+    (e₄ : o₄ ≡ sets o₃ 19 (wordOf (d .counts .at)))
+    (e₅ : o₅ ≡ sets o₄ 23 (wordOf (d .counts .seen)))
+    (e₆ : o₆ ≡ sets o₅ 27 (wordOf (d .counts .tries)))
+    (e₇ : o₇ ≡ sets o₆ 31 (wordOf (d .counts .polls))) where
+  pub words-put : o₇ ≡ sets o 7 (wordsOf (numbersOf d))
+  words-put = rw (e₇, e₆, e₅, e₄, e₃, e₂, e₁, f)
+
+-- a list stored over the whole of another
+pub sets-whole : (out s : List ℕ) → length out ≡ length s → sets out 0 s ≡ s
+sets-whole out s e =
+    let short : length out ≤ length s = omega arith in
+    sets-eq s out 0 (omega arith) ∙ rw (zero-add, drop-of-length-le out short) (append-nil s)
+
+pub packed-put : (o o₁ o₂ : List ℕ) (d : Driver) → length o ≡ packedLength → o₁ ≡ sets o 0 (headOf d) → o₂ ≡ sets o₁ 7 (wordsOf (numbersOf d))
+    → o₂ ≡ packedOf d
+unfolding packedOf
+packed-put o o₁ o₂ d e e₁ e₂ = rw (e₂, e₁) (sets-whole o (packedOf d) e)
+
+pub holds-length : (l : List ℕ) → holdsOf l ≡ true → length l ≡ packedLength
+unfolding holdsOf
+holds-length l h = eqb-true (length l) packedLength (first _ _ h) where
+  first : (a b : Bool) → cond a b false ≡ true → a ≡ true
+  first true b h = refl
+  first false b h = h
