@@ -1,2 +1,1 @@
-pub mod Kit
 pub mod Facts

@@ -4,7 +4,7 @@ use Prim.Native.Nat.{ℕ, _+_, _-_, _/_, _%_}
 use mathlib.Core.Bool.{Bool, true, false, cond, not}
 use mathlib.Core.List.{List, [], _∷_, _++_}
 use lib.ListN.{length, getD, take, drop}
-use lib.Dec.{eqb, ltb}
+use lib.Dec.{eqb, leb, ltb}
 use Rattle.parts.specs.declared.Refusal.{Refusal}
 use Rattle.parts.specs.declared.Refusal.the-variants.{NoPart, WrongEnable, WrongBuffer, BadState, BadEvent, ShortBuffer, Beyond, BadLimit, NoSelect, NoData, PollsUsed, BadImage, TooMany}
 use Rattle.parts.specs.declared.Verdict.{Verdict}
@@ -37,6 +37,10 @@ lettersEndOf t = cond (ltb 4 (length t)) (cond (eqb (getD t (length t - 1) 0) 10
 
 unfoldable pub lettersOf : List ℕ → List ℕ
 lettersOf t = take (lettersEndOf t - 4) (drop 4 t)
+
+-- where they lie in a text of n bytes that lies at `at`, as block and offset: behind the four bytes of the first line
+abbrev pub lettersAt : ℕ → ℕ × ℕ → ℕ × ℕ
+lettersAt n at = (at .0, cond (leb 4 n) 4 0 + at .1)
 
 -- the event codes of the letters; any other byte is no event (9)
 unfoldable pub codeOf : ℕ → ℕ

@@ -7,7 +7,7 @@ ghost use lib.ListN.{length, take, drop};
 ghost use Rattle.parts.specs.Table.{factsOf, idSizeOf};
 ghost use Rattle.chip.specs.Delivery.{standbyOf, deliveredOf};
 ghost use Rattle.chip.specs.Calls.{runVerdictOf, runBy, runAnswers};
-ghost use Rattle.trace.specs.Trace.{digitOf, headRightOf, lettersEndOf, lettersOf, codeOf, codesOf, charOf, charsOf, digitsOf, leadingOf, decimalOf, placeIn, placeTextOf, refusalTextOf, reportOf, tracedOf, longVerdictOf, traceOf, laidOf, countOf, newline};
+ghost use Rattle.trace.specs.Trace.{digitOf, headRightOf, lettersEndOf, lettersOf, lettersAt, codeOf, codesOf, charOf, charsOf, digitsOf, leadingOf, decimalOf, placeIn, placeTextOf, refusalTextOf, reportOf, tracedOf, longVerdictOf, traceOf, laidOf, countOf, newline};
 use chip::Ran;
 use chip::Scan;
 use parts::Faults;
@@ -60,7 +60,8 @@ fn letters_end(text: &[u8]) -> usize
 
 fn letters_of(text: &[u8]) -> &[u8]
     requires { ⌜ 4 ≤ length (now text) ⌝ }
-    ensures { λ r. ⌜ now r ≡ lettersOf (now (text .entry)) ⌝ }
+    ensures bytes { λ r. ⌜ now r ≡ lettersOf (now (text .entry)) ⌝ }
+    ensures uncopied { λ r. ⌜ r .ptr ≡ (text .entry .ptr .0, 4 + text .entry .ptr .1) ⌝ }
 {
     let end = letters_end(text);
     &text[4..end]
@@ -68,7 +69,8 @@ fn letters_of(text: &[u8]) -> &[u8]
 
 // The letters of any text; of one that ends in its first line there are none.
 pub fn letters(text: &[u8]) -> &[u8]
-    ensures { λ r. ⌜ now r ≡ lettersOf (now (text .entry)) ⌝ }
+    ensures bytes { λ r. ⌜ now r ≡ lettersOf (now (text .entry)) ⌝ }
+    ensures uncopied { λ r. ⌜ r .ptr ≡ lettersAt (length (now (text .entry))) (text .entry .ptr) ⌝ }
 {
     if 4 <= text.len() {
         return letters_of(text);

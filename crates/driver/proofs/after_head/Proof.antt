@@ -1,5 +1,5 @@
 use borrow.Author.Needs.{needs}
-use Rattle.driver.proofs.Kit.{tests}
+use Rattle.parts.proofs.Kit.{tests}
 use Rattle.driver.specs.Step.{leadAt}
 use Rattle.driver.proofs.after_head.Statement.{statement}
 use Rattle.driver.proofs.after_head.Tie as tie

@@ -1,5 +1,5 @@
 use borrow.Author.Needs.{needs}
-use Rattle.driver.proofs.Kit.{tests}
+use Rattle.parts.proofs.Kit.{tests}
 use Rattle.driver.specs.Step.{lowAt}
 use Rattle.driver.proofs.after_low.Statement.{statement}
 use Rattle.driver.proofs.after_low.Tie as tie

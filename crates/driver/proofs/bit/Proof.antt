@@ -1,5 +1,5 @@
 use borrow.Author.Needs.{needs}
-use Rattle.driver.proofs.Kit.{tests}
+use Rattle.parts.proofs.Kit.{tests}
 use Rattle.driver.specs.Step.{bitOf}
 use Rattle.driver.proofs.bit.Statement.{statement}
 use Rattle.driver.proofs.bit.Tie as tie

@@ -1,7 +1,7 @@
 use native.Mathlib.Nat.{mod-lt}
 use native.Mathlib.Omega.{arith}
 use borrow.Author.Needs.{needs}
-use Rattle.driver.proofs.Kit.{tests}
+use Rattle.parts.proofs.Kit.{tests}
 use Rattle.driver.specs.Split.{firstOf}
 use Rattle.driver.proofs.first.Statement.{statement}
 use Rattle.driver.proofs.first.Tie as tie

@@ -1,5 +1,5 @@
 use borrow.Author.Needs.{needs}
-use Rattle.driver.proofs.Kit.{tests}
+use Rattle.parts.proofs.Kit.{tests}
 use Rattle.driver.specs.Step.{keptOf}
 use Rattle.driver.proofs.keep.Statement.{statement}
 use Rattle.driver.proofs.keep.Tie as tie

@@ -1,4 +1,4 @@
-use Rattle.driver.proofs.Kit.{tests}
+use Rattle.parts.proofs.Kit.{tests}
 use Rattle.driver.specs.Request.{limitOf}
 use Rattle.driver.proofs.limit.Statement.{statement}
 use Rattle.driver.proofs.limit.Tie as tie

@@ -2,7 +2,7 @@ use Prim.Native.Nat.{_+_, _-_, _%_}
 use native.Mathlib.Nat.{mod-le, div-le-self}
 use native.Mathlib.Omega.{arith}
 use borrow.Author.Needs.{needs}
-use Rattle.driver.proofs.Kit.{tests}
+use Rattle.parts.proofs.Kit.{tests}
 use Rattle.driver.specs.Split.{pagesOf}
 use Rattle.driver.proofs.pages.Statement.{statement}
 use Rattle.driver.proofs.pages.Tie as tie

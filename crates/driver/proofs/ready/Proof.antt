@@ -1,4 +1,4 @@
-use Rattle.driver.proofs.Kit.{tests}
+use Rattle.parts.proofs.Kit.{tests}
 use Rattle.driver.specs.Step.{readyOf}
 use Rattle.driver.proofs.ready.Statement.{statement}
 use Rattle.driver.proofs.ready.Tie as tie

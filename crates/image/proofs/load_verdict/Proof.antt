@@ -1,5 +1,5 @@
 use borrow.Author.Needs.{needs}
-use Rattle.image.proofs.Kit.{tests}
+use Rattle.parts.proofs.Kit.{tests}
 use Rattle.image.specs.Calls.{loadVerdictOf}
 use Rattle.image.proofs.load_verdict.Statement.{statement}
 use Rattle.image.proofs.load_verdict.Tie as tie

@@ -1,5 +1,5 @@
 use borrow.Author.Needs.{needs}
-use Rattle.image.proofs.Kit.{tests}
+use Rattle.parts.proofs.Kit.{tests}
 use Rattle.image.specs.Layout.{markRightOf}
 use Rattle.image.proofs.mark_right.Statement.{statement}
 use Rattle.image.proofs.mark_right.Tie as tie

@@ -53,7 +53,7 @@ returns-2 c =
     let letters = c .before .before .before .before .before .letters-of in
     let right = sym (c .before .before .before .before .before .before .before .before .before .head-right .ensures) ∙ not-false _ (c .before .before .before .before .before .before .before .before .if1 .left) in
     let t = now (c .before .before .before .before .before .before .before .before .before .before .before .before .args .text) in
-    let long : 32768 < length (lettersOf t) = omega (arith, c .before .before .before .before .if2 .taken, ap length (letters .ensures)) in
+    let long : 32768 < length (lettersOf t) = omega (arith, c .before .before .before .before .if2 .taken, ap length (letters .ensures .0)) in
     (said .0, said .1 ∙ sym (trace-long t right long))
 
 run-letters-requires : tie.Need-run-letters-requires
@@ -66,7 +66,7 @@ returns-3 : tie.Need-returns-3
 returns-3 c =
     let said = c .before .before .run-letters .ensures in
     let right = sym (c .before .before .before .before .before .before .before .before .before .head-right .ensures) ∙ not-false _ (c .before .before .before .before .before .before .before .before .if1 .left) in
-    (said .0, said .1 ∙ rw (c .before .before .before .before .before .letters-of .ensures) (sym (trace-right (now (c .before .before .before .before .before .before .before .before .before .before .before .before .args .text)) right)))
+    (said .0, said .1 ∙ rw (c .before .before .before .before .before .letters-of .ensures .0) (sym (trace-right (now (c .before .before .before .before .before .before .before .before .before .before .before .before .args .text)) right)))
 
 pub compose-spec : {M : Type 1} → statement M
 compose-spec =

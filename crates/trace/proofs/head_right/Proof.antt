@@ -1,6 +1,6 @@
 use borrow.Author.Tests.{le-ltb, eq-eqb}
 use borrow.Author.Needs.{needs}
-use Rattle.trace.proofs.Kit.{tests}
+use Rattle.parts.proofs.Kit.{tests}
 use Rattle.trace.specs.Trace.{headRightOf}
 use Rattle.trace.proofs.head_right.Statement.{statement}
 use Rattle.trace.proofs.head_right.Tie as tie

@@ -1,4 +1,4 @@
-use Rattle.trace.proofs.Kit.{tests}
+use Rattle.parts.proofs.Kit.{tests}
 use Rattle.trace.proofs.is_digit.Statement.{statement}
 use Rattle.trace.proofs.is_digit.Tie as tie
 

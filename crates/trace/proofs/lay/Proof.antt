@@ -1,5 +1,5 @@
 use Rattle.trace.specs.Trace.{laidOf, countOf}
-use Rattle.trace.proofs.Kit.{tests}
+use Rattle.parts.proofs.Kit.{tests}
 use mathlib.Core.Path.{_∙_}
 use borrow.Author.Needs.{needs}
 use Rattle.trace.proofs.lay.Statement.{statement}

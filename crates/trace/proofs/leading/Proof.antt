@@ -1,5 +1,5 @@
 use native.Mathlib.Omega.{arith}
-use Rattle.trace.proofs.Kit.{tests}
+use Rattle.parts.proofs.Kit.{tests}
 use Rattle.trace.specs.Trace.{leadingOf}
 use Rattle.trace.proofs.leading.Statement.{statement}
 use Rattle.trace.proofs.leading.Tie as tie

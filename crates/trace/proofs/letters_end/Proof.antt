@@ -1,5 +1,5 @@
 use borrow.Author.Needs.{needs}
-use Rattle.trace.proofs.Kit.{tests}
+use Rattle.parts.proofs.Kit.{tests}
 use Rattle.trace.specs.Trace.{lettersEndOf}
 use Rattle.trace.proofs.letters_end.Statement.{statement}
 use Rattle.trace.proofs.letters_end.Tie as tie

@@ -1,8 +1,9 @@
 use denote.Ref.{now}
+use mathlib.Core.Path.{refl}
 use Rattle.trace.proofs.Laws.{letters-range}
 use native.Mathlib.Omega.{arith}
 use borrow.Author.Needs.{needs}
-use Rattle.trace.proofs.Kit.{tests}
+use Rattle.parts.proofs.Kit.{tests}
 use Rattle.trace.specs.Trace.{lettersOf}
 use Rattle.trace.proofs.letters_of.Statement.{statement}
 use Rattle.trace.proofs.letters_of.Tie as tie
@@ -21,7 +22,7 @@ part-result-end c = omega (arith, c .letters-end .ensures, letters-range (now (c
 
 returns : tie.Need-returns
 unfolding lettersOf
-returns c = simp (tests, ← c .before .letters-end .ensures)
+returns c = (simp (tests, ← c .before .letters-end .ensures), refl)
 
 pub letters-of-spec : {M : Type 1} → statement M
 letters-of-spec =
