@@ -8,7 +8,7 @@ use native.Mathlib.Numerals.{add-one}
 use native.Mathlib.Nat.{add-assoc, add-zero}
 use native.Mathlib.Omega.{arith}
 use lib.ListN.{length, getD, take, drop, set, drop-of-length-le, take-append-drop}
-use lib.Seq.{drop-cons, take-suc-set, drop-set-lt, drop-drop}
+use lib.Seq.{drop-cons, take-suc-set, drop-set-lt}
 use Rattle.parts.specs.declared.Facts.{Facts}
 use Rattle.parts.specs.declared.Event.{Event}
 use Rattle.parts.specs.declared.Event.the-variants.{Clock, Start, Stop, Ends, PinLow, PinHigh, PinFloat, Reset, Unknown}
@@ -25,6 +25,7 @@ use Rattle.state.specs.declared.Chip.{Chip}
 use Rattle.chip.specs.Memory.{Mem, mem, chip, stateOf, storeOf, answerOf, seenOf, latchOf}
 use Rattle.chip.specs.Runs.{afterOf, memoryOf, levelsOf, cyclesOf}
 use Rattle.chip.specs.Calls.{stepBy}
+use Rattle.chip.specs.Onward.{Leads}
 
 -- an event begins at most one cycle
 begun-by : (a : Asked) → begunBy a ≤ 1
@@ -70,47 +71,52 @@ module _ (f : Facts) (en : ℕ) (c : Chip) (m : Mem) (code : ℕ) (ev : Event) (
   unfolding moveOf
   cycles-are = rw (hm, he) refl
 
--- what is left of the events gives the whole
-pub record Going (f : Facts) (en : ℕ) (c₀ : Chip) (m₀ : Mem) (es a₀ : List ℕ) (c : Chip) (m : Mem) (a : List ℕ) (n i : ℕ) : Type 0 where
-  pub state : afterOf f en c (drop i es) ≡ afterOf f en c₀ es
-  pub stored : memoryOf f en c m (drop i es) ≡ memoryOf f en c₀ m₀ es
-  pub count : n + cyclesOf f en c (drop i es) ≡ cyclesOf f en c₀ es
-  pub levels : take i a ++ levelsOf f en c m (drop i es) ≡ levelsOf f en c₀ m₀ es
-  pub rest : drop i a ≡ drop i a₀
+-- ---- what is left of a run
 
-pub going-first : (f : Facts) (en : ℕ) (c : Chip) (m : Mem) (es a : List ℕ) → Going f en c m es a c m a 0 0
-going-first f en c m es a = record { state = refl; stored = refl; count = omega arith; levels = refl; rest = refl }
+pub leads-none : (f : Facts) (en : ℕ) (es : List ℕ) (c : Chip) (m : Mem) (a : List ℕ) (i : ℕ) → i ≤ length es → Leads f en es c m a i c m a i 0
+leads-none f en es c m a i h =
+    record { onward = omega arith; within = h; state = refl; stored = refl; count = omega arith; levels = refl; rest = λ j k. refl }
 
-module _ (f : Facts) (en : ℕ) (c₀ : Chip) (m₀ : Mem) (es a₀ : List ℕ) (c : Chip) (m : Mem) (a : List ℕ) (n i : ℕ)
-    (g : Going f en c₀ m₀ es a₀ c m a n i)
-    (h : i < length es)
-    (k : i < length a) where
-  pub going-on : (c′ : Chip) (m′ : Mem) (x y : ℕ) → c′ ≡ stateOf f en c (eventOf (getD es i 0)) → m′ ≡ storeOf f c m (eventOf (getD es i 0))
+module _ (f : Facts) (en : ℕ) (es : List ℕ) (c : Chip) (m : Mem) (a : List ℕ) (i : ℕ) where
+  pub leads-then : (c′ c″ : Chip) (m′ m″ : Mem) (a′ a″ : List ℕ) (i′ i″ n n′ : ℕ) → Leads f en es c m a i c′ m′ a′ i′ n → Leads f en es c′ m′ a′ i′ c″ m″ a″ i″ n′
+      → Leads f en es c m a i c″ m″ a″ i″ (n + n′)
+  leads-then c′ c″ m′ m″ a′ a″ i′ i″ n n′ x y =
+      record {
+        onward = omega (arith, x .onward, y .onward);
+        within = y .within;
+        state = y .state ∙ x .state;
+        stored = y .stored ∙ x .stored;
+        count = omega (arith, x .count, y .count);
+        levels = y .levels ∙ x .levels;
+        rest = λ j h. y .rest j h ∙ x .rest j (omega (arith, h, y .onward));
+      }
+
+  -- one event
+  pub leads-on : i < length es → i < length a → (c′ : Chip) (m′ : Mem) (x y : ℕ) → c′ ≡ stateOf f en c (eventOf (getD es i 0)) → m′ ≡ storeOf f c m (eventOf (getD es i 0))
       → x ≡ answerOf f en c m (eventOf (getD es i 0)) → y ≡ begunOf (c .line) (eventOf (getD es i 0))
-      → Going f en c₀ m₀ es a₀ c′ m′ (set a i x) (n + y) (i + 1)
+      → Leads f en es c m a i c′ m′ (set a i x) (i + 1) y
   unfolding afterOf memoryOf levelsOf cyclesOf
-  going-on c′ m′ x y hc hm hx hy =
+  leads-on h k c′ m′ x y hc hm hx hy =
       let tail : drop i es ≡ getD es i 0 ∷ drop (suc i) es = drop-cons es i 0 h in
       let e1 : afterOf f en c (drop i es) ≡ afterOf f en c′ (drop (suc i) es) = rw (tail, hc) in
       let e2 : memoryOf f en c m (drop i es) ≡ memoryOf f en c′ m′ (drop (suc i) es) = rw (tail, hc, hm) in
       let e3 : cyclesOf f en c (drop i es) ≡ y + cyclesOf f en c′ (drop (suc i) es) = rw (tail, hc, hy) in
       let e4 : levelsOf f en c m (drop i es) ≡ x ∷ levelsOf f en c′ m′ (drop (suc i) es) = rw (tail, hc, hm, hx) in
       let t : take (suc i) (set a i x) ≡ take i a ++ (x ∷ []) = take-suc-set a i x k in
-      let d : drop (suc i) (set a i x) ≡ drop (suc i) a = drop-set-lt (suc i) a i x (omega arith) in
-      let r : drop (i + 1) a ≡ drop (i + 1) a₀ = sym (drop-drop 1 i a) ∙ ap (λ (z : List ℕ). drop 1 z) (g .rest) ∙ drop-drop 1 i a₀ in
       record {
-        state = rw add-one (sym e1 ∙ g .state);
-        stored = rw add-one (sym e2 ∙ g .stored);
-        count = rw add-one (add-assoc n y (cyclesOf f en c′ (drop (suc i) es)) ∙ ap (λ (z : ℕ). n + z) (sym e3) ∙ g .count);
-        levels = rw (add-one, t) (append-assoc (take i a) (x ∷ []) (levelsOf f en c′ m′ (drop (suc i) es)) ∙ ap (λ (z : List ℕ). take i a ++ z) (sym e4) ∙ g .levels);
-        rest = rw add-one (d ∙ (rw add-one at r));
+        onward = omega arith;
+        within = omega arith;
+        state = rw add-one (sym e1);
+        stored = rw add-one (sym e2);
+        count = rw add-one (sym e3);
+        levels = rw (add-one, t) (append-assoc (take i a) (x ∷ []) (levelsOf f en c′ m′ (drop (suc i) es)) ∙ ap (λ (z : List ℕ). take i a ++ z) (sym e4));
+        rest = λ j u. drop-set-lt j a i x (omega (arith, u));
       }
 
 -- at the last event the whole is there
 module _ (f : Facts) (en : ℕ) (c₀ : Chip) (m₀ : Mem) (es a₀ : List ℕ) (c : Chip) (m : Mem) (a : List ℕ) (n i : ℕ)
-    (g : Going f en c₀ m₀ es a₀ c m a n i)
-    (h : length es ≤ i)
-    (k : i ≤ length es) where
+    (g : Leads f en es c₀ m₀ a₀ 0 c m a i n)
+    (h : length es ≤ i) where
   pub gone-state : c ≡ afterOf f en c₀ es
   unfolding afterOf
   gone-state = sym (rw (drop-of-length-le es h) refl) ∙ g .state
@@ -130,5 +136,5 @@ module _ (f : Facts) (en : ℕ) (c₀ : Chip) (m₀ : Mem) (es a₀ : List ℕ) 
   gone-levels =
       let none : levelsOf f en c m (drop i es) ≡ [] = rw (drop-of-length-le es h) refl in
       let all : take i a ≡ levelsOf f en c₀ m₀ es = sym (append-nil (take i a)) ∙ ap (λ (z : List ℕ). take i a ++ z) (sym none) ∙ g .levels in
-      let same : i ≡ length es = omega arith in
-      sym (take-append-drop i a) ∙ ap (λ (z : List ℕ). z ++ drop i a) all ∙ ap (λ (z : List ℕ). levelsOf f en c₀ m₀ es ++ z) (g .rest ∙ ap (λ (z : ℕ). drop z a₀) same)
+      let same : i ≡ length es = omega (arith, g .within) in
+      sym (take-append-drop i a) ∙ ap (λ (z : List ℕ). z ++ drop i a) all ∙ ap (λ (z : List ℕ). levelsOf f en c₀ m₀ es ++ z) (g .rest i (omega arith) ∙ ap (λ (z : ℕ). drop z a₀) same)

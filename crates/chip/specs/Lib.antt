@@ -2,3 +2,4 @@ pub mod Memory
 pub mod Runs
 pub mod Delivery
 pub mod Calls
+pub mod Onward

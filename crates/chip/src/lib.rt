@@ -4,13 +4,15 @@ ghost use Prim.Native.Nat.{_+_, _<_, _≤_};
 ghost use lib.ListN.{length, set, take, drop, getD, replicate};
 ghost use Rattle.parts.specs.Table.{factsOf, idSizeOf};
 ghost use Rattle.chip.specs.Runs.{afterOf, memoryOf, levelsOf, cyclesOf};
+ghost use Rattle.chip.specs.Onward.{Leads, Coasts, ignoresOf, ignoredOf, goesOnOf, largerOf, highestOf};
 ghost use Rattle.chip.specs.Delivery.{pinAtFirstOf, standbyOf, codedOf, deliveredOf};
 ghost use Rattle.chip.specs.Calls.{buffersRightOf, deliverVerdictOf, deliverMem, stepVerdictOf, stepBy, stepMem, scanOf, isBad, placeOf, runVerdictOf, runBy, runMem, runAnswers};
 ghost use mathlib.Core.Bool.{cond, false};
 ghost use mathlib.Core.List.{_++_};
 ghost use lib.Dec.{eqb};
 ghost use Rattle.line.specs.Rules.{moveOf, actOf};
-ghost use Rattle.chip.specs.Memory.{noLatch, latchOf, oneOf, enteredOf, pageStartOf, mem, committedOf, cycleStoredOf, storedOf, isEnd, storeOf, shownOf, seenOf, chip};
+ghost use Rattle.parts.specs.declared.Facts.{Facts};
+ghost use Rattle.chip.specs.Memory.{Mem, noLatch, latchOf, oneOf, enteredOf, pageStartOf, mem, committedOf, cycleStoredOf, storedOf, isEnd, storeOf, shownOf, seenOf, chip};
 use line::Act;
 use line::Core;
 use line::Cycle;
@@ -18,6 +20,7 @@ use line::Line;
 use line::Move;
 use line::Phase;
 use line::Pin;
+use line::Recv;
 use line::Target;
 use parts::Event;
 use parts::Faults;
@@ -307,6 +310,24 @@ fn step_verdict(part: u8, enable: u8, chip: Chip, n: usize, d: usize, code: u8) 
     })
 }
 
+fn larger(a: u8, b: u8) -> u8
+    ensures { λ r. ⌜ r ≡ largerOf a b ⌝ }
+{
+    if a < b { b } else { a }
+}
+
+fn highest(events: &[u8]) -> u8
+    ensures { λ r. ⌜ r ≡ highestOf 0 (now (events .entry)) ⌝ }
+{
+    let mut top = 0;
+    let mut i = 0;
+    while i < events.len() {
+        top = larger(top, events[i]);
+        i += 1;
+    }
+    top
+}
+
 // Where the first event stands that the part does not take.
 fn first_bad(pin: bool, events: &[u8]) -> Scan
     ensures { λ r. ⌜ r ≡ scanOf pin 0 (now (events .entry)) ⌝ }
@@ -320,6 +341,17 @@ fn first_bad(pin: bool, events: &[u8]) -> Scan
         i += 1;
     }
     Scan::Clean
+}
+
+// The same; where every part takes each of the events, without a test for each.
+fn scanned(pin: bool, events: &[u8]) -> Scan
+    ensures { λ r. ⌜ r ≡ scanOf pin 0 (now (events .entry)) ⌝ }
+{
+    let top = highest(events);
+    if top < 5 {
+        return Scan::Clean;
+    }
+    first_bad(pin, events)
 }
 
 fn is_bad(scan: Scan) -> bool
@@ -357,7 +389,7 @@ fn run_verdict(
     let enabled = parts::enable_right(f, enable);
     let lent = buffers_right(part, n, d);
     let ranged = state::in_range(part, chip);
-    let found = first_bad(pin, events);
+    let found = scanned(pin, events);
     let bad = is_bad(found);
     let place = place_of(found);
     parts::given(Faults {
@@ -506,6 +538,182 @@ pub fn step(part: u8, enable: u8, chip: Chip, array: &mut [u8], id: &mut [u8], c
 
 // ---- a list of events
 
+// Where a stretch of events ended.
+struct Stretch {
+    line: Line,
+    at: usize,
+}
+
+fn ignores(phase: Phase) -> u8
+    ensures { λ r. ⌜ r ≡ ignoresOf phase ⌝ }
+{
+    match phase {
+        Phase::Idle => 2,
+        Phase::Receive(_) => 0,
+        Phase::Send(_) => 0,
+        Phase::Busy(_) => 4,
+    }
+}
+
+fn ignored(code: u8) -> u8
+    ensures { λ r. ⌜ r ≡ ignoredOf code ⌝ }
+{
+    if code < 2 { 1 } else { 2 }
+}
+
+// Events that the chip ignores.
+fn hold(line: Line, events: &[u8], answers: &mut [u8], from: usize) -> Stretch
+    requires { ⌜ (from ≤ length (now events)) × (length (now events) ≤ length (now answers)) ⌝ }
+    ensures { λ r. ⌜ ((f : Facts) (m : Mem) → Coasts f m (now (events .entry)) line (now (answers .entry)) from (r .line) (now (answers .exit)) (r .at)) ⌝ }
+{
+    let phase = line.phase;
+    let limit = ignores(phase);
+    let mut i = from;
+    while i < events.len() {
+        let code = events[i];
+        if limit <= code {
+            return Stretch { line: line, at: i };
+        }
+        answers[i] = ignored(code);
+        i += 1;
+    }
+    Stretch { line: line, at: i }
+}
+
+// Bits of a byte that comes in, before its acknowledge.
+fn bits_in(line: Line, recv: Recv, events: &[u8], answers: &mut [u8], from: usize) -> Stretch
+    requires { ⌜ (from ≤ length (now events)) × (length (now events) ≤ length (now answers)) × (line .phase ≡ Phase.Receive recv) ⌝ }
+    ensures { λ r. ⌜ ((f : Facts) (m : Mem) → Coasts f m (now (events .entry)) line (now (answers .entry)) from (r .line) (now (answers .exit)) (r .at)) ⌝ }
+{
+    let mut l = line;
+    let mut i = from;
+    while i < events.len() {
+        let code = events[i];
+        if 1 < code {
+            return Stretch { line: l, at: i };
+        }
+        let left = l.left;
+        if left == 0 {
+            return Stretch { line: l, at: i };
+        }
+        answers[i] = 1;
+        l = Line {
+            phase: Phase::Receive(recv),
+            left: left - 1,
+            shift: l.shift % 128 * 2 + code,
+            ..l
+        };
+        i += 1;
+    }
+    Stretch { line: l, at: i }
+}
+
+fn goes_on(left: u8, code: u8) -> bool
+    ensures { λ r. ⌜ r ≡ goesOnOf left code ⌝ }
+{
+    if left == 0 {
+        return code == 0;
+    }
+    code < 2
+}
+
+// Bits that go out, byte after byte, until the master ends the read.
+fn bits_out(
+    part: u8,
+    line: Line,
+    target: Target,
+    array: &[u8],
+    id: &[u8],
+    events: &[u8],
+    answers: &mut [u8],
+    from: usize,
+) -> Stretch
+    requires { ⌜ (from ≤ length (now events)) × (length (now events) ≤ length (now answers)) × (line .phase ≡ Phase.Send target) ⌝ }
+    ensures { λ r. ⌜ Coasts (factsOf part) (mem (now (array .entry)) (now (id .entry))) (now (events .entry)) line (now (answers .entry)) from (r .line) (now (answers .exit)) (r .at) ⌝ }
+{
+    let mut l = line;
+    let mut i = from;
+    while i < events.len() {
+        let on = goes_on(l.left, events[i]);
+        if !on {
+            return Stretch { line: l, at: i };
+        }
+        let core = l.core;
+        let byte = shown(part, core.counter, target, array, id);
+        let m = line::send(part, l, target, byte, false);
+        let next = m.line;
+        answers[i] = m.level;
+        l = next;
+        i += 1;
+    }
+    Stretch { line: l, at: i }
+}
+
+// As far as events only move bits, or are ignored.
+fn coast(
+    part: u8,
+    line: Line,
+    array: &[u8],
+    id: &[u8],
+    events: &[u8],
+    answers: &mut [u8],
+    from: usize,
+) -> Stretch
+    requires { ⌜ (from ≤ length (now events)) × (length (now events) ≤ length (now answers)) ⌝ }
+    ensures { λ r. ⌜ Coasts (factsOf part) (mem (now (array .entry)) (now (id .entry))) (now (events .entry)) line (now (answers .entry)) from (r .line) (now (answers .exit)) (r .at) ⌝ }
+{
+    let phase = line.phase;
+    match phase {
+        Phase::Idle => hold(line, events, answers, from),
+        Phase::Receive(r) => bits_in(line, r, events, answers, from),
+        Phase::Send(t) => bits_out(part, line, t, array, id, events, answers, from),
+        Phase::Busy(_) => hold(line, events, answers, from),
+    }
+}
+
+struct Turned {
+    line: Line,
+    at: usize,
+    cycles: usize,
+}
+
+// A stretch, and one event of any kind.
+fn turn(
+    part: u8,
+    enable: u8,
+    line: Line,
+    latch: &mut [u16; 64],
+    array: &mut [u8],
+    id: &mut [u8],
+    events: &[u8],
+    answers: &mut [u8],
+    from: usize,
+) -> Turned
+    requires { ⌜ (from < length (now events)) × (length (now events) ≤ length (now answers)) × (length (now latch) ≡ 64) ⌝ }
+    ensures leads { λ r. ⌜ Leads (factsOf part) enable (now (events .entry)) (chip line (now (latch .entry))) (mem (now (array .entry)) (now (id .entry))) (now (answers .entry)) from (chip (r .line) (now (latch .exit))) (mem (now (array .exit)) (now (id .exit))) (now (answers .exit)) (r .at) (r .cycles) ⌝ }
+    ensures range { λ r. ⌜ (from < r .at) × (r .cycles ≤ 1) × (length (now (latch .exit)) ≡ 64) ⌝ }
+{
+    let s = coast(part, line, array, id, events, answers, from);
+    let here = s.line;
+    let at = s.at;
+    if at < events.len() {
+        let event = parts::event_of(events[at]);
+        let m = stir(part, enable, here, latch, array, id, event);
+        let next = m.line;
+        answers[at] = m.level;
+        return Turned {
+            line: next,
+            at: at + 1,
+            cycles: m.cycles as usize,
+        };
+    }
+    Turned {
+        line: here,
+        at: at,
+        cycles: 0,
+    }
+}
+
 struct Went {
     line: Line,
     cycles: usize,
@@ -531,13 +739,11 @@ fn run_all(
     let mut cycles: usize = 0;
     let mut i = 0;
     while i < events.len() {
-        let event = parts::event_of(events[i]);
-        let m = stir(part, enable, at, latch, array, id, event);
-        let next = m.line;
-        answers[i] = m.level;
-        cycles += m.cycles as usize;
+        let t = turn(part, enable, at, latch, array, id, events, answers, i);
+        let next = t.line;
+        cycles += t.cycles;
         at = next;
-        i += 1;
+        i = t.at;
     }
     Went {
         line: at,

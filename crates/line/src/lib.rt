@@ -465,7 +465,8 @@ fn bit_at(byte: u8, left: u8) -> u8
     0
 }
 
-fn send(part: u8, line: Line, target: Target, byte: u8, value: bool) -> Move
+// A clock of a byte that is sent.
+pub fn send(part: u8, line: Line, target: Target, byte: u8, value: bool) -> Move
     ensures { λ r. ⌜ r ≡ record { line = sentOf (factsOf part) line value target (line .left); act = Act.Keep; level = sendLevelOf byte (line .left); cycles = 0 } ⌝ }
 {
     let left = line.left;

@@ -1,21 +1,18 @@
-use Rattle.line.specs.Rules.{actOf}
-use denote.Ref.{now}
-use Prim.Native.Nat.{_-_, _≤_, _+_}
-use mathlib.Core.Path.{_≡_, refl, ap, _∙_}
-use lib.ListN.{length, getD, length-set}
-use Rattle.parts.specs.Events.{eventOf}
-use Rattle.parts.specs.Table.{factsOf}
+use Rattle.chip.proofs.Turns.{leads-none, leads-then, gone-state, gone-count, gone-stored, gone-levels}
+use Rattle.chip.specs.Onward.{Leads}
 use Rattle.chip.specs.Memory.{mem, chip}
-use Rattle.chip.proofs.Laws.{latch-length}
-use Rattle.chip.proofs.Turns.{Going, going-first, going-on, moved-on, level-is, cycles-are, begun-most, gone-state, gone-count, gone-stored, gone-levels}
-use borrow.Author.Needs.{needs}
+use Rattle.parts.specs.Table.{factsOf}
+use denote.Ref.{now}
+use lib.ListN.{length}
+use mathlib.Core.Path.{_≡_, _∙_, refl}
+use Prim.Native.Nat.{_-_, _≤_, _+_}
 use native.Mathlib.Omega.{arith}
+use borrow.Author.Needs.{needs}
 use Rattle.chip.proofs.run_all.Statement.{statement}
 use Rattle.chip.proofs.run_all.Tie as tie
 use Rattle.chip.proofs.run_all.Reads as reads
 use Rattle.chip.proofs.run_all.Lts as lts
-use Rattle.chip.proofs.stir.Reads as stir-reads
-use Rattle.parts.proofs.event_of.Reads as event-of-reads
+use Rattle.chip.proofs.turn.Reads as turn-reads
 
 abbrev Inv-loop : tie.InvT-loop
 Inv-loop part enable latch₀ array₀ id₀ events answers₀ at₀ cycles₀ i₀ latch array id answers at cycles i =
@@ -25,65 +22,37 @@ Inv-loop part enable latch₀ array₀ id₀ events answers₀ at₀ cycles₀ i
     × (length id ≡ length id₀)
     × (length answers ≡ length answers₀)
     × (cycles ≤ i)
-    × Going (factsOf part) enable (chip at₀ latch₀) (mem array₀ id₀) events answers₀ (chip at latch) (mem array id) answers cycles i
+    × Leads (factsOf part) enable events (chip at₀ latch₀) (mem array₀ id₀) answers₀ 0 (chip at latch) (mem array id) answers i cycles
 
 abbrev μ-loop : tie.MeasureT-loop
-μ-loop part enable latch₀ array₀ id₀ events answers₀ at₀ cycles₀ i₀ latch array id answers at cycles i = length events - i
+μ-loop part enable latch₀ array₀ id₀ events answers₀ at₀ cycles₀ i₀ latch array id answers at cycles i =
+    length events - i
 
 loop-holds : tie.Need-loop-holds Inv-loop μ-loop
-loop-holds c = (omega arith, search needs, refl, refl, refl, omega arith, going-first _ _ _ _ _ _)
+loop-holds c = (omega arith, search needs, refl, refl, refl, omega arith, leads-none _ _ _ _ _ _ _ (omega arith))
 
-shared-slice-read-event-of : tie.Need-shared-slice-read-event-of Inv-loop μ-loop
-shared-slice-read-event-of c = search needs
-
-event-of-requires : tie.Need-event-of-requires Inv-loop μ-loop
-event-of-requires c κs = search needs
-
-stir-requires : tie.Need-stir-requires Inv-loop μ-loop
-stir-requires c κs = search needs
-
-slice-write-answers : tie.Need-slice-write-answers Inv-loop μ-loop
-slice-write-answers c = search needs
-
-cast-cycles : tie.Need-cast-cycles Inv-loop μ-loop
-cast-cycles c = search needs
+turn-requires : tie.Need-turn-requires Inv-loop μ-loop
+turn-requires c κs = search needs
 
 add-cycles : tie.Need-add-cycles Inv-loop μ-loop
-add-cycles c =
-    let a = c .before .before .before .before .before .before .before .before .before .before .before .before .before .before .before .before .before .before .args in
-    let l = c .before .before .before .before .before .before .before .before .before .before .before .before .before .loop in
-    let t = c .before .before .before .before .before .before .stir in
-    let code = getD (now (a .events)) (l .i) 0 in
-    let cy = cycles-are (factsOf (a .part)) (a .enable) (chip (l .at) (l .latch)) (mem (l .array) (l .id)) code _ (t .result) _ (c .before .before .before .before .before .before .before .before .before .before .event-of .ensures) (t .ensures .0) (t .ensures .1 .0) in
-    omega (arith, cy, begun-most (l .at) (eventOf code), l .inv .5, l .inv .0, c .before .before .before .before .before .before .before .before .before .before .before .before .before .before .before .before .before .before .pre .0)
-
-add-i : tie.Need-add-i Inv-loop μ-loop
-add-i c = omega (arith, c .before .before .before .before .before .before .before .before .before .before .before .before .before .loop .inv .0, c .before .before .before .before .before .before .before .before .before .before .before .before .before .before .before .before .before .before .pre .0)
+add-cycles c = omega (arith, c .before .before .before .before .before .before .before .before .before .before .before .before .before .before .loop .inv .5, c .before .before .before .before .before .before .before .before .before .before .before .before .before .before .loop .inv .0, c .before .before .before .before .before .before .before .before .turn .ensures .1 .1, c .before .before .before .before .before .before .before .before .before .before .before .before .before .before .before .before .before .before .before .pre .0)
 
 loop-less : tie.Need-loop-less Inv-loop μ-loop
-loop-less c = search needs
+loop-less c = omega (arith, c .before .before .before .before .before .before .before .before .before .before .before .before .before .loop-test .taken, c .before .before .before .before .before .before .before .before .turn .ensures .1 .0)
 
 loop-again : tie.Need-loop-again Inv-loop μ-loop
 loop-again c =
-    let a = c .before .before .before .before .before .before .before .before .before .before .before .before .before .before .before .before .before .before .args in
-    let l = c .before .before .before .before .before .before .before .before .before .before .before .before .before .loop in
-    let t = c .before .before .before .before .before .before .stir in
-    let code = getD (now (a .events)) (l .i) 0 in
-    let before = chip (l .at) (l .latch) in
-    let held = mem (l .array) (l .id) in
-    let ev = c .before .before .before .before .before .before .before .before .before .before .event-of .ensures in
-    let cy = cycles-are (factsOf (a .part)) (a .enable) before held code _ (t .result) _ ev (t .ensures .0) (t .ensures .1 .0) in (
-      omega (arith, c .before .before .before .before .before .before .before .before .before .before .before .before .loop-test .taken, l .inv .0),
-      ap length (t .ensures .1 .0) ∙ latch-length (l .latch) (actOf (factsOf (a .part)) (a .enable) (l .at) (c .before .before .before .before .before .before .before .before .before .before .event-of .result)) (l .inv .1),
+    let a = c .before .before .before .before .before .before .before .before .before .before .before .before .before .before .before .before .before .before .before .args in
+    let l = c .before .before .before .before .before .before .before .before .before .before .before .before .before .before .loop in
+    let t = c .before .before .before .before .before .before .before .before .turn in
+    let g = t .ensures .0 in (
+      g .within,
+      t .ensures .1 .2,
       search needs,
       search needs,
-      simp length-set (l .inv .4),
-      omega (arith, cy, begun-most (l .at) (eventOf code), l .inv .5),
-      going-on (factsOf (a .part)) (a .enable) _ _ (now (a .events)) _ before held (l .answers) (l .cycles) (l .i) (l .inv .6) (c .before .before .before .before .before .before .before .before .before .before .before .before .loop-test .taken) (omega (arith, c .before .before .before .before .before .before .before .before .before .before .before .before .loop-test .taken, l .inv .4, c .before .before .before .before .before .before .before .before .before .before .before .before .before .before .before .before .before .before .pre .1)) _ _ _ _
-          (moved-on (factsOf (a .part)) (a .enable) before held code _ (t .result) _ ev (t .ensures .0) (t .ensures .1 .0))
-          (rw (t .ensures .1 .1 .0, t .ensures .1 .1 .1, ev) refl)
-          (level-is (factsOf (a .part)) (a .enable) before held code _ (t .result) _ ev (t .ensures .0) (t .ensures .1 .0))
-          cy,
+      search needs,
+      omega (arith, l .inv .5, t .ensures .1 .0, t .ensures .1 .1),
+      leads-then _ _ _ _ _ _ _ _ _ _ _ _ _ _ _ _ _ (l .inv .6) g,
     )
 
 same-length : tie.Need-same-length Inv-loop μ-loop
@@ -98,7 +67,7 @@ same-length-3 c = search needs
 returns : tie.Need-returns Inv-loop μ-loop
 returns c =
     let g = c .before .loop .inv .6 in
-    (gone-state _ _ _ _ _ _ _ _ _ _ _ g (omega arith) (omega arith), (gone-count _ _ _ _ _ _ _ _ _ _ _ g (omega arith) (omega arith), (gone-stored _ _ _ _ _ _ _ _ _ _ _ g (omega arith) (omega arith), gone-levels _ _ _ _ _ _ _ _ _ _ _ g (omega arith) (omega arith))))
+    (gone-state _ _ _ _ _ _ _ _ _ _ _ g (omega arith), (gone-count _ _ _ _ _ _ _ _ _ _ _ g (omega arith), (gone-stored _ _ _ _ _ _ _ _ _ _ _ g (omega arith), gone-levels _ _ _ _ _ _ _ _ _ _ _ g (omega arith))))
 
 pub run-all-spec : {M : Type 1} → statement M
 run-all-spec =
@@ -107,13 +76,8 @@ run-all-spec =
     Inv-loop
     μ-loop
     loop-holds
-    shared-slice-read-event-of
-    event-of-requires
-    stir-requires
-    slice-write-answers
-    cast-cycles
+    turn-requires
     add-cycles
-    add-i
     loop-less
     loop-again
     same-length

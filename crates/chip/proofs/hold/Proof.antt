@@ -1,0 +1,89 @@
+use Rattle.chip.proofs.Quick.{coast-none, coast-on, passes-ignored}
+use Rattle.chip.specs.Onward.{Coasts}
+use Rattle.chip.specs.Memory.{Mem}
+use Rattle.parts.specs.declared.Facts.{Facts}
+use denote.Ref.{now}
+use lib.ListN.{length, length-set}
+use mathlib.Core.Path.{_≡_, refl}
+use Prim.Native.Nat.{_-_, _≤_}
+use native.Mathlib.Omega.{arith}
+use borrow.Author.Needs.{needs}
+use Rattle.chip.proofs.hold.Statement.{statement}
+use Rattle.chip.proofs.hold.Tie as tie
+use Rattle.chip.proofs.hold.Reads as reads
+use Rattle.chip.proofs.hold.Lts as lts
+use Rattle.chip.proofs.ignored.Reads as ignored-reads
+use Rattle.chip.proofs.ignores.Reads as ignores-reads
+
+abbrev Inv-loop : tie.InvT-loop
+Inv-loop line events answers₀ from limit i₀ answers i =
+    (i ≤ length events)
+    × (length answers ≡ length answers₀)
+    × ((f : Facts) (m : Mem) → Coasts f m events line answers₀ from line answers i)
+
+abbrev μ-loop : tie.MeasureT-loop
+μ-loop line events answers₀ from limit i₀ answers i = length events - i
+
+ignores-requires : tie.Need-ignores-requires Inv-loop μ-loop
+ignores-requires c κs = search needs
+
+loop-holds : tie.Need-loop-holds Inv-loop μ-loop
+loop-holds c = (omega arith, refl, λ f m. coast-none f m _ _ _ _ (omega arith))
+
+shared-slice-read-code : tie.Need-shared-slice-read-code Inv-loop μ-loop
+shared-slice-read-code c = search needs
+
+same-length : tie.Need-same-length Inv-loop μ-loop
+same-length c = search needs
+
+returns : tie.Need-returns Inv-loop μ-loop
+returns c = c .before .before .before .loop .inv .2
+
+ignored-requires : tie.Need-ignored-requires Inv-loop μ-loop
+ignored-requires c κs = search needs
+
+slice-write-answers : tie.Need-slice-write-answers Inv-loop μ-loop
+slice-write-answers c = search needs
+
+add-i : tie.Need-add-i Inv-loop μ-loop
+add-i c = search needs
+
+loop-less : tie.Need-loop-less Inv-loop μ-loop
+loop-less c = search needs
+
+loop-again : tie.Need-loop-again Inv-loop μ-loop
+loop-again c =
+    let l = c .before .before .before .before .loop in
+    let a = c .before .before .before .before .before .before .before .before .args in (
+      omega arith,
+      simp length-set (l .inv .1),
+      λ f m.
+          rw (c .ignored .ensures)
+          (coast-on f m (now (a .events)) (a .line) _ (a .from) (a .line) (a .line) (l .answers) (l .i) _ (l .inv .2 f m) (omega arith) (omega arith)
+          (passes-ignored f m (a .line) _ (omega (arith, c .before .before .before .before .before .ignores .ensures)))),
+    )
+
+same-length-2 : tie.Need-same-length-2 Inv-loop μ-loop
+same-length-2 c = search needs
+
+returns-2 : tie.Need-returns-2 Inv-loop μ-loop
+returns-2 c = c .before .loop .inv .2
+
+pub hold-spec : {M : Type 1} → statement M
+hold-spec =
+    tie.close
+    (tie.spec
+    Inv-loop
+    μ-loop
+    ignores-requires
+    loop-holds
+    shared-slice-read-code
+    same-length
+    returns
+    ignored-requires
+    slice-write-answers
+    add-i
+    loop-less
+    loop-again
+    same-length-2
+    returns-2)

@@ -1,0 +1,16 @@
+use Rattle.parts.proofs.Kit.{tests}
+use native.Mathlib.Omega.{arith}
+use borrow.Author.Needs.{needs}
+use Rattle.chip.proofs.larger.Statement.{statement}
+use Rattle.chip.proofs.larger.Tie as tie
+use Rattle.chip.proofs.larger.Reads as reads
+use Rattle.chip.proofs.larger.Lts as lts
+
+returns : tie.Need-returns
+returns c = simp (tests, c .if1 .taken)
+
+returns-2 : tie.Need-returns-2
+returns-2 c = simp (tests, c .if1 .left)
+
+pub larger-spec : {M : Type 1} → statement M
+larger-spec = tie.close (tie.spec returns returns-2)
