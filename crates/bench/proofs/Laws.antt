@@ -393,51 +393,57 @@ first-by true d h = absurd (false≢true (sym h))
 first-by false zero h = absurd (false≢true (sym h))
 first-by false (suc d) h = omega arith
 
-judged : (p e bf st sh y l : Bool) (d : ℕ)
-    → givenOf record { part = p; enable = e; buffer = bf; state = st; many = false; event = false; place = 0; short = sh; beyond = eqb (numberBy (givenOf (own p e y l))) 7; limit = limitedOf (eqb (numberBy (givenOf (own p e y l))) 8) d; image = false }
-    ≡ givenOf record { part = p; enable = e; buffer = bf; state = st; many = false; event = false; place = 0; short = sh; beyond = y; limit = limitedOf l d; image = false }
+judged : (p e x bf st sh y l : Bool) (d : ℕ)
+    → givenOf record { part = p; enable = cond e x true; buffer = bf; state = st; many = false; event = false; place = 0; short = sh; beyond = eqb (numberBy (givenOf (own p (not e) y l))) 7; limit = limitedOf (eqb (numberBy (givenOf (own p (not e) y l))) 8) d; image = false }
+    ≡ givenOf record { part = p; enable = cond e x true; buffer = bf; state = st; many = false; event = false; place = 0; short = sh; beyond = y; limit = limitedOf l d; image = false }
 unfolding givenOf
-judged true e bf st sh y l d = refl
-judged false true bf st sh y l d = refl
-judged false false bf st sh true l d = refl
-judged false false bf st sh false true d = refl
-judged false false bf st sh false false d = refl
+judged true e x bf st sh y l d = refl
+judged false false x bf st sh y l d = refl
+judged false true x bf st sh true l d = refl
+judged false true x bf st sh false true d = refl
+judged false true x bf st sh false false d = refl
 
-module _ (r : Request) (d : ℕ) (c : Chip) (n i b : ℕ) where
-  judge-is : givenOf record { part = not (factsOf (r .part) .known); enable = not (enableRightOf (factsOf (r .part)) (r .enable)); buffer = not (buffersRightOf (factsOf (r .part)) n i); state = tooUnfit (inRangeOf (factsOf (r .part)) c) (r .reads) (r .length) b; many = false; event = false; place = 0; short = shortOf (r .reads) (r .length) b; beyond = eqb (numberBy (judgeOf r)) 7; limit = limitedOf (eqb (numberBy (judgeOf r)) 8) d; image = false }
-      ≡ benchVerdictOf r d c n i b
+-- both enables are right
+both-by : (a b : Bool) → cond a (not b) true ≡ false → b ≡ true
+both-by true true h = refl
+both-by true false h = absurd (false≢true (sym h))
+both-by false b h = absurd (false≢true (sym h))
+
+module _ (r : Request) (enable d : ℕ) (c : Chip) (n i b : ℕ) where
+  judge-is : givenOf record { part = not (factsOf (r .part) .known); enable = cond (enableRightOf (factsOf (r .part)) (r .enable)) (not (enableRightOf (factsOf (r .part)) enable)) true; buffer = not (buffersRightOf (factsOf (r .part)) n i); state = tooUnfit (inRangeOf (factsOf (r .part)) c) (r .reads) (r .length) b; many = false; event = false; place = 0; short = shortOf (r .reads) (r .length) b; beyond = eqb (numberBy (judgeOf r)) 7; limit = limitedOf (eqb (numberBy (judgeOf r)) 8) d; image = false }
+      ≡ benchVerdictOf r enable d c n i b
   unfolding benchVerdictOf judgeOf faultsOf tooUnfit shortOf limitedOf
   judge-is =
-      judged (not (factsOf (r .part) .known)) (not (enableRightOf (factsOf (r .part)) (r .enable))) _ _ _ (beyondAt (fromOf (r .place)) (r .length) (roomOf (factsOf (r .part)) (r .place)) (thereOf (factsOf (r .part)) (r .place))) (limitOf (r .reads) (r .budget)) d
+      judged (not (factsOf (r .part) .known)) (enableRightOf (factsOf (r .part)) (r .enable)) _ _ _ _ (beyondAt (fromOf (r .place)) (r .length) (roomOf (factsOf (r .part)) (r .place)) (thereOf (factsOf (r .part)) (r .place))) (limitOf (r .reads) (r .budget)) d
 
   pub judge-by : (f : Facts) (en lent ranged : Bool) (v : Verdict) (own : ℕ) (wrong scant limit : Bool) → f ≡ factsOf (r .part)
-      → en ≡ enableRightOf f (r .enable) → lent ≡ buffersRightOf (factsOf (r .part)) n i → ranged ≡ inRangeOf (factsOf (r .part)) c
+      → en ≡ cond (enableRightOf f (r .enable)) (not (enableRightOf f enable)) true → lent ≡ buffersRightOf (factsOf (r .part)) n i → ranged ≡ inRangeOf (factsOf (r .part)) c
       → v ≡ judgeOf r → own ≡ numberBy v → wrong ≡ tooUnfit ranged (r .reads) (r .length) b → scant ≡ shortOf (r .reads) (r .length) b
       → limit ≡ limitedOf (eqb own 8) d
-      → givenOf record { part = not (f .known); enable = not en; buffer = not lent; state = wrong; many = false; event = false; place = 0; short = scant; beyond = eqb own 7; limit = limit; image = false }
-      ≡ benchVerdictOf r d c n i b
+      → givenOf record { part = not (f .known); enable = en; buffer = not lent; state = wrong; many = false; event = false; place = 0; short = scant; beyond = eqb own 7; limit = limit; image = false }
+      ≡ benchVerdictOf r enable d c n i b
   judge-by f en lent ranged v own wrong scant limit hf he hl hr hv ho hw hs hm = rw (hm, hs, hw, ho, hv, hr, hl, he, hf) judge-is
 
   -- what a run that is not refused has
-  pub run-fit : Typed c → benchVerdictOf r d c n i b ≡ Fine → Fit (r .part) (r .enable) c n i
+  pub run-fit : Typed c → benchVerdictOf r enable d c n i b ≡ Fine → Fit (r .part) enable c n i
   unfolding benchVerdictOf
   run-fit t h =
       let l = faultless _ h in
       record {
         known = not-false _ (l .part);
-        enabled = not-false _ (l .enable);
+        enabled = both-by (enableRightOf (factsOf (r .part)) (r .enable)) _ (l .enable);
         lent = not-false _ (l .buffer);
         ranged = ranged-by (inRangeOf (factsOf (r .part)) c) _ (l .state);
         typed = t;
       }
 
-  pub run-length : benchVerdictOf r d c n i b ≡ Fine → r .length ≤ b
+  pub run-length : benchVerdictOf r enable d c n i b ≡ Fine → r .length ≤ b
   unfolding benchVerdictOf
   run-length h =
       let l = faultless _ h in
       room-by (inRangeOf (factsOf (r .part)) c) (r .reads) (r .length) b (l .state) (l .short)
 
-  pub run-first : benchVerdictOf r d c n i b ≡ Fine → 0 < d
+  pub run-first : benchVerdictOf r enable d c n i b ≡ Fine → 0 < d
   unfolding benchVerdictOf
   run-first h = first-by (limitOf (r .reads) (r .budget)) d (faultless _ h .limit)
 

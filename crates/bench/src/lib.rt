@@ -1,10 +1,10 @@
 // The driver against the model: each is told what the other does, until the driver has finished.
 ghost use mathlib.Core.Path.{_≡_};
-ghost use mathlib.Core.Bool.{cond};
+ghost use mathlib.Core.Bool.{cond, not, true};
 ghost use Prim.Native.Nat.{_+_, _<_, _≤_};
 ghost use lib.ListN.{length};
 ghost use lib.Dec.{eqb, ltb};
-ghost use Rattle.parts.specs.Table.{factsOf};
+ghost use Rattle.parts.specs.Table.{factsOf, enableRightOf};
 ghost use Rattle.parts.specs.declared.Event.the-variants.{Ends};
 ghost use Rattle.parts.specs.Events.{eventOf};
 ghost use Rattle.chip.specs.Memory.{mem, storeOf};
@@ -35,6 +35,7 @@ use driver::Driver;
 use driver::Phase;
 use driver::Request;
 use driver::Slot;
+use parts::Facts;
 use parts::Faults;
 use parts::Verdict;
 use state::Chip;
@@ -315,17 +316,18 @@ fn reported(held: Held, answer: Answer) -> Report
 // A request that nothing refuses; `bytes` has the bytes asked for and no more.
 fn drive(
     request: Request,
+    enable: u8,
     d: usize,
     chip: Chip,
     array: &mut [u8],
     id: &mut [u8],
     bytes: &mut [u8],
 ) -> Report
-    requires fit { ⌜ Fit (request .part) (request .enable) chip (length (now array)) (length (now id)) ⌝ }
+    requires fit { ⌜ Fit (request .part) enable chip (length (now array)) (length (now id)) ⌝ }
     requires first { ⌜ 0 < d ⌝ }
-    ensures answer { λ r. ⌜ r ≡ reportOf (turnsOf (factsOf (request .part)) (request .enable) d enough (startOf request (now (bytes .entry)) chip (mem (now (array .entry)) (now (id .entry))))) ⌝ }
-    ensures stored { λ _. ⌜ mem (now (array .exit)) (now (id .exit)) ≡ turnsOf (factsOf (request .part)) (request .enable) d enough (startOf request (now (bytes .entry)) chip (mem (now (array .entry)) (now (id .entry)))) .mem ⌝ }
-    ensures bytes { λ _. ⌜ now (bytes .exit) ≡ turnsOf (factsOf (request .part)) (request .enable) d enough (startOf request (now (bytes .entry)) chip (mem (now (array .entry)) (now (id .entry)))) .buffer ⌝ }
+    ensures answer { λ r. ⌜ r ≡ reportOf (turnsOf (factsOf (request .part)) enable d enough (startOf request (now (bytes .entry)) chip (mem (now (array .entry)) (now (id .entry))))) ⌝ }
+    ensures stored { λ _. ⌜ mem (now (array .exit)) (now (id .exit)) ≡ turnsOf (factsOf (request .part)) enable d enough (startOf request (now (bytes .entry)) chip (mem (now (array .entry)) (now (id .entry)))) .mem ⌝ }
+    ensures bytes { λ _. ⌜ now (bytes .exit) ≡ turnsOf (factsOf (request .part)) enable d enough (startOf request (now (bytes .entry)) chip (mem (now (array .entry)) (now (id .entry)))) .buffer ⌝ }
 {
     let begun = driver::begin(request);
     let driver = begun.driver;
@@ -336,7 +338,7 @@ fn drive(
         cycles: 0,
         clocks: 0,
     };
-    let last = go(request.part, request.enable, d, first, array, id, bytes);
+    let last = go(request.part, enable, d, first, array, id, bytes);
     let asked = last.driver;
     let answered = answer(asked, last.level, bytes);
     reported(last, answered)
@@ -354,6 +356,16 @@ fn buffers_right(part: u8, n: usize, i: usize) -> bool
         return i == own;
     }
     false
+}
+
+// 2: the driver's enable or the chip's is wrong for the part.
+fn enables_wrong(f: Facts, asked: u8, own: u8) -> bool
+    ensures { λ r. ⌜ r ≡ cond (enableRightOf f asked) (not (enableRightOf f own)) true ⌝ }
+{
+    if parts::enable_right(f, asked) {
+        return !parts::enable_right(f, own);
+    }
+    true
 }
 
 // 4: the chip is out of range, or the data have another length than asked.
@@ -402,12 +414,20 @@ fn number(verdict: Verdict) -> u8
 }
 
 // 7 and the budget's 8 are the driver's to judge.
-fn judge(request: Request, d: usize, chip: Chip, n: usize, i: usize, b: usize) -> Verdict
-    ensures { λ r. ⌜ r ≡ benchVerdictOf request d chip n i b ⌝ }
+fn judge(
+    request: Request,
+    enable: u8,
+    d: usize,
+    chip: Chip,
+    n: usize,
+    i: usize,
+    b: usize,
+) -> Verdict
+    ensures { λ r. ⌜ r ≡ benchVerdictOf request enable d chip n i b ⌝ }
 {
     let f = parts::facts_of(request.part);
     let known = f.known;
-    let enabled = parts::enable_right(f, request.enable);
+    let no_enable = enables_wrong(f, request.enable, enable);
     let lent = buffers_right(request.part, n, i);
     let ranged = state::in_range(request.part, chip);
     let own = number(driver::judge(request));
@@ -416,7 +436,7 @@ fn judge(request: Request, d: usize, chip: Chip, n: usize, i: usize, b: usize) -
     let limit = limited(own == 8, d);
     parts::given(Faults {
         part: !known,
-        enable: !enabled,
+        enable: no_enable,
         buffer: !lent,
         state: wrong,
         many: false,
@@ -429,26 +449,35 @@ fn judge(request: Request, d: usize, chip: Chip, n: usize, i: usize, b: usize) -
     })
 }
 
-// A request on a chip and its lent buffers, each cycle ending just before its poll number d. The buffer holds the bytes to write,
-// or takes the bytes read.
+// A request on a chip at its own enable and its lent buffers, each cycle ending just before its poll number d. The buffer holds the
+// bytes to write, or takes the bytes read.
 pub fn run(
     request: Request,
+    enable: u8,
     d: usize,
     chip: Chip,
     array: &mut [u8],
     id: &mut [u8],
     buffer: &mut [u8],
 ) -> Report
-    ensures answer { λ r. ⌜ r ≡ benchBy request d chip (mem (now (array .entry)) (now (id .entry))) (now (buffer .entry)) (benchVerdictOf request d chip (length (now (array .entry))) (length (now (id .entry))) (length (now (buffer .entry)))) ⌝ }
-    ensures stored { λ _. ⌜ mem (now (array .exit)) (now (id .exit)) ≡ benchMem request d chip (mem (now (array .entry)) (now (id .entry))) (now (buffer .entry)) (benchVerdictOf request d chip (length (now (array .entry))) (length (now (id .entry))) (length (now (buffer .entry)))) ⌝ }
-    ensures bytes { λ _. ⌜ now (buffer .exit) ≡ benchBuffer request d chip (mem (now (array .entry)) (now (id .entry))) (now (buffer .entry)) (benchVerdictOf request d chip (length (now (array .entry))) (length (now (id .entry))) (length (now (buffer .entry)))) ⌝ }
+    ensures answer { λ r. ⌜ r ≡ benchBy request enable d chip (mem (now (array .entry)) (now (id .entry))) (now (buffer .entry)) (benchVerdictOf request enable d chip (length (now (array .entry))) (length (now (id .entry))) (length (now (buffer .entry)))) ⌝ }
+    ensures stored { λ _. ⌜ mem (now (array .exit)) (now (id .exit)) ≡ benchMem request enable d chip (mem (now (array .entry)) (now (id .entry))) (now (buffer .entry)) (benchVerdictOf request enable d chip (length (now (array .entry))) (length (now (id .entry))) (length (now (buffer .entry)))) ⌝ }
+    ensures bytes { λ _. ⌜ now (buffer .exit) ≡ benchBuffer request enable d chip (mem (now (array .entry)) (now (id .entry))) (now (buffer .entry)) (benchVerdictOf request enable d chip (length (now (array .entry))) (length (now (id .entry))) (length (now (buffer .entry)))) ⌝ }
 {
-    let verdict = judge(request, d, chip, array.len(), id.len(), buffer.len());
+    let verdict = judge(
+        request,
+        enable,
+        d,
+        chip,
+        array.len(),
+        id.len(),
+        buffer.len(),
+    );
     match verdict {
         Verdict::Fine => {
             let n = request.length;
             let bytes = &mut buffer[..n];
-            drive(request, d, chip, array, id, bytes)
+            drive(request, enable, d, chip, array, id, bytes)
         }
         Verdict::Refused(r) => Report {
             verdict: Verdict::Refused(r),

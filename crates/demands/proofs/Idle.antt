@@ -67,16 +67,16 @@ unfolding standbyOf pinAtFirstOf factsOf
 free = refl
 
 module _ (B : Bench) (p : BenchPromises B) where
-  done : B .report (one false) 1 chip₀ mem₀ byte .verdict ≡ Fine
+  done : B .report (one false) 0 1 chip₀ mem₀ byte .verdict ≡ Fine
   done = p .ends (one false) 1 chip₀ mem₀ byte (called false) refl free (omega arith) .done
 
-  all : B .report (one false) 1 chip₀ mem₀ byte .bytes ≡ 1
+  all : B .report (one false) 0 1 chip₀ mem₀ byte .bytes ≡ 1
   all = p .ends (one false) 1 chip₀ mem₀ byte (called false) refl free (omega arith) .bytes
 
-  stored : getD (B .memory (one false) 1 chip₀ mem₀ byte .cells) 0 0 ≡ 90
+  stored : getD (B .memory (one false) 0 1 chip₀ mem₀ byte .cells) 0 0 ≡ 90
   stored = p .writes (one false) 1 chip₀ mem₀ byte (called false) refl .reported 0 (omega (arith, all))
 
-  read : getD (B .buffer (one true) 1 chip₀ mem₀ byte) 0 0 ≡ 255
+  read : getD (B .buffer (one true) 0 1 chip₀ mem₀ byte) 0 0 ≡ 255
   read = ap (λ (l : List ℕ). getD l 0 0) (p .reads (one true) 1 chip₀ mem₀ byte (called true) refl .buffer)
 
 pub idle-break : IdleBreak

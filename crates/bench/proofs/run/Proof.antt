@@ -17,18 +17,18 @@ enum-told : tie.Need-enum-told
 enum-told c = search needs
 
 slice-relend-prefix-bytes : tie.Need-slice-relend-prefix-bytes
-slice-relend-prefix-bytes c = run-length _ _ _ _ _ _ (sym (c .before .before .judge .ensures) ∙ c .enum-told .given .1)
+slice-relend-prefix-bytes c = run-length _ _ _ _ _ _ _ (sym (c .before .before .judge .ensures) ∙ c .enum-told .given .1)
 
 slice-aggregate-bytes : tie.Need-slice-aggregate-bytes
 slice-aggregate-bytes c =
-    let short : ((c .before .before .before .before .before .before .before .args .request .length) ≤ length (now (c .before .before .before .before .before .before .before .args .buffer))) = run-length _ _ _ _ _ _ (sym (c .before .before .before .judge .ensures) ∙ c .before .enum-told .given .1) in
+    let short : ((c .before .before .before .before .before .before .before .args .request .length) ≤ length (now (c .before .before .before .before .before .before .before .args .buffer))) = run-length _ _ _ _ _ _ _ (sym (c .before .before .before .judge .ensures) ∙ c .before .enum-told .given .1) in
     simp length-take (omega arith)
 
 drive-requires : tie.Need-drive-requires
 drive-requires c κs =
     let v = (sym (c .before .before .before .before .before .judge .ensures) ∙ c .before .before .before .enum-told .given .1) in
     let t : Typed (c .before .before .before .before .before .before .before .before .before .args .chip) = record { byte = search needs; latches = search needs } in
-    (run-fit _ _ _ _ _ _ t v, run-first _ _ _ _ _ _ v)
+    (run-fit _ _ _ _ _ _ _ t v, run-first _ _ _ _ _ _ _ v)
 
 enum-known-verdict : tie.Need-enum-known-verdict
 enum-known-verdict c = search needs
