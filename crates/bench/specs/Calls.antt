@@ -22,6 +22,7 @@ use Rattle.driver.specs.Request.{fromOf, roomOf, thereOf, beyondAt, limitOf}
 use Rattle.driver.specs.Step.{nextOf}
 use Rattle.bench.specs.declared.Report.{Report}
 use Rattle.bench.specs.Together.{System, startOf, turnsOf, enough}
+use Rattle.bench.specs.Tape.{eventsOf, heardOf}
 
 -- 1; 2 of the driver's enable or the chip's; 3; 4 also for data of another length than asked; 6 a read's buffer too short; 7; 8 also
 -- for d outside 1 to 65,535
@@ -56,9 +57,12 @@ reportBy s (Refused r polls bytes) = record { verdict = Judged r; polls = polls;
 abbrev pub reportOf : System → Report
 reportOf s = reportBy s (nextOf (s .driver) (s .level) (s .buffer) .answer)
 
+abbrev pub refusedBy : Refusal → Chip → Report
+refusedBy x c = record { verdict = Judged x; polls = 0; bytes = 0; cycles = 0; clocks = 0; chip = c }
+
 abbrev pub benchBy : Request → ℕ → ℕ → Chip → Mem → List ℕ → Verdict → Report
 benchBy r enable d c m buffer Fine = reportOf (finalOf r enable d c m buffer)
-benchBy r enable d c m buffer (Judged x) = record { verdict = Judged x; polls = 0; bytes = 0; cycles = 0; clocks = 0; chip = c }
+benchBy r enable d c m buffer (Judged x) = refusedBy x c
 
 abbrev pub benchMem : Request → ℕ → ℕ → Chip → Mem → List ℕ → Verdict → Mem
 benchMem r enable d c m buffer Fine = finalOf r enable d c m buffer .mem
@@ -68,3 +72,12 @@ benchMem r enable d c m buffer (Judged x) = m
 abbrev pub benchBuffer : Request → ℕ → ℕ → Chip → Mem → List ℕ → Verdict → List ℕ
 benchBuffer r enable d c m buffer Fine = finalOf r enable d c m buffer .buffer ++ drop (r .length) buffer
 benchBuffer r enable d c m buffer (Judged x) = buffer
+
+-- a refused call sends nothing
+abbrev pub benchEvents : Request → ℕ → ℕ → Chip → Mem → List ℕ → Verdict → List ℕ
+benchEvents r enable d c m buffer Fine = eventsOf (factsOf (r .part)) enable d enough (startOf r (take (r .length) buffer) c m)
+benchEvents r enable d c m buffer (Judged x) = []
+
+abbrev pub benchLevels : Request → ℕ → ℕ → Chip → Mem → List ℕ → Verdict → List ℕ
+benchLevels r enable d c m buffer Fine = heardOf (factsOf (r .part)) enable d enough (startOf r (take (r .length) buffer) c m)
+benchLevels r enable d c m buffer (Judged x) = []

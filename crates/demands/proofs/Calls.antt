@@ -46,6 +46,7 @@ use Rattle.demands.proofs.Turns.{choices, choices-asked, choices-same, 
 use Rattle.demands.proofs.Late.{turns-refused}
 use Rattle.demands.proofs.Shut.{shut-refused}
 use Rattle.demands.proofs.Range.{stays-in-range}
+use Rattle.demands.proofs.Replay.{replayed}
 
 -- ---- a call that is not refused
 either : (t u : Target) → (u ≡ t) ⊎ (u ≡ otherOf t)
@@ -367,4 +368,5 @@ bench-promises =
       reads-back = reads-back;
       protects = λ r d c m ys k w u n. protects enough refl r d c m ys k w u n;
       refuses = untouched;
+      replays = replayed;
     }

@@ -11,15 +11,18 @@ use Rattle.parts.specs.declared.Refusal.{Refusal}
 use Rattle.parts.specs.declared.Refusal.the-variants.{NoData, PollsUsed}
 use Rattle.parts.specs.declared.Verdict.{Verdict}
 use Rattle.parts.specs.declared.Verdict.the-variants.{Fine, Refused as Judged}
+use Rattle.parts.specs.Table.{factsOf}
 use Rattle.line.specs.declared.Target.{Target}
 use Rattle.line.specs.declared.Phase.the-variants.{Idle}
 use Rattle.state.specs.declared.Chip.{Chip}
 use Rattle.chip.specs.Memory.{Mem, cellsOf}
+use Rattle.chip.specs.Runs.{afterOf, memoryOf, levelsOf, cyclesOf}
 use Rattle.laws.specs.Range.{Typed}
 use Rattle.driver.specs.declared.Request.{Request}
 use Rattle.driver.specs.Request.{fromOf, kOf}
+use Rattle.driver_laws.specs.Run.{clocksIn}
 use Rattle.bench.specs.declared.Report.{Report}
-use Rattle.bench.specs.Calls.{benchVerdictOf, benchBy, benchMem, benchBuffer}
+use Rattle.bench.specs.Calls.{benchVerdictOf, benchBy, benchMem, benchBuffer, benchEvents, benchLevels}
 use Rattle.demands.specs.Ground.{targetOf, Bytes}
 use Rattle.demands.specs.Together.{otherOf}
 use Rattle.demands.specs.Ends.{Writable, Shut}
@@ -30,6 +33,9 @@ pub record Bench : Type 0 where
   pub report : Request → ℕ → ℕ → Chip → Mem → List ℕ → Report
   pub memory : Request → ℕ → ℕ → Chip → Mem → List ℕ → Mem
   pub buffer : Request → ℕ → ℕ → Chip → Mem → List ℕ → List ℕ
+  -- the tape: every event that the chip is given, and its level for each
+  pub events : Request → ℕ → ℕ → Chip → Mem → List ℕ → List ℕ
+  pub levels : Request → ℕ → ℕ → Chip → Mem → List ℕ → List ℕ
 
 abbrev pub verdictOf : Request → ℕ → ℕ → Chip → Mem → List ℕ → Verdict
 verdictOf r en d c m ys = benchVerdictOf r en d c (length (m .cells)) (length (m .ident)) (length ys)
@@ -40,6 +46,8 @@ ours =
       report = λ r en d c m ys. benchBy r en d c m ys (verdictOf r en d c m ys);
       memory = λ r en d c m ys. benchMem r en d c m ys (verdictOf r en d c m ys);
       buffer = λ r en d c m ys. benchBuffer r en d c m ys (verdictOf r en d c m ys);
+      events = λ r en d c m ys. benchEvents r en d c m ys (verdictOf r en d c m ys);
+      levels = λ r en d c m ys. benchLevels r en d c m ys (verdictOf r en d c m ys);
     }
 
 -- a call that 1 to 8 do not refuse, on an idle chip of the named part and enable; the lent buffers hold bytes
@@ -111,6 +119,15 @@ module _ (B : Bench) (r : Request) (en d : ℕ) (c : Chip) (m : Mem) (ys : List 
     pub memory : B .memory r en d c m ys ≡ m
     pub buffer : B .buffer r en d c m ys ≡ ys
 
+  -- the tape is the run: its events, given to the same chip one after the other by the chip's own definitions, answer its levels
+  -- and leave what the run leaves
+  pub record Replayed : Type 0 where
+    pub state : afterOf (factsOf (r .part)) en c (B .events r en d c m ys) ≡ report .chip
+    pub memory : memoryOf (factsOf (r .part)) en c m (B .events r en d c m ys) ≡ B .memory r en d c m ys
+    pub levels : levelsOf (factsOf (r .part)) en c m (B .events r en d c m ys) ≡ B .levels r en d c m ys
+    pub cycles : cyclesOf (factsOf (r .part)) en c (B .events r en d c m ys) ≡ report .cycles
+    pub clocks : clocksIn (B .events r en d c m ys) ≡ report .clocks
+
 -- the same place, read
 abbrev pub readOf : Request → Request
 readOf r = record { part = r .part; enable = r .enable; place = r .place; reads = true; length = r .length; budget = r .budget }
@@ -128,3 +145,5 @@ pub record BenchPromises (B : Bench) : Type 0 where
   pub protects : (r : Request) (d : ℕ) (c : Chip) (m : Mem) (ys : List ℕ) → Called r d c m ys → r .reads ≡ false → Shut (r .place) (c .line .core) → 1 ≤ r .length → Protected B r (r .enable) d c m ys
   -- also of a chip at another enable
   pub refuses : (r : Request) (en d : ℕ) (c : Chip) (m : Mem) (ys : List ℕ) (x : Refusal) → verdictOf r en d c m ys ≡ Judged x → Untouched B r en d c m ys x
+  -- of every call, refused or not
+  pub replays : (r : Request) (en d : ℕ) (c : Chip) (m : Mem) (ys : List ℕ) → Replayed B r en d c m ys
