@@ -42,7 +42,8 @@ use Rattle.driver.specs.Step.{bitOf, ninthOf, readyOf, bitsAt, leadAt, lowAt, d
 use Rattle.bench.specs.declared.Held.{Held}
 use Rattle.bench.specs.declared.Report.{Report}
 use Rattle.bench.specs.Together.{System, startOf, clockOf, answeredBy, askedOf, endedOf, pollNext, dueOf, turnOf, turnsOf}
-use Rattle.bench.specs.Held.{whole, sentOf, atEndOf, sendsOf, goingOf, madeOf, Fit, numberBy, unfitOf as tooUnfit, shortOf, limitedOf}
+use Rattle.bench.specs.Tape.{sendsOf, codeOf}
+use Rattle.bench.specs.Held.{whole, sentOf, atEndOf, goingOf, madeOf, Fit, numberBy, unfitOf as tooUnfit, shortOf, limitedOf}
 use Rattle.bench.specs.Calls.{reportBy, reportOf, benchVerdictOf}
 
 -- ---- the chip refuses no event of the driver, and no end of a cycle
@@ -229,7 +230,7 @@ still-by f en s d b (Send e) h = absurd (false≢true (sym h))
 still-by f en s d b (Done polls bytes) h = refl
 still-by f en s d b (Refused r polls bytes) h = refl
 
-not-due : (b x : Bool) → cond b true x ≡ false → (b ≡ false) × (x ≡ false)
+pub not-due : (b x : Bool) → cond b true x ≡ false → (b ≡ false) × (x ≡ false)
 not-due true x h = absurd (false≢true (sym h))
 not-due false x h = (refl, h)
 
@@ -288,18 +289,19 @@ module _ (f : Facts) (en : ℕ) (h : Held) (b : List ℕ) (m : Mem) (a : Asked) 
     (ha : a ≡ nextOf (h .driver) (h .level) b)
     (hb : b′ ≡ bufferOf (h .driver) (h .level) b) where
   pub asked-sent : (e : ℕ) → a .answer ≡ Send e → (h′ : Held) (m′ : Mem) → h′ ≡ sentOf f en h m (a .driver) e → m′ ≡ storeOf f (h .chip) m (eventOf e)
-      → (whole h′ b′ m′ ≡ askedOf f en (whole h b m)) × (true ≡ sendsOf (nextOf (h .driver) (h .level) b .answer))
+      → (whole h′ b′ m′ ≡ askedOf f en (whole h b m)) × (true ≡ sendsOf (nextOf (h .driver) (h .level) b .answer)) × (e ≡ codeOf (nextOf (h .driver) (h .level) b .answer))
   unfolding askedOf
   asked-sent e k h′ m′ hh hm =
       let n : nextOf (h .driver) (h .level) b .answer ≡ Send e = sym (ap (λ (x : Asked). x .answer) ha) ∙ k in
-      (rw (hh, hm, hb, ha, n) refl, rw n refl)
+      (rw (hh, hm, hb, ha, n) refl, rw n refl, rw n refl)
 
-  pub asked-none : sendsOf (a .answer) ≡ false
-      → (whole h b′ m ≡ askedOf f en (whole h b m)) × (false ≡ sendsOf (nextOf (h .driver) (h .level) b .answer))
+  pub asked-none : (z : Answer) → a .answer ≡ z → sendsOf z ≡ false → codeOf z ≡ 0
+      → (whole h b′ m ≡ askedOf f en (whole h b m)) × (false ≡ sendsOf (nextOf (h .driver) (h .level) b .answer)) × (0 ≡ codeOf (nextOf (h .driver) (h .level) b .answer))
   unfolding askedOf
-  asked-none k =
-      let n : sendsOf (nextOf (h .driver) (h .level) b .answer) ≡ false = sym (ap (λ (x : Asked). sendsOf (x .answer)) ha) ∙ k in
-      (rw (hb, quiet (h .driver) (h .level) b n) (sym (still-by f en (whole h b m) (nextOf (h .driver) (h .level) b .driver) b (nextOf (h .driver) (h .level) b .answer) n)), sym n)
+  asked-none z q k o =
+      let same : nextOf (h .driver) (h .level) b .answer ≡ z = sym (ap (λ (x : Asked). x .answer) ha) ∙ q in
+      let n : sendsOf (nextOf (h .driver) (h .level) b .answer) ≡ false = ap sendsOf same ∙ k in
+      (rw (hb, quiet (h .driver) (h .level) b n) (sym (still-by f en (whole h b m) (nextOf (h .driver) (h .level) b .driver) b (nextOf (h .driver) (h .level) b .answer) n)), sym n, sym (ap codeOf same ∙ o))
 
 pub sent-small : (d : Driver) (level : ℕ) (b : List ℕ) (a : Asked) → a ≡ nextOf d level b → (e : ℕ) → a .answer ≡ Send e → e < 4
 sent-small d level b a ha e k = subst Small (sym (ap (λ (x : Asked). x .answer) ha) ∙ k) (small d level b)
@@ -312,28 +314,39 @@ module _ (f : Facts) (en d : ℕ) (h : Held) (b : List ℕ) (m : Mem) where
   unfolding dueOf
   due-is x k hk hx = rw hk at hx
 
-  module _ (x : Bool) (k : ℕ) (hk : k ≡ allowedOf (h .driver .request))
-      (hx : x ≡ eqb (pollNext (h .driver .phase) (h .driver .counts .tries) k (h .level)) d) where
-    pub turned : x ≡ true → (e : Held) (m′ : Mem) → e ≡ atEndOf f en h → m′ ≡ storeOf f (h .chip) m Ends
-        → (t : System) → t ≡ askedOf f en (whole e b m′) → (t ≡ turnOf f en d (whole h b m)) × (true ≡ goingOf d (whole h b m))
-    unfolding turnOf endedOf goingOf
-    turned q e m′ he hm t ht =
-        let z : dueOf d (whole h b m) ≡ true = sym (due-is x k hk hx) ∙ q in
-        (ht ∙ rw (he, hm, z) refl, rw z refl)
+  ended-whole : (x : Bool) → whole (cond x (atEndOf f en h) h) b (cond x (storeOf f (h .chip) m Ends) m) ≡ cond x (endedOf f en (whole h b m)) (whole h b m)
+  unfolding endedOf
+  ended-whole true = refl
+  ended-whole false = refl
 
-    pub not-turned : x ≡ false → (t : System) (g : Bool) → t ≡ askedOf f en (whole h b m)
-        → g ≡ sendsOf (nextOf (h .driver) (h .level) b .answer) → (t ≡ turnOf f en d (whole h b m)) × (g ≡ goingOf d (whole h b m))
-    unfolding turnOf goingOf
-    not-turned q t g ht hg =
-        let z : dueOf d (whole h b m) ≡ false = sym (due-is x k hk hx) ∙ q in
-        (ht ∙ rw z refl, hg ∙ rw z refl)
+  same-driver : (x : Bool) → (cond x (atEndOf f en h) h .driver ≡ h .driver) × (cond x (atEndOf f en h) h .level ≡ h .level)
+  same-driver true = (refl, refl)
+  same-driver false = (refl, refl)
 
-module _ (part en : ℕ) (h h′ : Held) (e : h′ ≡ atEndOf (factsOf part) en h) where
+  -- the end that is due, then the asking
+  pub turned : (x : Bool) (k : ℕ) → k ≡ allowedOf (h .driver .request) → x ≡ eqb (pollNext (h .driver .phase) (h .driver .counts .tries) k (h .level)) d
+      → (e : Held) (m′ : Mem) → e ≡ cond x (atEndOf f en h) h → m′ ≡ cond x (storeOf f (h .chip) m Ends) m
+      → (t : System) (y z : Bool) (o : ℕ) → t ≡ askedOf f en (whole e b m′)
+      → (y ≡ x) × (z ≡ sendsOf (nextOf (e .driver) (e .level) b .answer)) × (o ≡ codeOf (nextOf (e .driver) (e .level) b .answer))
+      → (t ≡ turnOf f en d (whole h b m)) × ((y ≡ dueOf d (whole h b m)) × (z ≡ sendsOf (nextOf (h .driver) (h .level) b .answer)) × (o ≡ codeOf (nextOf (h .driver) (h .level) b .answer)))
+  unfolding turnOf
+  turned x k hk hx e m′ he hm t y z o ht (hy, hz, ho) =
+      let due = due-is x k hk hx in
+      let p = same-driver x in
+      let n : nextOf (e .driver) (e .level) b .answer ≡ nextOf (h .driver) (h .level) b .answer = rw (he, p .0, p .1) refl in
+      let v : askedOf f en (whole e b m′) ≡ askedOf f en (cond x (endedOf f en (whole h b m)) (whole h b m)) = rw (he, hm) (ap (askedOf f en) (ended-whole x)) in
+      let w : askedOf f en (cond x (endedOf f en (whole h b m)) (whole h b m)) ≡ askedOf f en (cond (dueOf d (whole h b m)) (endedOf f en (whole h b m)) (whole h b m)) =
+      ap (λ (u : Bool). askedOf f en (cond u (endedOf f en (whole h b m)) (whole h b m))) due
+      in
+      (ht ∙ (v ∙ w), (hy ∙ due, hz ∙ ap sendsOf n, ho ∙ ap codeOf n))
+
+module _ (part en : ℕ) (x : Bool) (h h′ : Held) (e : h′ ≡ cond x (atEndOf (factsOf part) en h) h) where
   pub fit-ended : (n i n′ i′ : ℕ) → n′ ≡ n → i′ ≡ i → Fit part en (h .chip) n i → Fit part en (h′ .chip) n′ i′
-  fit-ended n i n′ i′ p q t = rw (e, p, q) (fit-end part en (h .chip) n i t)
+  fit-ended n i n′ i′ p q t =
+      rw (e, p, q) (branch (λ (z : Held). Fit part en (z .chip) n i) x {x = atEndOf (factsOf part) en h} {y = h} (λ _. fit-end part en (h .chip) n i t) (λ _. t))
 
   pub few-ended : (k : ℕ) → (h .cycles < k) × (h .clocks < k) → (h′ .cycles < k) × (h′ .clocks < k)
-  few-ended k t = rw e t
+  few-ended k t = rw e (branch (λ (z : Held). (z .cycles < k) × (z .clocks < k)) x {x = atEndOf (factsOf part) en h} {y = h} (λ _. t) (λ _. t))
 
 module _ (part en d : ℕ) (h : Held) (b : List ℕ) (m : Mem) (h′ : Held) (b′ : List ℕ) (m′ : Mem)
     (e : whole h′ b′ m′ ≡ turnOf (factsOf part) en d (whole h b m)) where
@@ -347,6 +360,7 @@ module _ (part en d : ℕ) (h : Held) (b : List ℕ) (m : Mem) (h′ : Held) (b�
       → turnsOf (factsOf part) en d (k - 1) (whole h′ b′ m′) ≡ w
   turn-on k w p g = ap (λ (z : System). turnsOf (factsOf part) en d (k - 1) z) e ∙ turns-on (factsOf part) en d k (whole h b m) p ∙ g
 
+  -- where neither an end was due nor an event was sent
   pub turn-still : (k : ℕ) (w : System) → turnsOf (factsOf part) en d k (whole h b m) ≡ w → goingOf d (whole h b m) ≡ false → whole h′ b′ m′ ≡ w
   turn-still k w g q =
       let s = still (factsOf part) en d (whole h b m) q in
@@ -393,51 +407,57 @@ first-by true d h = absurd (false≢true (sym h))
 first-by false zero h = absurd (false≢true (sym h))
 first-by false (suc d) h = omega arith
 
-judged : (p e bf st sh y l : Bool) (d : ℕ)
-    → givenOf record { part = p; enable = e; buffer = bf; state = st; many = false; event = false; place = 0; short = sh; beyond = eqb (numberBy (givenOf (own p e y l))) 7; limit = limitedOf (eqb (numberBy (givenOf (own p e y l))) 8) d; image = false }
-    ≡ givenOf record { part = p; enable = e; buffer = bf; state = st; many = false; event = false; place = 0; short = sh; beyond = y; limit = limitedOf l d; image = false }
+judged : (p e x bf st sh y l : Bool) (d : ℕ)
+    → givenOf record { part = p; enable = cond e x true; buffer = bf; state = st; many = false; event = false; place = 0; short = sh; beyond = eqb (numberBy (givenOf (own p (not e) y l))) 7; limit = limitedOf (eqb (numberBy (givenOf (own p (not e) y l))) 8) d; image = false }
+    ≡ givenOf record { part = p; enable = cond e x true; buffer = bf; state = st; many = false; event = false; place = 0; short = sh; beyond = y; limit = limitedOf l d; image = false }
 unfolding givenOf
-judged true e bf st sh y l d = refl
-judged false true bf st sh y l d = refl
-judged false false bf st sh true l d = refl
-judged false false bf st sh false true d = refl
-judged false false bf st sh false false d = refl
+judged true e x bf st sh y l d = refl
+judged false false x bf st sh y l d = refl
+judged false true x bf st sh true l d = refl
+judged false true x bf st sh false true d = refl
+judged false true x bf st sh false false d = refl
 
-module _ (r : Request) (d : ℕ) (c : Chip) (n i b : ℕ) where
-  judge-is : givenOf record { part = not (factsOf (r .part) .known); enable = not (enableRightOf (factsOf (r .part)) (r .enable)); buffer = not (buffersRightOf (factsOf (r .part)) n i); state = tooUnfit (inRangeOf (factsOf (r .part)) c) (r .reads) (r .length) b; many = false; event = false; place = 0; short = shortOf (r .reads) (r .length) b; beyond = eqb (numberBy (judgeOf r)) 7; limit = limitedOf (eqb (numberBy (judgeOf r)) 8) d; image = false }
-      ≡ benchVerdictOf r d c n i b
+-- both enables are right
+both-by : (a b : Bool) → cond a (not b) true ≡ false → b ≡ true
+both-by true true h = refl
+both-by true false h = absurd (false≢true (sym h))
+both-by false b h = absurd (false≢true (sym h))
+
+module _ (r : Request) (enable d : ℕ) (c : Chip) (n i b : ℕ) where
+  judge-is : givenOf record { part = not (factsOf (r .part) .known); enable = cond (enableRightOf (factsOf (r .part)) (r .enable)) (not (enableRightOf (factsOf (r .part)) enable)) true; buffer = not (buffersRightOf (factsOf (r .part)) n i); state = tooUnfit (inRangeOf (factsOf (r .part)) c) (r .reads) (r .length) b; many = false; event = false; place = 0; short = shortOf (r .reads) (r .length) b; beyond = eqb (numberBy (judgeOf r)) 7; limit = limitedOf (eqb (numberBy (judgeOf r)) 8) d; image = false }
+      ≡ benchVerdictOf r enable d c n i b
   unfolding benchVerdictOf judgeOf faultsOf tooUnfit shortOf limitedOf
   judge-is =
-      judged (not (factsOf (r .part) .known)) (not (enableRightOf (factsOf (r .part)) (r .enable))) _ _ _ (beyondAt (fromOf (r .place)) (r .length) (roomOf (factsOf (r .part)) (r .place)) (thereOf (factsOf (r .part)) (r .place))) (limitOf (r .reads) (r .budget)) d
+      judged (not (factsOf (r .part) .known)) (enableRightOf (factsOf (r .part)) (r .enable)) _ _ _ _ (beyondAt (fromOf (r .place)) (r .length) (roomOf (factsOf (r .part)) (r .place)) (thereOf (factsOf (r .part)) (r .place))) (limitOf (r .reads) (r .budget)) d
 
   pub judge-by : (f : Facts) (en lent ranged : Bool) (v : Verdict) (own : ℕ) (wrong scant limit : Bool) → f ≡ factsOf (r .part)
-      → en ≡ enableRightOf f (r .enable) → lent ≡ buffersRightOf (factsOf (r .part)) n i → ranged ≡ inRangeOf (factsOf (r .part)) c
+      → en ≡ cond (enableRightOf f (r .enable)) (not (enableRightOf f enable)) true → lent ≡ buffersRightOf (factsOf (r .part)) n i → ranged ≡ inRangeOf (factsOf (r .part)) c
       → v ≡ judgeOf r → own ≡ numberBy v → wrong ≡ tooUnfit ranged (r .reads) (r .length) b → scant ≡ shortOf (r .reads) (r .length) b
       → limit ≡ limitedOf (eqb own 8) d
-      → givenOf record { part = not (f .known); enable = not en; buffer = not lent; state = wrong; many = false; event = false; place = 0; short = scant; beyond = eqb own 7; limit = limit; image = false }
-      ≡ benchVerdictOf r d c n i b
+      → givenOf record { part = not (f .known); enable = en; buffer = not lent; state = wrong; many = false; event = false; place = 0; short = scant; beyond = eqb own 7; limit = limit; image = false }
+      ≡ benchVerdictOf r enable d c n i b
   judge-by f en lent ranged v own wrong scant limit hf he hl hr hv ho hw hs hm = rw (hm, hs, hw, ho, hv, hr, hl, he, hf) judge-is
 
   -- what a run that is not refused has
-  pub run-fit : Typed c → benchVerdictOf r d c n i b ≡ Fine → Fit (r .part) (r .enable) c n i
+  pub run-fit : Typed c → benchVerdictOf r enable d c n i b ≡ Fine → Fit (r .part) enable c n i
   unfolding benchVerdictOf
   run-fit t h =
       let l = faultless _ h in
       record {
         known = not-false _ (l .part);
-        enabled = not-false _ (l .enable);
+        enabled = both-by (enableRightOf (factsOf (r .part)) (r .enable)) _ (l .enable);
         lent = not-false _ (l .buffer);
         ranged = ranged-by (inRangeOf (factsOf (r .part)) c) _ (l .state);
         typed = t;
       }
 
-  pub run-length : benchVerdictOf r d c n i b ≡ Fine → r .length ≤ b
+  pub run-length : benchVerdictOf r enable d c n i b ≡ Fine → r .length ≤ b
   unfolding benchVerdictOf
   run-length h =
       let l = faultless _ h in
       room-by (inRangeOf (factsOf (r .part)) c) (r .reads) (r .length) b (l .state) (l .short)
 
-  pub run-first : benchVerdictOf r d c n i b ≡ Fine → 0 < d
+  pub run-first : benchVerdictOf r enable d c n i b ≡ Fine → 0 < d
   unfolding benchVerdictOf
   run-first h = first-by (limitOf (r .reads) (r .budget)) d (faultless _ h .limit)
 

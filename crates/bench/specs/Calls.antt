@@ -22,14 +22,16 @@ use Rattle.driver.specs.Request.{fromOf, roomOf, thereOf, beyondAt, limitOf}
 use Rattle.driver.specs.Step.{nextOf}
 use Rattle.bench.specs.declared.Report.{Report}
 use Rattle.bench.specs.Together.{System, startOf, turnsOf, enough}
+use Rattle.bench.specs.Tape.{eventsOf, heardOf}
 
--- 1, 2, 3; 4 also for data of another length than asked; 6 a read's buffer too short; 7; 8 also for d outside 1 to 65,535
-unfoldable pub benchVerdictOf : Request → ℕ → Chip → ℕ → ℕ → ℕ → Verdict
-benchVerdictOf r d c n i b =
+-- 1; 2 of the driver's enable or the chip's; 3; 4 also for data of another length than asked; 6 a read's buffer too short; 7; 8 also
+-- for d outside 1 to 65,535
+unfoldable pub benchVerdictOf : Request → ℕ → ℕ → Chip → ℕ → ℕ → ℕ → Verdict
+benchVerdictOf r enable d c n i b =
     givenOf
     record {
       part = not (factsOf (r .part) .known);
-      enable = not (enableRightOf (factsOf (r .part)) (r .enable));
+      enable = cond (enableRightOf (factsOf (r .part)) (r .enable)) (not (enableRightOf (factsOf (r .part)) enable)) true;
       buffer = not (buffersRightOf (factsOf (r .part)) n i);
       state = cond (inRangeOf (factsOf (r .part)) c) (cond (r .reads) false (not (eqb b (r .length)))) true;
       many = false;
@@ -41,9 +43,10 @@ benchVerdictOf r d c n i b =
       image = false;
     }
 
--- the system when the driver has finished; a read's buffer may be longer than asked
-unfoldable pub finalOf : Request → ℕ → Chip → Mem → List ℕ → System
-finalOf r d c m buffer = turnsOf (factsOf (r .part)) (r .enable) d enough (startOf r (take (r .length) buffer) c m)
+-- the system when the driver has finished: it selects by the request's enable, the chip answers at its own; a read's buffer may be
+-- longer than asked
+unfoldable pub finalOf : Request → ℕ → ℕ → Chip → Mem → List ℕ → System
+finalOf r enable d c m buffer = turnsOf (factsOf (r .part)) enable d enough (startOf r (take (r .length) buffer) c m)
 
 -- a driver that would still send cannot be (proved with the promises)
 abbrev pub reportBy : System → Answer → Report
@@ -54,15 +57,27 @@ reportBy s (Refused r polls bytes) = record { verdict = Judged r; polls = polls;
 abbrev pub reportOf : System → Report
 reportOf s = reportBy s (nextOf (s .driver) (s .level) (s .buffer) .answer)
 
-abbrev pub benchBy : Request → ℕ → Chip → Mem → List ℕ → Verdict → Report
-benchBy r d c m buffer Fine = reportOf (finalOf r d c m buffer)
-benchBy r d c m buffer (Judged x) = record { verdict = Judged x; polls = 0; bytes = 0; cycles = 0; clocks = 0; chip = c }
+abbrev pub refusedBy : Refusal → Chip → Report
+refusedBy x c = record { verdict = Judged x; polls = 0; bytes = 0; cycles = 0; clocks = 0; chip = c }
 
-abbrev pub benchMem : Request → ℕ → Chip → Mem → List ℕ → Verdict → Mem
-benchMem r d c m buffer Fine = finalOf r d c m buffer .mem
-benchMem r d c m buffer (Judged x) = m
+abbrev pub benchBy : Request → ℕ → ℕ → Chip → Mem → List ℕ → Verdict → Report
+benchBy r enable d c m buffer Fine = reportOf (finalOf r enable d c m buffer)
+benchBy r enable d c m buffer (Judged x) = refusedBy x c
+
+abbrev pub benchMem : Request → ℕ → ℕ → Chip → Mem → List ℕ → Verdict → Mem
+benchMem r enable d c m buffer Fine = finalOf r enable d c m buffer .mem
+benchMem r enable d c m buffer (Judged x) = m
 
 -- bytes past the answer keep their values
-abbrev pub benchBuffer : Request → ℕ → Chip → Mem → List ℕ → Verdict → List ℕ
-benchBuffer r d c m buffer Fine = finalOf r d c m buffer .buffer ++ drop (r .length) buffer
-benchBuffer r d c m buffer (Judged x) = buffer
+abbrev pub benchBuffer : Request → ℕ → ℕ → Chip → Mem → List ℕ → Verdict → List ℕ
+benchBuffer r enable d c m buffer Fine = finalOf r enable d c m buffer .buffer ++ drop (r .length) buffer
+benchBuffer r enable d c m buffer (Judged x) = buffer
+
+-- a refused call sends nothing
+abbrev pub benchEvents : Request → ℕ → ℕ → Chip → Mem → List ℕ → Verdict → List ℕ
+benchEvents r enable d c m buffer Fine = eventsOf (factsOf (r .part)) enable d enough (startOf r (take (r .length) buffer) c m)
+benchEvents r enable d c m buffer (Judged x) = []
+
+abbrev pub benchLevels : Request → ℕ → ℕ → Chip → Mem → List ℕ → Verdict → List ℕ
+benchLevels r enable d c m buffer Fine = heardOf (factsOf (r .part)) enable d enough (startOf r (take (r .length) buffer) c m)
+benchLevels r enable d c m buffer (Judged x) = []

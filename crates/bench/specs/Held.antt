@@ -25,6 +25,7 @@ use Rattle.driver.specs.Step.{nextOf}
 use Rattle.bench.specs.declared.Held.{Held}
 use Rattle.bench.specs.declared.Report.{Report}
 use Rattle.bench.specs.Together.{System, clockOf, dueOf}
+use Rattle.bench.specs.Tape.{sendsOf}
 
 -- the system, of what is held and what is lent
 abbrev pub whole : Held → List ℕ → Mem → System
@@ -45,11 +46,6 @@ sentOf f enable h m d e =
 abbrev pub atEndOf : Facts → ℕ → Held → Held
 atEndOf f enable h =
     record { driver = h .driver; level = h .level; chip = stateOf f enable (h .chip) Ends; cycles = h .cycles; clocks = h .clocks }
-
-abbrev pub sendsOf : Answer → Bool
-sendsOf (Send e) = true
-sendsOf (Done polls bytes) = false
-sendsOf (Refused r polls bytes) = false
 
 -- false: a turn changes nothing any more
 unfoldable pub goingOf : ℕ → System → Bool

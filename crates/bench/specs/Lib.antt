@@ -1,3 +1,4 @@
 pub mod Together
+pub mod Tape
 pub mod Calls
 pub mod Held

@@ -1,10 +1,11 @@
 // The driver against the model: each is told what the other does, until the driver has finished.
 ghost use mathlib.Core.Path.{_≡_};
-ghost use mathlib.Core.Bool.{cond};
+ghost use mathlib.Core.Bool.{cond, not, true};
 ghost use Prim.Native.Nat.{_+_, _<_, _≤_};
-ghost use lib.ListN.{length};
+ghost use lib.ListN.{length, set};
+ghost use lib.Seq.{sets};
 ghost use lib.Dec.{eqb, ltb};
-ghost use Rattle.parts.specs.Table.{factsOf};
+ghost use Rattle.parts.specs.Table.{factsOf, enableRightOf};
 ghost use Rattle.parts.specs.declared.Event.the-variants.{Ends};
 ghost use Rattle.parts.specs.Events.{eventOf};
 ghost use Rattle.chip.specs.Memory.{mem, storeOf};
@@ -20,22 +21,29 @@ ghost use Rattle.bench.specs.Together.{
   turnOf,
   turnsOf,
   enough,
+  dueOf,
 };
-ghost use Rattle.bench.specs.Held.{whole, sentOf, atEndOf, sendsOf, goingOf, numberBy, madeOf, unfitOf, shortOf, limitedOf, Fit};
+ghost use Rattle.bench.specs.Tape.{sendsOf, codeOf, tapeBy, eventsOf, heardOf, laidOf};
+ghost use Rattle.bench.specs.Held.{whole, sentOf, atEndOf, numberBy, madeOf, unfitOf, shortOf, limitedOf, Fit};
 ghost use Rattle.bench.specs.Calls.{
   benchVerdictOf,
   reportBy,
   reportOf,
+  refusedBy,
   benchBy,
   benchMem,
   benchBuffer,
+  benchEvents,
+  benchLevels,
 };
 use driver::Answer;
 use driver::Driver;
 use driver::Phase;
 use driver::Request;
 use driver::Slot;
+use parts::Facts;
 use parts::Faults;
+use parts::Refusal;
 use parts::Verdict;
 use state::Chip;
 
@@ -50,6 +58,12 @@ pub struct Report {
     pub chip: Chip,
 }
 
+// A run and its tape: `sent` events in all, the driver's and the ends of cycles.
+pub struct Recorded {
+    pub report: Report,
+    pub sent: usize,
+}
+
 // Driver and chip between two askings; `level` is what the driver is told next.
 struct Held {
     driver: Driver,
@@ -61,11 +75,22 @@ struct Held {
 
 struct Turned {
     held: Held,
-    // False: a turn changes nothing any more.
-    going: bool,
+    // Whether the cycle was ended first.
+    ended: bool,
+    // Whether the driver sent an event, and which.
+    sends: bool,
+    code: u8,
+}
+
+struct Gone {
+    held: Held,
+    sent: usize,
 }
 
 const ENDS: u8 = 4;
+
+// The level of an event that answers none.
+const QUIET: u8 = 2;
 
 // More askings than any request takes.
 const ENOUGH: usize = 6000000;
@@ -104,12 +129,15 @@ fn send(
     }
 }
 
-// The chip's cycle ends, if one runs.
-fn end(part: u8, enable: u8, held: Held, array: &mut [u8], id: &mut [u8]) -> Held
+// Where it is due the chip's cycle ends, if one runs.
+fn end(due: bool, part: u8, enable: u8, held: Held, array: &mut [u8], id: &mut [u8]) -> Held
     requires { ⌜ Fit part enable (held .chip) (length (now array)) (length (now id)) ⌝ }
-    ensures answer { λ r. ⌜ r ≡ atEndOf (factsOf part) enable held ⌝ }
-    ensures stored { λ _. ⌜ mem (now (array .exit)) (now (id .exit)) ≡ storeOf (factsOf part) (held .chip) (mem (now (array .entry)) (now (id .entry))) Ends ⌝ }
+    ensures answer { λ r. ⌜ r ≡ cond due (atEndOf (factsOf part) enable held) held ⌝ }
+    ensures stored { λ _. ⌜ mem (now (array .exit)) (now (id .exit)) ≡ cond due (storeOf (factsOf part) (held .chip) (mem (now (array .entry)) (now (id .entry))) Ends) (mem (now (array .entry)) (now (id .entry))) ⌝ }
 {
+    if !due {
+        return held;
+    }
     let before = held.chip;
     let s = chip::step(part, enable, before, array, id, ENDS);
     let chip = s.chip;
@@ -125,6 +153,7 @@ fn end(part: u8, enable: u8, held: Held, array: &mut [u8], id: &mut [u8]) -> Hel
 
 // The driver is asked once. Where it has finished nothing changes.
 fn ask(
+    ended: bool,
     part: u8,
     enable: u8,
     held: Held,
@@ -135,7 +164,7 @@ fn ask(
     requires fit { ⌜ Fit part enable (held .chip) (length (now array)) (length (now id)) ⌝ }
     requires few { ⌜ (held .cycles < 6000000) × (held .clocks < 6000000) ⌝ }
     ensures together { λ r. ⌜ whole (r .held) (now (buffer .exit)) (mem (now (array .exit)) (now (id .exit))) ≡ askedOf (factsOf part) enable (whole held (now (buffer .entry)) (mem (now (array .entry)) (now (id .entry)))) ⌝ }
-    ensures going { λ r. ⌜ r .going ≡ sendsOf (nextOf (held .driver) (held .level) (now (buffer .entry)) .answer) ⌝ }
+    ensures tape { λ r. ⌜ (r .ended ≡ ended) × (r .sends ≡ sendsOf (nextOf (held .driver) (held .level) (now (buffer .entry)) .answer)) × (r .code ≡ codeOf (nextOf (held .driver) (held .level) (now (buffer .entry)) .answer)) ⌝ }
 {
     let asked = driver::next(held.driver, held.level, buffer);
     let answer = asked.answer;
@@ -145,11 +174,23 @@ fn ask(
             let sent = send(part, enable, held, driver, e, array, id);
             Turned {
                 held: sent,
-                going: true,
+                ended,
+                sends: true,
+                code: e,
             }
         }
-        Answer::Done(_, _) => Turned { held, going: false },
-        Answer::Refused(_, _, _) => Turned { held, going: false },
+        Answer::Done(_, _) => Turned {
+            held,
+            ended,
+            sends: false,
+            code: 0,
+        },
+        Answer::Refused(_, _, _) => Turned {
+            held,
+            ended,
+            sends: false,
+            code: 0,
+        },
     }
 }
 
@@ -217,21 +258,68 @@ fn turn(
     requires few { ⌜ (held .cycles < 6000000) × (held .clocks < 6000000) ⌝ }
     requires first { ⌜ 0 < d ⌝ }
     ensures together { λ r. ⌜ whole (r .held) (now (buffer .exit)) (mem (now (array .exit)) (now (id .exit))) ≡ turnOf (factsOf part) enable d (whole held (now (buffer .entry)) (mem (now (array .entry)) (now (id .entry)))) ⌝ }
-    ensures going { λ r. ⌜ r .going ≡ goingOf d (whole held (now (buffer .entry)) (mem (now (array .entry)) (now (id .entry)))) ⌝ }
+    ensures tape { λ r. ⌜ (r .ended ≡ dueOf d (whole held (now (buffer .entry)) (mem (now (array .entry)) (now (id .entry))))) × (r .sends ≡ sendsOf (nextOf (held .driver) (held .level) (now (buffer .entry)) .answer)) × (r .code ≡ codeOf (nextOf (held .driver) (held .level) (now (buffer .entry)) .answer)) ⌝ }
 {
     let driver = held.driver;
     let phase = driver.phase;
     let most = allowed(driver.request);
-    if due(phase, driver.counts.tries, most, held.level, d) {
-        let ended = end(part, enable, held, array, id);
-        let turned = ask(part, enable, ended, array, id, buffer);
-        let next = turned.held;
-        return Turned {
-            held: next,
-            going: true,
-        };
+    let ended = due(phase, driver.counts.tries, most, held.level, d);
+    let ready = end(ended, part, enable, held, array, id);
+    ask(ended, part, enable, ready, array, id, buffer)
+}
+
+// ---- the tape
+
+fn put(to: &mut [u8], at: usize, x: u8)
+    ensures { λ _. ⌜ now (to .exit) ≡ set (now (to .entry)) at x ⌝ }
+{
+    if at < to.len() {
+        to[at] = x;
     }
-    ask(part, enable, held, array, id, buffer)
+}
+
+// An event, where there is one, and its level; the place after it.
+fn note(there: bool, code: u8, level: u8, at: usize, events: &mut [u8], levels: &mut [u8]) -> usize
+    requires { ⌜ at < 20000000 ⌝ }
+    ensures at { λ r. ⌜ r ≡ cond there (at + 1) at ⌝ }
+    ensures events { λ _. ⌜ now (events .exit) ≡ cond there (set (now (events .entry)) at code) (now (events .entry)) ⌝ }
+    ensures levels { λ _. ⌜ now (levels .exit) ≡ cond there (set (now (levels .entry)) at level) (now (levels .entry)) ⌝ }
+{
+    if !there {
+        return at;
+    }
+    put(events, at, code);
+    put(levels, at, level);
+    at + 1
+}
+
+// The events of a turn; `level` is the driver's event's.
+fn tape(
+    ended: bool,
+    sends: bool,
+    code: u8,
+    level: u8,
+    at: usize,
+    events: &mut [u8],
+    levels: &mut [u8],
+) -> usize
+    requires { ⌜ at < 12000000 ⌝ }
+    ensures at { λ r. ⌜ r ≡ at + length (tapeBy ended sends 4 code) ⌝ }
+    ensures events { λ _. ⌜ now (events .exit) ≡ sets (now (events .entry)) at (tapeBy ended sends 4 code) ⌝ }
+    ensures levels { λ _. ⌜ now (levels .exit) ≡ sets (now (levels .entry)) at (tapeBy ended sends 2 level) ⌝ }
+{
+    let next = note(ended, ENDS, QUIET, at, events, levels);
+    note(sends, code, level, next, events, levels)
+}
+
+// False: a turn changes nothing any more.
+fn going(ended: bool, sends: bool) -> bool
+    ensures { λ r. ⌜ r ≡ cond ended true sends ⌝ }
+{
+    if ended {
+        return true;
+    }
+    sends
 }
 
 // Turn after turn, until nothing changes any more.
@@ -243,24 +331,31 @@ fn go(
     array: &mut [u8],
     id: &mut [u8],
     buffer: &mut [u8],
-) -> Held
+    events: &mut [u8],
+    levels: &mut [u8],
+) -> Gone
     requires fit { ⌜ Fit part enable (first .chip) (length (now array)) (length (now id)) ⌝ }
     requires none { ⌜ (first .cycles ≡ 0) × (first .clocks ≡ 0) ⌝ }
     requires first { ⌜ 0 < d ⌝ }
-    ensures { λ r. ⌜ whole r (now (buffer .exit)) (mem (now (array .exit)) (now (id .exit))) ≡ turnsOf (factsOf part) enable d enough (whole first (now (buffer .entry)) (mem (now (array .entry)) (now (id .entry)))) ⌝ }
+    ensures together { λ r. ⌜ whole (r .held) (now (buffer .exit)) (mem (now (array .exit)) (now (id .exit))) ≡ turnsOf (factsOf part) enable d enough (whole first (now (buffer .entry)) (mem (now (array .entry)) (now (id .entry)))) ⌝ }
+    ensures sent { λ r. ⌜ r .sent ≡ length (eventsOf (factsOf part) enable d enough (whole first (now (buffer .entry)) (mem (now (array .entry)) (now (id .entry))))) ⌝ }
+    ensures events { λ _. ⌜ now (events .exit) ≡ laidOf (now (events .entry)) (eventsOf (factsOf part) enable d enough (whole first (now (buffer .entry)) (mem (now (array .entry)) (now (id .entry))))) ⌝ }
+    ensures levels { λ _. ⌜ now (levels .exit) ≡ laidOf (now (levels .entry)) (heardOf (factsOf part) enable d enough (whole first (now (buffer .entry)) (mem (now (array .entry)) (now (id .entry))))) ⌝ }
 {
     let mut held = first;
+    let mut sent: usize = 0;
     let mut left = ENOUGH;
     while 0 < left {
         let t = turn(part, enable, d, held, array, id, buffer);
         let next = t.held;
+        sent = tape(t.ended, t.sends, t.code, next.level, sent, events, levels);
         held = next;
-        if !t.going {
-            return held;
+        if !going(t.ended, t.sends) {
+            return Gone { held, sent };
         }
         left -= 1;
     }
-    held
+    Gone { held, sent }
 }
 
 // What the driver answers next. The one byte that `next` may store is put back: this is no turn.
@@ -315,17 +410,23 @@ fn reported(held: Held, answer: Answer) -> Report
 // A request that nothing refuses; `bytes` has the bytes asked for and no more.
 fn drive(
     request: Request,
+    enable: u8,
     d: usize,
     chip: Chip,
     array: &mut [u8],
     id: &mut [u8],
     bytes: &mut [u8],
-) -> Report
-    requires fit { ⌜ Fit (request .part) (request .enable) chip (length (now array)) (length (now id)) ⌝ }
+    events: &mut [u8],
+    levels: &mut [u8],
+) -> Recorded
+    requires fit { ⌜ Fit (request .part) enable chip (length (now array)) (length (now id)) ⌝ }
     requires first { ⌜ 0 < d ⌝ }
-    ensures answer { λ r. ⌜ r ≡ reportOf (turnsOf (factsOf (request .part)) (request .enable) d enough (startOf request (now (bytes .entry)) chip (mem (now (array .entry)) (now (id .entry))))) ⌝ }
-    ensures stored { λ _. ⌜ mem (now (array .exit)) (now (id .exit)) ≡ turnsOf (factsOf (request .part)) (request .enable) d enough (startOf request (now (bytes .entry)) chip (mem (now (array .entry)) (now (id .entry)))) .mem ⌝ }
-    ensures bytes { λ _. ⌜ now (bytes .exit) ≡ turnsOf (factsOf (request .part)) (request .enable) d enough (startOf request (now (bytes .entry)) chip (mem (now (array .entry)) (now (id .entry)))) .buffer ⌝ }
+    ensures answer { λ r. ⌜ r .report ≡ reportOf (turnsOf (factsOf (request .part)) enable d enough (startOf request (now (bytes .entry)) chip (mem (now (array .entry)) (now (id .entry))))) ⌝ }
+    ensures stored { λ _. ⌜ mem (now (array .exit)) (now (id .exit)) ≡ turnsOf (factsOf (request .part)) enable d enough (startOf request (now (bytes .entry)) chip (mem (now (array .entry)) (now (id .entry)))) .mem ⌝ }
+    ensures bytes { λ _. ⌜ now (bytes .exit) ≡ turnsOf (factsOf (request .part)) enable d enough (startOf request (now (bytes .entry)) chip (mem (now (array .entry)) (now (id .entry)))) .buffer ⌝ }
+    ensures sent { λ r. ⌜ r .sent ≡ length (eventsOf (factsOf (request .part)) enable d enough (startOf request (now (bytes .entry)) chip (mem (now (array .entry)) (now (id .entry))))) ⌝ }
+    ensures events { λ _. ⌜ now (events .exit) ≡ laidOf (now (events .entry)) (eventsOf (factsOf (request .part)) enable d enough (startOf request (now (bytes .entry)) chip (mem (now (array .entry)) (now (id .entry))))) ⌝ }
+    ensures levels { λ _. ⌜ now (levels .exit) ≡ laidOf (now (levels .entry)) (heardOf (factsOf (request .part)) enable d enough (startOf request (now (bytes .entry)) chip (mem (now (array .entry)) (now (id .entry))))) ⌝ }
 {
     let begun = driver::begin(request);
     let driver = begun.driver;
@@ -336,10 +437,25 @@ fn drive(
         cycles: 0,
         clocks: 0,
     };
-    let last = go(request.part, request.enable, d, first, array, id, bytes);
+    let gone = go(
+        request.part,
+        enable,
+        d,
+        first,
+        array,
+        id,
+        bytes,
+        events,
+        levels,
+    );
+    let last = gone.held;
     let asked = last.driver;
     let answered = answer(asked, last.level, bytes);
-    reported(last, answered)
+    let report = reported(last, answered);
+    Recorded {
+        report,
+        sent: gone.sent,
+    }
 }
 
 // ---- refusals
@@ -354,6 +470,16 @@ fn buffers_right(part: u8, n: usize, i: usize) -> bool
         return i == own;
     }
     false
+}
+
+// 2: the driver's enable or the chip's is wrong for the part.
+fn enables_wrong(f: Facts, asked: u8, own: u8) -> bool
+    ensures { λ r. ⌜ r ≡ cond (enableRightOf f asked) (not (enableRightOf f own)) true ⌝ }
+{
+    if parts::enable_right(f, asked) {
+        return !parts::enable_right(f, own);
+    }
+    true
 }
 
 // 4: the chip is out of range, or the data have another length than asked.
@@ -402,12 +528,20 @@ fn number(verdict: Verdict) -> u8
 }
 
 // 7 and the budget's 8 are the driver's to judge.
-fn judge(request: Request, d: usize, chip: Chip, n: usize, i: usize, b: usize) -> Verdict
-    ensures { λ r. ⌜ r ≡ benchVerdictOf request d chip n i b ⌝ }
+fn judge(
+    request: Request,
+    enable: u8,
+    d: usize,
+    chip: Chip,
+    n: usize,
+    i: usize,
+    b: usize,
+) -> Verdict
+    ensures { λ r. ⌜ r ≡ benchVerdictOf request enable d chip n i b ⌝ }
 {
     let f = parts::facts_of(request.part);
     let known = f.known;
-    let enabled = parts::enable_right(f, request.enable);
+    let no_enable = enables_wrong(f, request.enable, enable);
     let lent = buffers_right(request.part, n, i);
     let ranged = state::in_range(request.part, chip);
     let own = number(driver::judge(request));
@@ -416,7 +550,7 @@ fn judge(request: Request, d: usize, chip: Chip, n: usize, i: usize, b: usize) -
     let limit = limited(own == 8, d);
     parts::given(Faults {
         part: !known,
-        enable: !enabled,
+        enable: no_enable,
         buffer: !lent,
         state: wrong,
         many: false,
@@ -429,34 +563,87 @@ fn judge(request: Request, d: usize, chip: Chip, n: usize, i: usize, b: usize) -
     })
 }
 
-// A request on a chip and its lent buffers, each cycle ending just before its poll number d. The buffer holds the bytes to write,
-// or takes the bytes read.
+// ---- runs
+
+fn refused(why: Refusal, chip: Chip) -> Recorded
+    ensures { λ r. ⌜ (r .report ≡ refusedBy why chip) × (r .sent ≡ 0) ⌝ }
+{
+    let report = Report {
+        verdict: Verdict::Refused(why),
+        polls: 0,
+        bytes: 0,
+        cycles: 0,
+        clocks: 0,
+        chip,
+    };
+    Recorded { report, sent: 0 }
+}
+
+// A request on a chip at its own enable and its lent buffers, each cycle ending just before its poll number d. The buffer holds the
+// bytes to write, or takes the bytes read. The events and their levels are kept as far as the two last buffers reach.
+pub fn record(
+    request: Request,
+    enable: u8,
+    d: usize,
+    chip: Chip,
+    array: &mut [u8],
+    id: &mut [u8],
+    buffer: &mut [u8],
+    events: &mut [u8],
+    levels: &mut [u8],
+) -> Recorded
+    ensures answer { λ r. ⌜ r .report ≡ benchBy request enable d chip (mem (now (array .entry)) (now (id .entry))) (now (buffer .entry)) (benchVerdictOf request enable d chip (length (now (array .entry))) (length (now (id .entry))) (length (now (buffer .entry)))) ⌝ }
+    ensures stored { λ _. ⌜ mem (now (array .exit)) (now (id .exit)) ≡ benchMem request enable d chip (mem (now (array .entry)) (now (id .entry))) (now (buffer .entry)) (benchVerdictOf request enable d chip (length (now (array .entry))) (length (now (id .entry))) (length (now (buffer .entry)))) ⌝ }
+    ensures bytes { λ _. ⌜ now (buffer .exit) ≡ benchBuffer request enable d chip (mem (now (array .entry)) (now (id .entry))) (now (buffer .entry)) (benchVerdictOf request enable d chip (length (now (array .entry))) (length (now (id .entry))) (length (now (buffer .entry)))) ⌝ }
+    ensures sent { λ r. ⌜ r .sent ≡ length (benchEvents request enable d chip (mem (now (array .entry)) (now (id .entry))) (now (buffer .entry)) (benchVerdictOf request enable d chip (length (now (array .entry))) (length (now (id .entry))) (length (now (buffer .entry))))) ⌝ }
+    ensures events { λ _. ⌜ now (events .exit) ≡ laidOf (now (events .entry)) (benchEvents request enable d chip (mem (now (array .entry)) (now (id .entry))) (now (buffer .entry)) (benchVerdictOf request enable d chip (length (now (array .entry))) (length (now (id .entry))) (length (now (buffer .entry))))) ⌝ }
+    ensures levels { λ _. ⌜ now (levels .exit) ≡ laidOf (now (levels .entry)) (benchLevels request enable d chip (mem (now (array .entry)) (now (id .entry))) (now (buffer .entry)) (benchVerdictOf request enable d chip (length (now (array .entry))) (length (now (id .entry))) (length (now (buffer .entry))))) ⌝ }
+{
+    let verdict = judge(
+        request,
+        enable,
+        d,
+        chip,
+        array.len(),
+        id.len(),
+        buffer.len(),
+    );
+    match verdict {
+        Verdict::Fine => {
+            let n = request.length;
+            let bytes = &mut buffer[..n];
+            drive(request, enable, d, chip, array, id, bytes, events, levels)
+        }
+        Verdict::Refused(r) => refused(r, chip),
+    }
+}
+
+// The same run, with a tape that nobody reads.
 pub fn run(
     request: Request,
+    enable: u8,
     d: usize,
     chip: Chip,
     array: &mut [u8],
     id: &mut [u8],
     buffer: &mut [u8],
 ) -> Report
-    ensures answer { λ r. ⌜ r ≡ benchBy request d chip (mem (now (array .entry)) (now (id .entry))) (now (buffer .entry)) (benchVerdictOf request d chip (length (now (array .entry))) (length (now (id .entry))) (length (now (buffer .entry)))) ⌝ }
-    ensures stored { λ _. ⌜ mem (now (array .exit)) (now (id .exit)) ≡ benchMem request d chip (mem (now (array .entry)) (now (id .entry))) (now (buffer .entry)) (benchVerdictOf request d chip (length (now (array .entry))) (length (now (id .entry))) (length (now (buffer .entry)))) ⌝ }
-    ensures bytes { λ _. ⌜ now (buffer .exit) ≡ benchBuffer request d chip (mem (now (array .entry)) (now (id .entry))) (now (buffer .entry)) (benchVerdictOf request d chip (length (now (array .entry))) (length (now (id .entry))) (length (now (buffer .entry)))) ⌝ }
+    ensures answer { λ r. ⌜ r ≡ benchBy request enable d chip (mem (now (array .entry)) (now (id .entry))) (now (buffer .entry)) (benchVerdictOf request enable d chip (length (now (array .entry))) (length (now (id .entry))) (length (now (buffer .entry)))) ⌝ }
+    ensures stored { λ _. ⌜ mem (now (array .exit)) (now (id .exit)) ≡ benchMem request enable d chip (mem (now (array .entry)) (now (id .entry))) (now (buffer .entry)) (benchVerdictOf request enable d chip (length (now (array .entry))) (length (now (id .entry))) (length (now (buffer .entry)))) ⌝ }
+    ensures bytes { λ _. ⌜ now (buffer .exit) ≡ benchBuffer request enable d chip (mem (now (array .entry)) (now (id .entry))) (now (buffer .entry)) (benchVerdictOf request enable d chip (length (now (array .entry))) (length (now (id .entry))) (length (now (buffer .entry)))) ⌝ }
 {
-    let verdict = judge(request, d, chip, array.len(), id.len(), buffer.len());
-    match verdict {
-        Verdict::Fine => {
-            let n = request.length;
-            let bytes = &mut buffer[..n];
-            drive(request, d, chip, array, id, bytes)
-        }
-        Verdict::Refused(r) => Report {
-            verdict: Verdict::Refused(r),
-            polls: 0,
-            bytes: 0,
-            cycles: 0,
-            clocks: 0,
-            chip,
-        },
-    }
+    let mut events = [0u8; 1];
+    let mut levels = [0u8; 1];
+    let recorded = record(
+        request,
+        enable,
+        d,
+        chip,
+        array,
+        id,
+        buffer,
+        &mut events,
+        &mut levels,
+    );
+    recorded.report
 }

@@ -151,7 +151,7 @@ fn run_lent(
 ) -> Chip {
     if n <= array.len() {
         if i <= id.len() {
-            let r = bench::run(request, d, chip, &mut array[..n], &mut id[..i], buffer);
+            let r = bench::run(request, 0, d, chip, &mut array[..n], &mut id[..i], buffer);
             let verdict = r.verdict;
             say(label);
             tell_byte(number(verdict));

@@ -46,6 +46,7 @@ use Rattle.demands.proofs.Turns.{choices, choices-asked, choices-same, 
 use Rattle.demands.proofs.Late.{turns-refused}
 use Rattle.demands.proofs.Shut.{shut-refused}
 use Rattle.demands.proofs.Range.{stays-in-range}
+use Rattle.demands.proofs.Replay.{replayed}
 
 -- ---- a call that is not refused
 either : (t u : Target) → (u ≡ t) ⊎ (u ≡ otherOf t)
@@ -62,6 +63,10 @@ and-yes : (a b : Bool) → cond a b false ≡ true → (a ≡ true) × (b ≡ tr
 and-yes true b e = (refl, e)
 and-yes false b e = absurd (false≢true e)
 
+right : (a : Bool) → cond a (not a) true ≡ false → a ≡ true
+right true e = refl
+right false e = absurd (false≢true (sym e))
+
 module _ (r : Request) (d : ℕ) (c : Chip) (m : Mem) (ys : List ℕ) (k : Called r d c m ys) where
   abbrev xs : List ℕ
   xs = take (r .length) ys
@@ -70,7 +75,7 @@ module _ (r : Request) (d : ℕ) (c : Chip) (m : Mem) (ys : List ℕ) (k : Calle
   asked =
       record {
         part = not (factsOf (r .part) .known);
-        enable = not (enableRightOf (factsOf (r .part)) (r .enable));
+        enable = cond (enableRightOf (factsOf (r .part)) (r .enable)) (not (enableRightOf (factsOf (r .part)) (r .enable))) true;
         buffer = not (buffersRightOf (factsOf (r .part)) (length (m .cells)) (length (m .ident)));
         state = cond (inRangeOf (factsOf (r .part)) c) (cond (r .reads) false (not (eqb (length ys) (r .length)))) true;
         many = false;
@@ -86,9 +91,12 @@ module _ (r : Request) (d : ℕ) (c : Chip) (m : Mem) (ys : List ℕ) (k : Calle
   unfolding benchVerdictOf
   none = faultless asked (k .fine)
 
+  enabled : enableRightOf (factsOf (r .part)) (r .enable) ≡ true
+  enabled = right _ (none .enable)
+
   judged : judgeOf r ≡ Fine
   unfolding judgeOf givenOf faultsOf
-  judged = simp (none .part, none .enable, none .beyond, or-no (limitOf (r .reads) (r .budget)) _ (none .limit) .0)
+  judged = simp (none .part, enabled, none .beyond, or-no (limitOf (r .reads) (r .budget)) _ (none .limit) .0)
 
   low-d : 1 ≤ d
   low-d = ltb-false d 1 (or-no (ltb d 1) _ (or-no (limitOf (r .reads) (r .budget)) _ (none .limit) .1) .0)
@@ -144,18 +152,18 @@ module _ (n : ℕ) (turns : n ≡ enough) (r : Request) (d : ℕ) (c : Chip) (m 
   abbrev Y : System
   Y = togetherOf (factsOf (r .part)) (r .enable) bs (startOf r ws c m)
 
-  final : finalOf r d c m ys ≡ Y
+  final : finalOf r (r .enable) d c m ys ≡ Y
   unfolding finalOf
   final = ap (λ (i : ℕ). turnsOf (factsOf (r .part)) (r .enable) d i (startOf r ws c m)) (sym turns) ∙ choices-same (factsOf (r .part)) (r .enable) d n (startOf r ws c m)
 
-  report-is : benchBy r d c m ys (verdictOf r d c m ys) ≡ reportOf Y
-  report-is = ap (benchBy r d c m ys) (k .fine) ∙ ap reportOf final
+  report-is : benchBy r (r .enable) d c m ys (verdictOf r (r .enable) d c m ys) ≡ reportOf Y
+  report-is = ap (benchBy r (r .enable) d c m ys) (k .fine) ∙ ap reportOf final
 
-  memory-is : benchMem r d c m ys (verdictOf r d c m ys) ≡ Y .mem
-  memory-is = ap (benchMem r d c m ys) (k .fine) ∙ ap (λ (y : System). y .mem) final
+  memory-is : benchMem r (r .enable) d c m ys (verdictOf r (r .enable) d c m ys) ≡ Y .mem
+  memory-is = ap (benchMem r (r .enable) d c m ys) (k .fine) ∙ ap (λ (y : System). y .mem) final
 
-  buffer-is : benchBuffer r d c m ys (verdictOf r d c m ys) ≡ Y .buffer ++ drop (r .length) ys
-  buffer-is = ap (benchBuffer r d c m ys) (k .fine) ∙ ap (λ (y : System). y .buffer ++ drop (r .length) ys) final
+  buffer-is : benchBuffer r (r .enable) d c m ys (verdictOf r (r .enable) d c m ys) ≡ Y .buffer ++ drop (r .length) ys
+  buffer-is = ap (benchBuffer r (r .enable) d c m ys) (k .fine) ∙ ap (λ (y : System). y .buffer ++ drop (r .length) ys) final
 
   over-bound : boundOf r < n
   over-bound = subst (λ (i : ℕ). boundOf r < i) (sym turns) (enough-turns r ws (begins r d c m ys k .accepted))
@@ -183,7 +191,7 @@ module _ (n : ℕ) (turns : n ≡ enough) (r : Request) (d : ℕ) (c : Chip) (m 
   chip-of (Done q n) = refl
   chip-of (Refused f q n) = refl
 
-  in-range : Typed c → inRangeOf (factsOf (r .part)) (benchBy r d c m ys (verdictOf r d c m ys) .chip) ≡ true
+  in-range : Typed c → inRangeOf (factsOf (r .part)) (benchBy r (r .enable) d c m ys (verdictOf r (r .enable) d c m ys) .chip) ≡ true
   in-range t =
       ap (λ (y : Report). inRangeOf (factsOf (r .part)) (y .chip)) report-is
       ∙ (ap (inRangeOf (factsOf (r .part))) (chip-of (answerOf Y)) ∙ stays-in-range r ws c m bs (begins r d c m ys k) t (first (inRangeOf (factsOf (r .part)) c) (none r d c m ys k .state)) .0)
@@ -192,16 +200,16 @@ module _ (n : ℕ) (turns : n ≡ enough) (r : Request) (d : ℕ) (c : Chip) (m 
       first true e = refl
       first false e = absurd (false≢true (sym e))
 
-  written : r .reads ≡ false → Written ours r d c m ys
+  written : r .reads ≡ false → Written ours r (r .enable) d c m ys
   written w =
       let z = write-safe r ws c m (begins r d c m ys k) bs w in
       let t = targetOf (r .place) in
       let x = fromOf (r .place) in
       let e = write-long r d c m ys k w in
       let same : ws ≡ ys = take-all (r .length) ys (omega arith) in
-      let cell : (i : ℕ) → getD (cellsOf t (benchMem r d c m ys (verdictOf r d c m ys))) i 0 ≡ getD (cellsOf t (Y .mem)) i 0 = λ i. ap (λ (y : Mem). getD (cellsOf t y) i 0) memory-is in
+      let cell : (i : ℕ) → getD (cellsOf t (benchMem r (r .enable) d c m ys (verdictOf r (r .enable) d c m ys))) i 0 ≡ getD (cellsOf t (Y .mem)) i 0 = λ i. ap (λ (y : Mem). getD (cellsOf t y) i 0) memory-is in
       let asks : (i : ℕ) → getD ws i 0 ≡ getD ys i 0 = λ i. ap (λ (l : List ℕ). getD l i 0) same in
-      let b : benchBy r d c m ys (verdictOf r d c m ys) .bytes ≡ reportedOf (answerOf Y) = ap (λ (y : Report). y .bytes) report-is ∙ bytes-reported (answerOf Y) in
+      let b : benchBy r (r .enable) d c m ys (verdictOf r (r .enable) d c m ys) .bytes ≡ reportedOf (answerOf Y) = ap (λ (y : Report). y .bytes) report-is ∙ bytes-reported (answerOf Y) in
       record {
         reported = λ i h. cell (x + i) ∙ (z .reported i (omega arith) ∙ asks i);
         done = λ h. b ∙ all (answerOf Y) refl ended (ap (λ (y : Report). y .verdict) (sym report-is) ∙ h);
@@ -246,11 +254,11 @@ module _ (n : ℕ) (turns : n ≡ enough) (r : Request) (d : ℕ) (c : Chip) (m 
       all (Done q n) z f v = all-done r ws c m (begins r d c m ys k) bs q n z
       all (Refused x q n) z f v = absurd (false≢true (ap fine v))
 
-  taken : r .reads ≡ true → Taken ours r d c m ys
+  taken : r .reads ≡ true → Taken ours r (r .enable) d c m ys
   taken w =
       let z = read-right r ws c m (begins r d c m ys k) bs w in
       let a = read-ends r ws c m (begins r d c m ys k) bs w (omega (arith, over-bound, choices-asked (factsOf (r .part)) (r .enable) d n (startOf r ws c m))) in
-      let p : benchBy r d c m ys (verdictOf r d c m ys) ≡ reportBy Y (Done 0 (r .length)) = report-is ∙ ap (reportBy Y) a in
+      let p : benchBy r (r .enable) d c m ys (verdictOf r (r .enable) d c m ys) ≡ reportBy Y (Done 0 (r .length)) = report-is ∙ ap (reportBy Y) a in
       record {
         done = ap (λ (y : Report). y .verdict) p;
         bytes = ap (λ (y : Report). y .bytes) p;
@@ -275,16 +283,16 @@ module _ (n : ℕ) (turns : n ≡ enough) (r : Request) (d : ℕ) (c : Chip) (m 
   unfolding allowedOf
   budget-is w = ap (λ (b : Bool). cond b 0 (r .budget)) w
 
-  ends : r .reads ≡ false → Writable (r .place) (c .line .core) → d ≤ r .budget → Ended ours r d c m ys
+  ends : r .reads ≡ false → Writable (r .place) (c .line .core) → d ≤ r .budget → Ended ours r (r .enable) d c m ys
   ends w u h =
       let z : Complete r Y = subst (Complete r) (choices-same (factsOf (r .part)) (r .enable) d n (startOf r ws c m)) (turns-end r ws c m d n w (begins r d c m ys k) u (low-d r d c m ys k) (omega (arith, budget-is w)) over-bound) in
-      let p : benchBy r d c m ys (verdictOf r d c m ys) ≡ reportBy Y (Done (z .polls) (r .length)) = report-is ∙ ap (reportBy Y) (z .done) in
+      let p : benchBy r (r .enable) d c m ys (verdictOf r (r .enable) d c m ys) ≡ reportBy Y (Done (z .polls) (r .length)) = report-is ∙ ap (reportBy Y) (z .done) in
       record { done = ap (λ (y : Report). y .verdict) p; bytes = ap (λ (y : Report). y .bytes) p; cycles = ap (λ (y : Report). y .cycles) p ∙ z .cycles }
 
-  uses-up : r .reads ≡ false → Writable (r .place) (c .line .core) → 1 ≤ r .length → r .budget < d → UsedUp ours r d c m ys
+  uses-up : r .reads ≡ false → Writable (r .place) (c .line .core) → 1 ≤ r .length → r .budget < d → UsedUp ours r (r .enable) d c m ys
   uses-up w u o h =
       let z = subst (λ (y : System). (answerOf y ≡ Refused PollsUsed (allowedOf r) 0) × (y .cycles ≡ 1)) (choices-same (factsOf (r .part)) (r .enable) d n (startOf r ws c m)) (turns-refused r ws c m d n w (begins r d c m ys k) u o (omega (arith, budget-is w)) over-bound) in
-      let p : benchBy r d c m ys (verdictOf r d c m ys) ≡ reportBy Y (Refused PollsUsed (allowedOf r) 0) = report-is ∙ ap (reportBy Y) (z .0) in
+      let p : benchBy r (r .enable) d c m ys (verdictOf r (r .enable) d c m ys) ≡ reportBy Y (Refused PollsUsed (allowedOf r) 0) = report-is ∙ ap (reportBy Y) (z .0) in
       record {
         refused = ap (λ (y : Report). y .verdict) p;
         polls = ap (λ (y : Report). y .polls) p ∙ budget-is w;
@@ -292,59 +300,59 @@ module _ (n : ℕ) (turns : n ≡ enough) (r : Request) (d : ℕ) (c : Chip) (m 
         cycles = ap (λ (y : Report). y .cycles) p ∙ z .1;
       }
 
-  protects : r .reads ≡ false → Shut (r .place) (c .line .core) → 1 ≤ r .length → Protected ours r d c m ys
+  protects : r .reads ≡ false → Shut (r .place) (c .line .core) → 1 ≤ r .length → Protected ours r (r .enable) d c m ys
   protects w u o =
       let z = shut-refused r ws c m bs w (begins r d c m ys k) u o (subst (λ (i : ℕ). boundOf r < i) (sym (choices-asked (factsOf (r .part)) (r .enable) d n (startOf r ws c m))) over-bound) in
-      let p : benchBy r d c m ys (verdictOf r d c m ys) ≡ reportBy Y (Refused NoData 0 0) = report-is ∙ ap (reportBy Y) (z .0) in
+      let p : benchBy r (r .enable) d c m ys (verdictOf r (r .enable) d c m ys) ≡ reportBy Y (Refused NoData 0 0) = report-is ∙ ap (reportBy Y) (z .0) in
       record { refused = ap (λ (y : Report). y .verdict) p; bytes = ap (λ (y : Report). y .bytes) p; cycles = ap (λ (y : Report). y .cycles) p ∙ z .2; memory = memory-is ∙ z .1 }
 
-untouched : (r : Request) (d : ℕ) (c : Chip) (m : Mem) (ys : List ℕ) (x : Refusal) → verdictOf r d c m ys ≡ Judged x → Untouched ours r d c m ys x
-untouched r d c m ys x e =
-    let p = ap (benchBy r d c m ys) e in
-    record { verdict = ap (λ (y : Report). y .verdict) p; chip = ap (λ (y : Report). y .chip) p; memory = ap (benchMem r d c m ys) e; buffer = ap (benchBuffer r d c m ys) e }
+untouched : (r : Request) (en d : ℕ) (c : Chip) (m : Mem) (ys : List ℕ) (x : Refusal) → verdictOf r en d c m ys ≡ Judged x → Untouched ours r en d c m ys x
+untouched r en d c m ys x e =
+    let p = ap (benchBy r en d c m ys) e in
+    record { verdict = ap (λ (y : Report). y .verdict) p; chip = ap (λ (y : Report). y .chip) p; memory = ap (benchMem r en d c m ys) e; buffer = ap (benchBuffer r en d c m ys) e }
 
 -- the memories keep their lengths
-kept-sizes : (r : Request) (d : ℕ) (c : Chip) (m : Mem) (ys : List ℕ) → Written ours r d c m ys → (t : Target) → length (cellsOf t (ours .memory r d c m ys)) ≡ length (cellsOf t m)
+kept-sizes : (r : Request) (d : ℕ) (c : Chip) (m : Mem) (ys : List ℕ) → Written ours r (r .enable) d c m ys → (t : Target) → length (cellsOf t (ours .memory r (r .enable) d c m ys)) ≡ length (cellsOf t m)
 kept-sizes r d c m ys z t =
-    ⊎-elim (λ e. subst (λ (u : Target). length (cellsOf u (ours .memory r d c m ys)) ≡ length (cellsOf u m)) (sym e) (z .sizes))
-    (λ e. subst (λ (u : Target). length (cellsOf u (ours .memory r d c m ys)) ≡ length (cellsOf u m)) (sym e) (ap (λ (l : List ℕ). length l) (z .other)))
+    ⊎-elim (λ e. subst (λ (u : Target). length (cellsOf u (ours .memory r (r .enable) d c m ys)) ≡ length (cellsOf u m)) (sym e) (z .sizes))
+    (λ e. subst (λ (u : Target). length (cellsOf u (ours .memory r (r .enable) d c m ys)) ≡ length (cellsOf u m)) (sym e) (ap (λ (l : List ℕ). length l) (z .other)))
     (either (targetOf (r .place)) t)
 
 -- a read that nothing refuses
-fine-read : (r : Request) (e n i b : ℕ) (c : Chip) → not (factsOf (r .part) .known) ≡ false → not (enableRightOf (factsOf (r .part)) (r .enable)) ≡ false
+fine-read : (r : Request) (e n i b : ℕ) (c : Chip) → not (factsOf (r .part) .known) ≡ false → enableRightOf (factsOf (r .part)) (r .enable) ≡ true
     → buffersRightOf (factsOf (r .part)) n i ≡ true → inRangeOf (factsOf (r .part)) c ≡ true → r .length ≤ b
     → beyondAt (fromOf (r .place)) (r .length) (roomOf (factsOf (r .part)) (r .place)) (thereOf (factsOf (r .part)) (r .place)) ≡ false → 1 ≤ e → e ≤ 65535
-    → benchVerdictOf (readOf r) e c n i b ≡ Fine
+    → benchVerdictOf (readOf r) (r .enable) e c n i b ≡ Fine
 unfolding benchVerdictOf givenOf limitOf
 fine-read r e n i b c t1 t2 t3 t4 t5 t6 t7 t8 = simp (t1, t2, t3, t4, le-ltb b (r .length) t5, t6, le-ltb e 1 t7, le-ltb 65535 e t8)
 
 -- the read is not refused
 read-fine : (r : Request) (d e : ℕ) (c : Chip) (m : Mem) (ys zs : List ℕ) → Called r d c m ys → Typed c → r .reads ≡ false → 1 ≤ e → e ≤ 65535 → r .length ≤ length zs
-    → verdictOf (readOf r) e (ours .report r d c m ys .chip) (ours .memory r d c m ys) zs ≡ Fine
+    → verdictOf (readOf r) (r .enable) e (ours .report r (r .enable) d c m ys .chip) (ours .memory r (r .enable) d c m ys) zs ≡ Fine
 read-fine r d e c m ys zs k typed w lo hi room =
     let f = factsOf (r .part) in
     let z = written enough refl r d c m ys k w in
     let no = none r d c m ys k in
-    let b : buffersRightOf f (length (ours .memory r d c m ys .cells)) (length (ours .memory r d c m ys .ident)) ≡ true =
-    ap (λ (i : ℕ). buffersRightOf f i (length (ours .memory r d c m ys .ident))) (kept-sizes r d c m ys z TheArray)
+    let b : buffersRightOf f (length (ours .memory r (r .enable) d c m ys .cells)) (length (ours .memory r (r .enable) d c m ys .ident)) ≡ true =
+    ap (λ (i : ℕ). buffersRightOf f i (length (ours .memory r (r .enable) d c m ys .ident))) (kept-sizes r d c m ys z TheArray)
     ∙ (ap (buffersRightOf f (length (m .cells))) (kept-sizes r d c m ys z TheIdent) ∙ not-false _ (no .buffer))
     in
-    let g : inRangeOf f (ours .report r d c m ys .chip) ≡ true = in-range enough refl r d c m ys k typed in
-    fine-read r e (length (ours .memory r d c m ys .cells)) (length (ours .memory r d c m ys .ident)) (length zs) (ours .report r d c m ys .chip) (no .part) (no .enable) b g room (no .beyond) lo hi
+    let g : inRangeOf f (ours .report r (r .enable) d c m ys .chip) ≡ true = in-range enough refl r d c m ys k typed in
+    fine-read r e (length (ours .memory r (r .enable) d c m ys .cells)) (length (ours .memory r (r .enable) d c m ys .ident)) (length zs) (ours .report r (r .enable) d c m ys .chip) (no .part) (enabled r d c m ys k) b g room (no .beyond) lo hi
 
-reads-back : (r : Request) (d e : ℕ) (c : Chip) (m : Mem) (ys zs : List ℕ) → Called r d c m ys → Typed c → r .reads ≡ false → ours .report r d c m ys .verdict ≡ Fine
+reads-back : (r : Request) (d e : ℕ) (c : Chip) (m : Mem) (ys zs : List ℕ) → Called r d c m ys → Typed c → r .reads ≡ false → ours .report r (r .enable) d c m ys .verdict ≡ Fine
     → 1 ≤ e → e ≤ 65535 → r .length ≤ length zs → Bytes zs
-    → ours .buffer (readOf r) e (ours .report r d c m ys .chip) (ours .memory r d c m ys) zs ≡ ys ++ drop (r .length) zs
+    → ours .buffer (readOf r) (r .enable) e (ours .report r (r .enable) d c m ys .chip) (ours .memory r (r .enable) d c m ys) zs ≡ ys ++ drop (r .length) zs
 reads-back r d e c m ys zs k typed w done lo hi fits lent =
     let z = written enough refl r d c m ys k w in
     let v = read-fine r d e c m ys zs k typed w lo hi fits in
     let x = fromOf (r .place) in
-    let s = cellsOf (targetOf (r .place)) (ours .memory r d c m ys) in
+    let s = cellsOf (targetOf (r .place)) (ours .memory r (r .enable) d c m ys) in
     let n = write-long r d c m ys k w in
     let a = z .done done in
     let room = room-is r c m (sane r (take (r .length) ys) c m (begins r d c m ys k) .good) (begins r d c m ys k .idle) in
     let size = z .sizes in
-    let t = taken enough refl (readOf r) e (ours .report r d c m ys .chip) (ours .memory r d c m ys) zs (record { fine = v; idle = z .idle done; stored = z .stored; lent = lent }) refl in
+    let t = taken enough refl (readOf r) e (ours .report r (r .enable) d c m ys .chip) (ours .memory r (r .enable) d c m ys) zs (record { fine = v; idle = z .idle done; stored = z .stored; lent = lent }) refl in
     t .buffer
     ∙ ap (λ (l : List ℕ). l ++ drop (r .length) zs)
     (sym (ext-getD 0 ys (take (r .length) (drop x s)) (omega (arith, length-take (r .length) (drop x s), length-drop x s))
@@ -360,4 +368,5 @@ bench-promises =
       reads-back = reads-back;
       protects = λ r d c m ys k w u n. protects enough refl r d c m ys k w u n;
       refuses = untouched;
+      replays = replayed;
     }

@@ -14,17 +14,19 @@ use Rattle.line.specs.declared.Target.the-variants.{Array as TheArray, Ident as
 use Rattle.state.specs.declared.Chip.{Chip}
 use Rattle.state.specs.Range.{marksRightOf, pinRightOf, lockRightOf, phaseRightOf, restRightOf, inRangeOf}
 use Rattle.chip.specs.Memory.{Mem, mem, noLatch, cellsOf}
+use Rattle.chip.specs.Runs.{cyclesOf}
 use Rattle.chip.specs.Delivery.{pinAtFirstOf, standbyOf}
 use Rattle.chip.specs.Calls.{buffersRightOf}
 use Rattle.driver.specs.declared.Place.the-variants.{Array}
 use Rattle.driver.specs.declared.Request.{Request}
-use Rattle.driver.specs.Request.{beyondAt, limitOf}
+use Rattle.driver.specs.Request.{kOf, beyondAt, limitOf}
+use Rattle.driver.specs.Split.{pagesOf}
 use Rattle.driver.specs.Step.{fine}
 use Rattle.bench.specs.Calls.{benchVerdictOf}
 use Rattle.demands.specs.Ground.{Bytes}
 use Rattle.demands.specs.Ends.{Writable}
-use Rattle.demands.specs.Calls.{Bench, Called, BenchPromises}
-use Rattle.demands.specs.Idle.{refusing, boasting, forgetting, blind, inventing, IdleBreak}
+use Rattle.demands.specs.Calls.{Bench, ours, Called, BenchPromises}
+use Rattle.demands.specs.Idle.{refusing, boasting, forgetting, blind, inventing, untold, IdleBreak}
 use Rattle.demands.proofs.Calls.{bench-promises}
 
 -- one byte at 0 of part 0, budget 1: a write or a read
@@ -67,17 +69,25 @@ unfolding standbyOf pinAtFirstOf factsOf
 free = refl
 
 module _ (B : Bench) (p : BenchPromises B) where
-  done : B .report (one false) 1 chip₀ mem₀ byte .verdict ≡ Fine
+  done : B .report (one false) 0 1 chip₀ mem₀ byte .verdict ≡ Fine
   done = p .ends (one false) 1 chip₀ mem₀ byte (called false) refl free (omega arith) .done
 
-  all : B .report (one false) 1 chip₀ mem₀ byte .bytes ≡ 1
+  all : B .report (one false) 0 1 chip₀ mem₀ byte .bytes ≡ 1
   all = p .ends (one false) 1 chip₀ mem₀ byte (called false) refl free (omega arith) .bytes
 
-  stored : getD (B .memory (one false) 1 chip₀ mem₀ byte .cells) 0 0 ≡ 90
+  stored : getD (B .memory (one false) 0 1 chip₀ mem₀ byte .cells) 0 0 ≡ 90
   stored = p .writes (one false) 1 chip₀ mem₀ byte (called false) refl .reported 0 (omega (arith, all))
 
-  read : getD (B .buffer (one true) 1 chip₀ mem₀ byte) 0 0 ≡ 255
+  read : getD (B .buffer (one true) 0 1 chip₀ mem₀ byte) 0 0 ≡ 255
   read = ap (λ (l : List ℕ). getD l 0 0) (p .reads (one true) 1 chip₀ mem₀ byte (called true) refl .buffer)
+
+one-page : kOf (one false) ≡ 1
+unfolding kOf pagesOf factsOf
+one-page = refl
+
+none : BenchPromises untold → 0 ≡ ours .report (one false) (one false .enable) 1 chip₀ mem₀ byte .cycles
+unfolding cyclesOf
+none p = p .replays (one false) 0 1 chip₀ mem₀ byte .cycles
 
 pub idle-break : IdleBreak
 idle-break =
@@ -90,4 +100,8 @@ idle-break =
           (let a = p .ends (one false) 1 chip₀ mem₀ byte (called false) refl free (omega arith) .cycles in
           let b = bench-promises .ends (one false) 1 chip₀ mem₀ byte (called false) refl free (omega arith) .cycles in
           omega arith);
+      untold = λ p.
+          (let a = none p in
+          let b = bench-promises .ends (one false) 1 chip₀ mem₀ byte (called false) refl free (omega arith) .cycles in
+          omega (arith, one-page));
     }

@@ -11,6 +11,7 @@ pub mod Turns
 pub mod Late
 pub mod Range
 pub mod Shut
+pub mod Replay
 pub mod Calls
 pub mod Idle
 pub mod Trials

@@ -1,6 +1,7 @@
 -- Runs that only seem to work: each breaks the promises of the run (document 01, 'Strength of the promises').
 -- Assumes nothing.
 use Prim.Native.Nat.{_+_}
+use mathlib.Core.List.{[]}
 use Rattle.parts.specs.declared.Refusal.the-variants.{NoSelect}
 use Rattle.parts.specs.declared.Verdict.the-variants.{Fine, Refused as Judged}
 use Rattle.bench.specs.declared.Report.{Report}
@@ -10,34 +11,42 @@ use Rattle.demands.specs.Calls.{Bench, ours, BenchPromises}
 abbrev pub refusing : Bench
 refusing =
     record {
-      report = λ r d c m ys. record { verdict = Judged NoSelect; polls = 0; bytes = 0; cycles = 0; clocks = 0; chip = c };
-      memory = λ r d c m ys. m;
-      buffer = λ r d c m ys. ys;
+      report = λ r en d c m ys. record { verdict = Judged NoSelect; polls = 0; bytes = 0; cycles = 0; clocks = 0; chip = c };
+      memory = λ r en d c m ys. m;
+      buffer = λ r en d c m ys. ys;
+      events = λ r en d c m ys. [];
+      levels = λ r en d c m ys. [];
     }
 
 -- it reports everything done, and does nothing
 abbrev pub boasting : Bench
 boasting =
     record {
-      report = λ r d c m ys. record { verdict = Fine; polls = 0; bytes = r .length; cycles = 0; clocks = 0; chip = c };
-      memory = λ r d c m ys. m;
-      buffer = λ r d c m ys. ys;
+      report = λ r en d c m ys. record { verdict = Fine; polls = 0; bytes = r .length; cycles = 0; clocks = 0; chip = c };
+      memory = λ r en d c m ys. m;
+      buffer = λ r en d c m ys. ys;
+      events = λ r en d c m ys. [];
+      levels = λ r en d c m ys. [];
     }
 
 -- ours, on a model that stores nothing
 abbrev pub forgetting : Bench
-forgetting = record { report = ours .report; memory = λ r d c m ys. m; buffer = ours .buffer }
+forgetting = record { report = ours .report; memory = λ r en d c m ys. m; buffer = ours .buffer; events = ours .events; levels = ours .levels }
 
 -- ours, but what was read is not in the buffer
 abbrev pub blind : Bench
-blind = record { report = ours .report; memory = ours .memory; buffer = λ r d c m ys. ys }
+blind = record { report = ours .report; memory = ours .memory; buffer = λ r en d c m ys. ys; events = ours .events; levels = ours .levels }
 
 -- ours, but it counts a cycle that was not begun
 abbrev pub oneMore : Report → Report
 oneMore p = record { verdict = p .verdict; polls = p .polls; bytes = p .bytes; cycles = p .cycles + 1; clocks = p .clocks; chip = p .chip }
 
 abbrev pub inventing : Bench
-inventing = record { report = λ r d c m ys. oneMore (ours .report r d c m ys); memory = ours .memory; buffer = ours .buffer }
+inventing = record { report = λ r en d c m ys. oneMore (ours .report r en d c m ys); memory = ours .memory; buffer = ours .buffer; events = ours .events; levels = ours .levels }
+
+-- ours, with a tape that has nothing
+abbrev pub untold : Bench
+untold = record { report = ours .report; memory = ours .memory; buffer = ours .buffer; events = λ r en d c m ys. []; levels = λ r en d c m ys. [] }
 
 pub record IdleBreak : Type 0 where
   pub refusing : BenchPromises refusing → ⊥
@@ -45,3 +54,4 @@ pub record IdleBreak : Type 0 where
   pub forgetting : BenchPromises forgetting → ⊥
   pub blind : BenchPromises blind → ⊥
   pub inventing : BenchPromises inventing → ⊥
+  pub untold : BenchPromises untold → ⊥

@@ -242,7 +242,7 @@ fn dump(job: Job, data: &[u8]) {
 }
 
 fn run(job: Job, chip: Chip, array: &mut [u8], id: &mut [u8], data: &mut [u8]) {
-    let report = bench::run(request(job), job.ends, chip, array, id, data);
+    let report = bench::run(request(job), job.enable, job.ends, chip, array, id, data);
     let verdict = report.verdict;
     let last = report.chip;
     let n = number(verdict);

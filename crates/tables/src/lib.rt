@@ -544,7 +544,7 @@ fn busy_row(part: u8, enable: u8, k: usize, chip: Chip, array: &mut [u8], id: &m
     };
     let mut data = [FIRST, SECOND];
     let d = more(k);
-    let r = bench::run(request, d, chip, array, id, &mut data);
+    let r = bench::run(request, enable, d, chip, array, id, &mut data);
     tell_two(d);
     say(b"     ");
     tell_report(r);

@@ -10,7 +10,7 @@ slice-read-old : tie.Need-slice-read-old
 slice-read-old c = search needs
 
 next-requires : tie.Need-next-requires
-next-requires c κs = search needs
+next-requires c κs = tt
 
 slice-write-buffer : tie.Need-slice-write-buffer
 slice-write-buffer c = search needs
@@ -24,7 +24,7 @@ returns c =
     (ap (λ (x : Asked). x .answer) (nx .ensures .0), rw (nx .ensures .1) (put-back _ _ _))
 
 next-requires-2 : tie.Need-next-requires-2
-next-requires-2 c κs = search needs
+next-requires-2 c κs = tt
 
 same-length-2 : tie.Need-same-length-2
 same-length-2 c = search needs

@@ -1,12 +1,11 @@
-use mathlib.Core.Path.{ap}
-use Rattle.bench.specs.Held.{sendsOf}
+use mathlib.Core.Path.{refl}
 use Rattle.bench.proofs.Laws.{sent-small, asked-sent, asked-none}
 use borrow.Author.Needs.{needs}
 use Rattle.bench.proofs.ask.Statement.{statement}
 use Rattle.bench.proofs.ask.Tie as tie
 
 next-requires : tie.Need-next-requires
-next-requires c κs = search needs
+next-requires c κs = tt
 
 enum-known-answer : tie.Need-enum-known-answer
 enum-known-answer c = search needs
@@ -36,7 +35,8 @@ returns c =
     let nx = c .before .before .before .before .before .before .before .before .before .before .before .before .before .next in
     let sn = c .before .before .before .before .send in
     let a = c .before .before .before .before .before .before .before .before .before .before .before .before .before .before .before .before .before .before .args in
-    asked-sent _ _ (a .held) _ _ (nx .result) _ (nx .ensures .0) (nx .ensures .1) _ (c .before .before .before .before .before .before .before .before .answer .given .1) (sn .result) _ (sn .ensures .0) (sn .ensures .1)
+    let t = asked-sent _ _ (a .held) _ _ (nx .result) _ (nx .ensures .0) (nx .ensures .1) _ (c .before .before .before .before .before .before .before .before .answer .given .1) (sn .result) _ (sn .ensures .0) (sn .ensures .1) in
+    (t .0, (refl, t .1, t .2))
 
 same-length-4 : tie.Need-same-length-4
 same-length-4 c = search needs
@@ -45,7 +45,8 @@ returns-2 : tie.Need-returns-2
 returns-2 c =
     let nx = c .before .before .before .before .before .next in
     let a = c .before .before .before .before .before .before .before .before .before .before .args in
-    asked-none _ _ (a .held) _ _ (nx .result) _ (nx .ensures .0) (nx .ensures .1) (ap sendsOf (c .enum-told .given .1))
+    let t = asked-none _ _ (a .held) _ _ (nx .result) _ (nx .ensures .0) (nx .ensures .1) _ (c .enum-told .given .1) refl refl in
+    (t .0, (refl, t .1, t .2))
 
 same-length-5 : tie.Need-same-length-5
 same-length-5 c = search needs
@@ -54,7 +55,8 @@ returns-3 : tie.Need-returns-3
 returns-3 c =
     let nx = c .before .before .before .before .before .next in
     let a = c .before .before .before .before .before .before .before .before .before .before .args in
-    asked-none _ _ (a .held) _ _ (nx .result) _ (nx .ensures .0) (nx .ensures .1) (ap sendsOf (c .enum-told2 .given .1))
+    let t = asked-none _ _ (a .held) _ _ (nx .result) _ (nx .ensures .0) (nx .ensures .1) _ (c .enum-told2 .given .1) refl refl in
+    (t .0, (refl, t .1, t .2))
 
 pub ask-spec : {M : Type 1} → statement M
 ask-spec =

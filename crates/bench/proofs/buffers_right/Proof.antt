@@ -5,10 +5,10 @@ use Rattle.bench.proofs.buffers_right.Statement.{statement}
 use Rattle.bench.proofs.buffers_right.Tie as tie
 
 facts-of-requires : tie.Need-facts-of-requires
-facts-of-requires c κs = search needs
+facts-of-requires c κs = tt
 
 id-size-requires : tie.Need-id-size-requires
-id-size-requires c κs = search needs
+id-size-requires c κs = tt
 
 returns : tie.Need-returns
 unfolding buffersRightOf

@@ -1,20 +1,21 @@
-use borrow.Author.Needs.{needs}
 use mathlib.Core.Path.{refl}
 use Rattle.bench.proofs.Laws.{driven}
+use Rattle.bench.proofs.Taped.{taped}
+use borrow.Author.Needs.{needs}
 use Rattle.bench.proofs.drive.Statement.{statement}
 use Rattle.bench.proofs.drive.Tie as tie
 
 begin-requires : tie.Need-begin-requires
-begin-requires c κs = search needs
+begin-requires c κs = tt
 
 go-requires : tie.Need-go-requires
-go-requires c κs = (c .before .before .before .before .before .before .before .before .pre .0, ((refl, refl), c .before .before .before .before .before .before .before .before .pre .1))
+go-requires c κs = (c .before .before .before .before .before .before .before .before .before .before .before .before .pre .0, ((refl, refl), c .before .before .before .before .before .before .before .before .before .before .before .before .pre .1))
 
 answer-requires : tie.Need-answer-requires
-answer-requires c κs = search needs
+answer-requires c κs = tt
 
 reported-requires : tie.Need-reported-requires
-reported-requires c κs = search needs
+reported-requires c κs = tt
 
 same-length : tie.Need-same-length
 same-length c = search needs
@@ -25,12 +26,21 @@ same-length-2 c = search needs
 same-length-3 : tie.Need-same-length-3
 same-length-3 c = search needs
 
+same-length-4 : tie.Need-same-length-4
+same-length-4 c = search needs
+
+same-length-5 : tie.Need-same-length-5
+same-length-5 c = search needs
+
 returns : tie.Need-returns
 returns c =
-    let a = c .before .before .before .before .before .before .before .before .before .before .before .before .before .before .before .before .before .before .before .before .before .args in
-    let w = c .before .before .before .before .before .before .before .before .before .before .before .before .go in
+    let a = c .before .before .before .before .before .before .before .before .before .before .before .before .before .before .before .before .before .before .before .before .before .before .before .before .before .before .before .before .before .before .args in
+    let g = c .before .before .before .before .before .before .before .before .before .before .before .before .before .before .before .before .before .before .before .before .before .before .before .before .begin in
+    let w = c .before .before .before .before .before .before .before .before .before .before .before .before .before .before .before .before .before .go in
     let q = c .before .before .before .answer in
-    driven _ _ _ _ (a .request) (a .chip) _ _ _ _ _ (c .before .before .before .before .before .before .before .before .before .before .before .before .before .before .before .before .before .begin .result) (w .result) (q .result) (c .reported .result) (c .before .before .before .before .before .before .before .before .before .before .before .before .before .before .before .before .before .begin .ensures) (w .ensures) (q .ensures .0) (q .ensures .1) (c .reported .ensures)
+    let x = driven _ _ _ _ (a .request) (a .chip) _ _ _ _ _ (g .result) (w .result .held) (q .result) (c .reported .result) (g .ensures) (w .ensures .0) (q .ensures .0) (q .ensures .1) (c .reported .ensures) in
+    let y = taped _ _ _ _ (a .request) (a .chip) _ _ (g .result) (g .ensures) _ _ _ _ _ (w .ensures .1 .0) (w .ensures .1 .1 .0) (w .ensures .1 .1 .1) in
+    (x .0, (x .1 .0, (x .1 .1, y)))
 
 pub drive-spec : {M : Type 1} → statement M
 drive-spec =
@@ -43,4 +53,6 @@ drive-spec =
     same-length
     same-length-2
     same-length-3
+    same-length-4
+    same-length-5
     returns)

@@ -1,19 +1,21 @@
 use Rattle.bench.specs.Held.{whole, Fit}
 use Rattle.bench.specs.Together.{turnsOf, enough}
+use Rattle.bench.specs.Tape.{eventsOf, heardOf, laidOf}
 use Rattle.chip.specs.Memory.{mem}
 use Rattle.parts.specs.Table.{factsOf}
 use lib.ListN.{length}
-use Prim.Native.Nat.{_≤_, _+_}
+use Prim.Native.Nat.{_≤_, _+_, _*_}
 use borrow.Author.Tests.{not-true}
 use borrow.Author.Needs.{needs}
 use native.Mathlib.Omega.{arith}
 use mathlib.Core.Path.{_≡_, refl, sym, _∙_}
 use Rattle.bench.proofs.Laws.{turn-still, turn-few, turn-fit, turn-on, turns-end}
+use Rattle.bench.proofs.Taped.{Left, left-start, left-on, left-still, left-end, not-going, two}
 use Rattle.bench.proofs.go.Statement.{statement}
 use Rattle.bench.proofs.go.Tie as tie
 
 abbrev Inv-loop : tie.InvT-loop
-Inv-loop part enable d array₀ id₀ buffer₀ held₀ left₀ array id buffer held left =
+Inv-loop part enable d array₀ id₀ buffer₀ events₀ levels₀ held₀ sent₀ left₀ array id buffer events levels held sent left =
     (left ≤ 6000000)
     × (length array ≡ length array₀)
     × (length id ≡ length id₀)
@@ -21,17 +23,30 @@ Inv-loop part enable d array₀ id₀ buffer₀ held₀ left₀ array id buffer 
     × ((held .cycles + left ≤ 6000000) × (held .clocks + left ≤ 6000000))
     × Fit part enable (held .chip) (length array₀) (length id₀)
     × (turnsOf (factsOf part) enable d left (whole held buffer (mem array id)) ≡ turnsOf (factsOf part) enable d enough (whole held₀ buffer₀ (mem array₀ id₀)))
+    × (length events ≡ length events₀)
+    × (length levels ≡ length levels₀)
+    × (sent + 2 * left ≤ 12000000)
+    × Left (factsOf part) enable d left (whole held buffer (mem array id)) sent events levels (length (eventsOf (factsOf part) enable d enough (whole held₀ buffer₀ (mem array₀ id₀)))) (laidOf events₀ (eventsOf (factsOf part) enable d enough (whole held₀ buffer₀ (mem array₀ id₀)))) (laidOf levels₀ (heardOf (factsOf part) enable d enough (whole held₀ buffer₀ (mem array₀ id₀))))
 
 abbrev μ-loop : tie.MeasureT-loop
-μ-loop part enable d array₀ id₀ buffer₀ held₀ left₀ array id buffer held left = left
+μ-loop part enable d array₀ id₀ buffer₀ events₀ levels₀ held₀ sent₀ left₀ array id buffer events levels held sent left =
+    left
 
 loop-holds : tie.Need-loop-holds Inv-loop μ-loop
-loop-holds c = (omega arith, refl, refl, refl, (omega (arith, c .before .before .before .pre .1 .0), omega (arith, c .before .before .before .pre .1 .0)), c .before .before .before .pre .0, refl)
+loop-holds c = (omega arith, refl, refl, refl, (omega (arith, c .before .before .before .before .before .pre .1 .0), omega (arith, c .before .before .before .before .before .pre .1 .0)), c .before .before .before .before .before .pre .0, refl, refl, refl, omega arith, left-start _ _ _ _ _ _ _)
 
 turn-requires : tie.Need-turn-requires Inv-loop μ-loop
 turn-requires c κs =
     let l = c .before .before .before .before .loop in
-    (rw (l .inv .1, l .inv .2) (l .inv .5), ((omega (arith, l .inv .4, c .before .before .before .loop-test .taken), omega (arith, l .inv .4, c .before .before .before .loop-test .taken)), c .before .before .before .before .before .before .before .before .pre .1 .1))
+    (rw (l .inv .1, l .inv .2) (l .inv .5), ((omega (arith, l .inv .4, c .before .before .before .loop-test .taken), omega (arith, l .inv .4, c .before .before .before .loop-test .taken)), c .before .before .before .before .before .before .before .before .before .before .pre .1 .1))
+
+tape-requires : tie.Need-tape-requires Inv-loop μ-loop
+tape-requires c κs =
+    let l = c .before .before .before .before .before .before .before .before .before .before .before .before .before .before .loop in
+    omega (arith, l .inv .9, c .before .before .before .before .before .before .before .before .before .before .before .before .before .loop-test .taken)
+
+going-requires : tie.Need-going-requires Inv-loop μ-loop
+going-requires c κs = tt
 
 same-length : tie.Need-same-length Inv-loop μ-loop
 same-length c = search needs
@@ -42,12 +57,21 @@ same-length-2 c = search needs
 same-length-3 : tie.Need-same-length-3 Inv-loop μ-loop
 same-length-3 c = search needs
 
+same-length-4 : tie.Need-same-length-4 Inv-loop μ-loop
+same-length-4 c = search needs
+
+same-length-5 : tie.Need-same-length-5 Inv-loop μ-loop
+same-length-5 c = search needs
+
 returns : tie.Need-returns Inv-loop μ-loop
 returns c =
-    let a = c .before .before .before .before .before .before .before .before .before .before .before .before .before .before .before .before .before .before .args in
-    let l = c .before .before .before .before .before .before .before .before .before .before .before .before .before .before .loop in
-    let t = c .before .before .before .before .before .before .before .before .before .turn in
-    turn-still _ _ _ (l .held) _ _ _ _ _ (t .ensures .0) (l .left) _ (l .inv .6) (sym (t .ensures .1) ∙ not-true (t .result .going) (c .if1 .taken))
+    let l = c .before .before .before .before .before .before .before .before .before .before .before .before .before .before .before .before .before .before .before .before .before .loop in
+    let t = c .before .before .before .before .before .before .before .before .before .before .before .before .before .before .before .before .turn in
+    let p = c .before .before .before .before .before .before .tape in
+    let g = sym (c .before .going .ensures) ∙ not-true (c .before .going .result) (c .if1 .taken) in (
+      turn-still _ _ _ (l .held) _ _ _ _ _ (t .ensures .0) (l .left) _ (l .inv .6) (not-going _ _ _ _ _ (t .result .ended) (t .result .sends) (t .result .code) (l .sent) _ _ _ _ _ (t .ensures .0) (t .ensures .1) (p .ensures .0) (p .ensures .1 .0) (p .ensures .1 .1) g),
+      left-still _ _ _ _ _ (t .result .ended) (t .result .sends) (t .result .code) (l .sent) _ _ _ _ _ (t .ensures .0) (t .ensures .1) (p .ensures .0) (p .ensures .1 .0) (p .ensures .1 .1) (l .left) _ _ _ (c .before .before .before .before .before .before .before .before .before .before .before .before .before .before .before .before .before .before .before .before .loop-test .taken) g (l .inv .10),
+    )
 
 sub-left : tie.Need-sub-left Inv-loop μ-loop
 sub-left c = search needs
@@ -57,24 +81,41 @@ loop-less c = search needs
 
 loop-again : tie.Need-loop-again Inv-loop μ-loop
 loop-again c =
-    let a = c .before .before .before .before .before .before .before .before .before .before .before .before .before .before .before .before .before .before .args in
-    let l = c .before .before .before .before .before .before .before .before .before .before .before .before .before .before .loop in
-    let t = c .before .before .before .before .before .before .before .before .before .turn in
+    let l = c .before .before .before .before .before .before .before .before .before .before .before .before .before .before .before .before .before .before .before .before .before .loop in
+    let t = c .before .before .before .before .before .before .before .before .before .before .before .before .before .before .before .before .turn in
+    let p = c .before .before .before .before .before .before .tape in
     let e = t .ensures .0 in
-    let few = turn-few _ _ _ (l .held) _ _ _ _ _ e in
-    (omega arith, search needs, search needs, search needs, (omega (arith, few, l .inv .4, c .before .before .before .before .before .before .before .before .before .before .before .before .before .loop-test .taken), omega (arith, few, l .inv .4, c .before .before .before .before .before .before .before .before .before .before .before .before .before .loop-test .taken)), turn-fit _ _ _ (l .held) _ _ _ _ _ e _ _ (l .inv .5), turn-on _ _ _ (l .held) _ _ _ _ _ e (l .left) _ (c .before .before .before .before .before .before .before .before .before .before .before .before .before .loop-test .taken) (l .inv .6))
-
-same-length-4 : tie.Need-same-length-4 Inv-loop μ-loop
-same-length-4 c = search needs
-
-same-length-5 : tie.Need-same-length-5 Inv-loop μ-loop
-same-length-5 c = search needs
+    let few = turn-few _ _ _ (l .held) _ _ _ _ _ e in (
+      omega arith,
+      search needs,
+      search needs,
+      search needs,
+      (omega (arith, few, l .inv .4, c .before .before .before .before .before .before .before .before .before .before .before .before .before .before .before .before .before .before .before .before .loop-test .taken), omega (arith, few, l .inv .4, c .before .before .before .before .before .before .before .before .before .before .before .before .before .before .before .before .before .before .before .before .loop-test .taken)),
+      turn-fit _ _ _ (l .held) _ _ _ _ _ e _ _ (l .inv .5),
+      turn-on _ _ _ (l .held) _ _ _ _ _ e (l .left) _ (c .before .before .before .before .before .before .before .before .before .before .before .before .before .before .before .before .before .before .before .before .loop-test .taken) (l .inv .6),
+      search needs,
+      search needs,
+      omega (arith, l .inv .9, c .before .before .before .before .before .before .before .before .before .before .before .before .before .before .before .before .before .before .before .before .loop-test .taken, two _ _ _ _ _ (t .result .ended) (t .result .sends) (t .result .code) (l .sent) _ _ _ _ _ e (t .ensures .1) (p .ensures .0) (p .ensures .1 .0) (p .ensures .1 .1)),
+      left-on _ _ _ _ _ (t .result .ended) (t .result .sends) (t .result .code) (l .sent) _ _ _ _ _ e (t .ensures .1) (p .ensures .0) (p .ensures .1 .0) (p .ensures .1 .1) (l .left) _ _ _ (c .before .before .before .before .before .before .before .before .before .before .before .before .before .before .before .before .before .before .before .before .loop-test .taken) (l .inv .10),
+    )
 
 same-length-6 : tie.Need-same-length-6 Inv-loop μ-loop
 same-length-6 c = search needs
 
+same-length-7 : tie.Need-same-length-7 Inv-loop μ-loop
+same-length-7 c = search needs
+
+same-length-8 : tie.Need-same-length-8 Inv-loop μ-loop
+same-length-8 c = search needs
+
+same-length-9 : tie.Need-same-length-9 Inv-loop μ-loop
+same-length-9 c = search needs
+
+same-length-10 : tie.Need-same-length-10 Inv-loop μ-loop
+same-length-10 c = search needs
+
 returns-2 : tie.Need-returns-2 Inv-loop μ-loop
-returns-2 c = turns-end _ _ _ _ _ _ (omega arith) (c .before .loop .inv .6)
+returns-2 c = (turns-end _ _ _ _ _ _ (omega arith) (c .before .loop .inv .6), left-end _ _ _ _ _ _ _ _ _ _ _ (omega arith) (c .before .loop .inv .10))
 
 pub go-spec : {M : Type 1} → statement M
 go-spec =
@@ -84,14 +125,20 @@ go-spec =
     μ-loop
     loop-holds
     turn-requires
+    tape-requires
+    going-requires
     same-length
     same-length-2
     same-length-3
+    same-length-4
+    same-length-5
     returns
     sub-left
     loop-less
     loop-again
-    same-length-4
-    same-length-5
     same-length-6
+    same-length-7
+    same-length-8
+    same-length-9
+    same-length-10
     returns-2)

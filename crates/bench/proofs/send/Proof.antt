@@ -5,7 +5,7 @@ use Rattle.bench.proofs.send.Statement.{statement}
 use Rattle.bench.proofs.send.Tie as tie
 
 step-requires : tie.Need-step-requires
-step-requires c κs = search needs
+step-requires c κs = tt
 
 cast-t15 : tie.Need-cast-t15
 cast-t15 c = search needs
@@ -17,7 +17,7 @@ add-t16 c =
     omega (arith, one-cycle _ _ (a .held) _ (a .code) (st .result) _ (fine-step _ _ _ _ _ (c .before .before .before .before .before .before .before .before .before .before .before .before .before .pre .0) (c .before .before .before .before .before .before .before .before .before .before .before .before .before .args .code) (omega (arith, c .before .before .before .before .before .before .before .before .before .before .before .before .before .pre .1 .0))) (st .ensures .0), c .before .before .before .before .before .before .before .before .before .before .before .before .before .pre .1 .1 .0)
 
 clock-requires : tie.Need-clock-requires
-clock-requires c κs = search needs
+clock-requires c κs = tt
 
 add-t18 : tie.Need-add-t18
 add-t18 c =

@@ -1,22 +1,22 @@
-use Rattle.bench.proofs.Laws.{fit-ended, few-ended, turned, not-turned}
+use Rattle.bench.proofs.Laws.{fit-ended, few-ended, turned}
 use borrow.Author.Needs.{needs}
 use Rattle.bench.proofs.turn.Statement.{statement}
 use Rattle.bench.proofs.turn.Tie as tie
 
 allowed-requires : tie.Need-allowed-requires
-allowed-requires c κs = search needs
+allowed-requires c κs = tt
 
 due-requires : tie.Need-due-requires
-due-requires c κs = search needs
+due-requires c κs = c .before .before .before .before .before .pre .1 .1
 
 end-requires : tie.Need-end-requires
-end-requires c κs = search needs
+end-requires c κs = c .before .before .before .before .before .before .before .before .pre .0
 
 ask-requires : tie.Need-ask-requires
 ask-requires c κs =
     let en = c .before .before .before .before .before .before .before .end in
-    let b = c .before .before .before .before .before .before .before .before .before .before .before .before .before .before .before .before .before in
-    (fit-ended _ _ (b .args .held) (en .result) (en .ensures .0) _ _ _ _ (search needs) (search needs) (b .pre .0), few-ended _ _ (b .args .held) (en .result) (en .ensures .0) _ (b .pre .1 .0))
+    let b = c .before .before .before .before .before .before .before .before .before .before .before .before .before .before .before .before in
+    (fit-ended _ _ (c .before .before .before .before .before .before .before .before .before .before .due .result) (b .args .held) (en .result) (en .ensures .0) _ _ _ _ (search needs) (search needs) (b .pre .0), few-ended _ _ (c .before .before .before .before .before .before .before .before .before .before .due .result) (b .args .held) (en .result) (en .ensures .0) _ (b .pre .1 .0))
 
 same-length : tie.Need-same-length
 same-length c = search needs
@@ -29,28 +29,10 @@ same-length-3 c = search needs
 
 returns : tie.Need-returns
 returns c =
-    let en = c .before .before .before .before .before .before .before .before .before .before .before .before .before .before .before .end in
-    let sk = c .before .before .before .before .before .before .before .ask in
-    let a = c .before .before .before .before .before .before .before .before .before .before .before .before .before .before .before .before .before .before .before .before .before .before .before .before .before .args in
-    turned _ _ _ (a .held) _ _ _ _ (c .before .before .before .before .before .before .before .before .before .before .before .before .before .before .before .before .before .before .before .before .allowed .ensures) (c .before .before .before .before .before .before .before .before .before .before .before .before .before .before .before .before .before .before .before .due .ensures) (c .before .before .before .before .before .before .before .before .before .before .before .before .before .before .before .before .before .before .if1 .taken) (en .result) _ (en .ensures .0) (en .ensures .1) _ (sk .ensures .0)
-
-ask-requires-2 : tie.Need-ask-requires-2
-ask-requires-2 c κs = search needs
-
-same-length-4 : tie.Need-same-length-4
-same-length-4 c = search needs
-
-same-length-5 : tie.Need-same-length-5
-same-length-5 c = search needs
-
-same-length-6 : tie.Need-same-length-6
-same-length-6 c = search needs
-
-returns-2 : tie.Need-returns-2
-returns-2 c =
-    let sk = c .before .before .before .before .before .before .ask2 in
-    let a = c .before .before .before .before .before .before .before .before .before .before .before .before .before .before .before .before .before .args in
-    not-turned _ _ _ (a .held) _ _ _ _ (c .before .before .before .before .before .before .before .before .before .before .before .before .allowed .ensures) (c .before .before .before .before .before .before .before .before .before .before .before .due .ensures) (c .before .before .before .before .before .before .before .before .before .before .if1 .left) _ _ (sk .ensures .0) (sk .ensures .1)
+    let en = c .before .before .before .before .before .before .before .before .before .before .before .before .before .before .end in
+    let sk = c .before .before .before .before .before .before .ask in
+    let a = c .before .before .before .before .before .before .before .before .before .before .before .before .before .before .before .before .before .before .before .before .before .before .before .args in
+    turned _ _ _ (a .held) _ _ (c .before .before .before .before .before .before .before .before .before .before .before .before .before .before .before .before .before .due .result) _ (c .before .before .before .before .before .before .before .before .before .before .before .before .before .before .before .before .before .before .allowed .ensures) (c .before .before .before .before .before .before .before .before .before .before .before .before .before .before .before .before .before .due .ensures) (en .result) _ (en .ensures .0) (en .ensures .1) _ _ _ _ (sk .ensures .0) (sk .ensures .1)
 
 pub turn-spec : {M : Type 1} → statement M
 turn-spec =
@@ -63,9 +45,4 @@ turn-spec =
     same-length
     same-length-2
     same-length-3
-    returns
-    ask-requires-2
-    same-length-4
-    same-length-5
-    same-length-6
-    returns-2)
+    returns)

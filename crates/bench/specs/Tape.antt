@@ -1,0 +1,47 @@
+-- The tape of a run: every event that the chip is given, in order, and the level that it answers each with (2: none).
+-- Assumes nothing.
+use Prim.Native.Nat.{ℕ, zero, suc}
+use mathlib.Core.Bool.{Bool, true, false, cond}
+use mathlib.Core.List.{List, [], _∷_, _++_}
+use lib.ListN.{length, take, drop}
+use Rattle.parts.specs.declared.Facts.{Facts}
+use Rattle.driver.specs.declared.Answer.{Answer}
+use Rattle.driver.specs.declared.Answer.the-variants.{Send, Done, Refused}
+use Rattle.driver.specs.Step.{nextOf}
+use Rattle.bench.specs.Together.{System, dueOf, turnOf}
+
+abbrev pub sendsOf : Answer → Bool
+sendsOf (Send e) = true
+sendsOf (Done polls bytes) = false
+sendsOf (Refused r polls bytes) = false
+
+-- 0 where nothing is sent
+abbrev pub codeOf : Answer → ℕ
+codeOf (Send e) = e
+codeOf (Done polls bytes) = 0
+codeOf (Refused r polls bytes) = 0
+
+-- of a turn: what stands for the end of a cycle, where it ends, and what stands for the driver's event, where it sends one
+abbrev pub tapeBy : Bool → Bool → ℕ → ℕ → List ℕ
+tapeBy ended sends e x = cond ended (e ∷ []) [] ++ cond sends (x ∷ []) []
+
+-- the events of a turn: 4 is the end of a cycle
+unfoldable pub turnEvents : ℕ → System → List ℕ
+turnEvents d s =
+    tapeBy (dueOf d s) (sendsOf (nextOf (s .driver) (s .level) (s .buffer) .answer)) 4 (codeOf (nextOf (s .driver) (s .level) (s .buffer) .answer))
+
+-- the levels of a turn: an end answers none; the driver is told its event's level next
+unfoldable pub turnLevels : Facts → ℕ → ℕ → System → List ℕ
+turnLevels f enable d s = tapeBy (dueOf d s) (sendsOf (nextOf (s .driver) (s .level) (s .buffer) .answer)) 2 (turnOf f enable d s .level)
+
+unfoldable pub eventsOf : Facts → ℕ → ℕ → ℕ → System → List ℕ
+eventsOf f enable d zero s = []
+eventsOf f enable d (suc n) s = turnEvents d s ++ eventsOf f enable d n (turnOf f enable d s)
+
+unfoldable pub heardOf : Facts → ℕ → ℕ → ℕ → System → List ℕ
+heardOf f enable d zero s = []
+heardOf f enable d (suc n) s = turnLevels f enable d s ++ heardOf f enable d n (turnOf f enable d s)
+
+-- a list in a lent buffer, as far as it reaches; bytes past the list keep their values
+unfoldable pub laidOf : List ℕ → List ℕ → List ℕ
+laidOf l xs = take (length l) xs ++ drop (length xs) l
