@@ -13,7 +13,7 @@ use Rattle.parts.specs.declared.Facts.{Facts}
 use Rattle.parts.specs.declared.Event.the-variants.{Ends}
 use Rattle.parts.specs.declared.Verdict.{Verdict}
 use Rattle.parts.specs.declared.Verdict.the-variants.{Fine}
-use Rattle.parts.specs.Table.{factsOf, enableRightOf}
+use Rattle.parts.specs.Table.{factsOf, enableRightOf, buffersRightOf}
 use Rattle.parts.specs.Events.{eventOf, eventRightOf}
 use Rattle.parts.specs.Refusals.{givenOf}
 use Rattle.parts.proofs.Laws.{branch, sound, faultless}
@@ -22,7 +22,7 @@ use Rattle.state.specs.declared.Chip.{Chip}
 use Rattle.state.specs.Range.{inRangeOf}
 use Rattle.chip.specs.declared.Stepped.{Stepped}
 use Rattle.chip.specs.Memory.{Mem, mem, stateOf, storeOf}
-use Rattle.chip.specs.Calls.{stepVerdictOf, stepBy, stepMem, buffersRightOf}
+use Rattle.chip.specs.Calls.{stepVerdictOf, stepBy, stepMem}
 use Rattle.chip.proofs.Turns.{begun-most}
 use Rattle.laws.specs.Range.{Typed}
 use Rattle.laws.proofs.Range.{range-next, takes}

@@ -1,20 +1,18 @@
 -- What a run of driver and chip answers and leaves, for refused input too (document 01, refusals 1 to 8 in order).
 -- Assumes nothing.
 use Prim.Native.Nat.{ℕ, _+_}
-use mathlib.Core.Bool.{Bool, true, false, cond, not}
-use mathlib.Core.List.{List, [], _∷_, _++_}
+use mathlib.Core.Bool.{true, false, cond, not}
+use mathlib.Core.List.{List, [], _++_}
 use lib.ListN.{length, take, drop}
 use lib.Dec.{eqb, ltb}
-use Rattle.parts.specs.declared.Facts.{Facts}
 use Rattle.parts.specs.declared.Refusal.{Refusal}
 use Rattle.parts.specs.declared.Verdict.{Verdict}
 use Rattle.parts.specs.declared.Verdict.the-variants.{Fine, Refused as Judged}
-use Rattle.parts.specs.Table.{factsOf, enableRightOf}
+use Rattle.parts.specs.Table.{factsOf, enableRightOf, buffersRightOf}
 use Rattle.parts.specs.Refusals.{givenOf}
 use Rattle.state.specs.declared.Chip.{Chip}
 use Rattle.state.specs.Range.{inRangeOf}
 use Rattle.chip.specs.Memory.{Mem}
-use Rattle.chip.specs.Calls.{buffersRightOf}
 use Rattle.driver.specs.declared.Request.{Request}
 use Rattle.driver.specs.declared.Answer.{Answer}
 use Rattle.driver.specs.declared.Answer.the-variants.{Send, Done, Refused}

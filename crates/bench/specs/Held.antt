@@ -9,14 +9,13 @@ use Rattle.parts.specs.declared.Facts.{Facts}
 use Rattle.parts.specs.declared.Event.the-variants.{Ends}
 use Rattle.parts.specs.declared.Verdict.{Verdict}
 use Rattle.parts.specs.declared.Verdict.the-variants.{Fine, Refused as Judged}
-use Rattle.parts.specs.Table.{factsOf, enableRightOf}
+use Rattle.parts.specs.Table.{factsOf, enableRightOf, buffersRightOf}
 use Rattle.parts.specs.Events.{eventOf}
 use Rattle.parts.specs.Refusals.{numberOf}
 use Rattle.line.specs.Rules.{begunOf}
 use Rattle.state.specs.declared.Chip.{Chip}
 use Rattle.state.specs.Range.{inRangeOf}
 use Rattle.chip.specs.Memory.{Mem, stateOf, answerOf}
-use Rattle.chip.specs.Calls.{buffersRightOf}
 use Rattle.laws.specs.Range.{Typed}
 use Rattle.driver.specs.declared.Driver.{Driver}
 use Rattle.driver.specs.declared.Answer.{Answer}

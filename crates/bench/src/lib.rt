@@ -1,7 +1,7 @@
 // The driver against the model: each is told what the other does, until the driver has finished.
 ghost use mathlib.Core.Path.{_≡_};
 ghost use mathlib.Core.Bool.{cond, not, true};
-ghost use Prim.Native.Nat.{_+_, _<_, _≤_};
+ghost use Prim.Native.Nat.{_+_, _<_};
 ghost use lib.ListN.{length, set};
 ghost use lib.Seq.{sets};
 ghost use lib.Dec.{eqb, ltb};
@@ -9,7 +9,6 @@ ghost use Rattle.parts.specs.Table.{factsOf, enableRightOf};
 ghost use Rattle.parts.specs.declared.Event.the-variants.{Ends};
 ghost use Rattle.parts.specs.Events.{eventOf};
 ghost use Rattle.chip.specs.Memory.{mem, storeOf};
-ghost use Rattle.chip.specs.Calls.{buffersRightOf};
 ghost use Rattle.driver.specs.Request.{allowedOf};
 ghost use Rattle.driver.specs.Step.{nextOf};
 ghost use Rattle.bench.specs.Together.{
@@ -25,17 +24,7 @@ ghost use Rattle.bench.specs.Together.{
 };
 ghost use Rattle.bench.specs.Tape.{sendsOf, codeOf, tapeBy, eventsOf, heardOf, laidOf};
 ghost use Rattle.bench.specs.Held.{whole, sentOf, atEndOf, numberBy, madeOf, unfitOf, shortOf, limitedOf, Fit};
-ghost use Rattle.bench.specs.Calls.{
-  benchVerdictOf,
-  reportBy,
-  reportOf,
-  refusedBy,
-  benchBy,
-  benchMem,
-  benchBuffer,
-  benchEvents,
-  benchLevels,
-};
+ghost use Rattle.bench.specs.Calls.{benchVerdictOf, reportOf, refusedBy, benchBy, benchMem, benchBuffer, benchEvents, benchLevels};
 use driver::Answer;
 use driver::Driver;
 use driver::Phase;
@@ -460,18 +449,6 @@ fn drive(
 
 // ---- refusals
 
-fn buffers_right(part: u8, n: usize, i: usize) -> bool
-    ensures { λ r. ⌜ r ≡ buffersRightOf (factsOf part) n i ⌝ }
-{
-    let f = parts::facts_of(part);
-    let size = f.size;
-    let own = parts::id_size(f);
-    if n == size {
-        return i == own;
-    }
-    false
-}
-
 // 2: the driver's enable or the chip's is wrong for the part.
 fn enables_wrong(f: Facts, asked: u8, own: u8) -> bool
     ensures { λ r. ⌜ r ≡ cond (enableRightOf f asked) (not (enableRightOf f own)) true ⌝ }
@@ -542,7 +519,7 @@ fn judge(
     let f = parts::facts_of(request.part);
     let known = f.known;
     let no_enable = enables_wrong(f, request.enable, enable);
-    let lent = buffers_right(request.part, n, i);
+    let lent = parts::buffers_right(f, n, i);
     let ranged = state::in_range(request.part, chip);
     let own = number(driver::judge(request));
     let wrong = unfit(ranged, request.reads, request.length, b);

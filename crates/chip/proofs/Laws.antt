@@ -1,8 +1,8 @@
 -- Laws that the proofs of the code share: walks along latches, buffers and events.
 -- Assumes nothing.
-use Prim.Native.Nat.{ℕ, suc, _+_, _≤_, _<_}
-use mathlib.Core.Path.{_≡_, _∙_, sym, ap, refl}
-use mathlib.Core.List.{List, [], _∷_, _++_, append-nil}
+use Prim.Native.Nat.{ℕ, _+_, _≤_, _<_}
+use mathlib.Core.Path.{_≡_, _∙_, refl}
+use mathlib.Core.List.{List, _++_, append-nil}
 use mathlib.Core.Bool.{Bool, true, false, cond}
 use lib.Dec.{eqb}
 use borrow.Author.Tests.{eqb-true, ltb-false, not-false}
@@ -13,12 +13,12 @@ use Rattle.state.specs.declared.Chip.{Chip}
 use native.Mathlib.Numerals.{add-one}
 use native.Mathlib.Nat.{add-suc}
 use native.Mathlib.Omega.{arith}
-use lib.ListN.{length, getD, take, drop, set, length-take, length-set, drop-of-length-le, replicate}
+use lib.ListN.{length, getD, take, drop, length-take, length-set, drop-of-length-le, replicate}
 use lib.Seq.{drop-cons, getD-take, length-take-le}
-use Rattle.parts.specs.Table.{factsOf, idSizeOf}
+use Rattle.parts.specs.Table.{factsOf, idSizeOf, buffersRightOf}
 use Rattle.parts.specs.Events.{eventRightOf}
 use Rattle.chip.specs.declared.Scan.the-variants.{Clean, BadAt}
-use Rattle.chip.specs.Calls.{scanOf, buffersRightOf, deliverVerdictOf, runVerdictOf}
+use Rattle.chip.specs.Calls.{scanOf, deliverVerdictOf, runVerdictOf}
 use Rattle.line.specs.declared.Act.{Act}
 use Rattle.line.specs.declared.Act.the-variants.{Keep, Drop, Put}
 use Rattle.chip.specs.Memory.{oneOf, enteredOf, latchOf, noLatch}

@@ -2,8 +2,8 @@
 -- rest on this.
 -- Assumes nothing.
 use Prim.Native.Nat.{ℕ, zero, suc, _+_, _-_, _*_, _%_, _≤_, _<_}
-use mathlib.Core.Path.{_≡_, _∙_, sym, ap, refl, subst}
-use mathlib.Core.Bool.{Bool, true, false, cond}
+use mathlib.Core.Path.{_≡_, sym, refl, subst}
+use mathlib.Core.Bool.{Bool, true, false}
 use mathlib.Core.List.{List, [], _∷_}
 use native.Mathlib.Omega.{arith}
 use lib.ListN.{length, getD, drop, set, drop-of-length-le}
@@ -24,12 +24,12 @@ use Rattle.line.specs.declared.Phase.the-variants.{Idle, Receive, Send, Busy}
 use Rattle.line.specs.declared.Act.the-variants.{Keep}
 use Rattle.line.specs.declared.Core.{Core}
 use Rattle.line.specs.declared.Line.{Line}
-use Rattle.line.specs.Rules.{bitNumber, receivedOf, receiveActOf, receiveLevelOf, sentOf, sendLevelOf, clockedOf, clockActOf, clockLevelOf, startedOf, startActOf, stoppedOf, stopActOf, stopBegunOf, nextOf, actOf, levelOf, begunOf}
+use Rattle.line.specs.Rules.{bitNumber, sentOf, sendLevelOf, clockedOf, clockActOf, clockLevelOf, startedOf, startActOf, stoppedOf, stopActOf, stopBegunOf, nextOf, actOf, levelOf, begunOf}
 use Rattle.line.proofs.Laws.{received-bit}
 use Rattle.state.specs.declared.Chip.{Chip}
 use Rattle.chip.specs.declared.Scan.the-variants.{Clean}
 use Rattle.chip.specs.Calls.{scanOf}
-use Rattle.chip.specs.Memory.{Mem, chip, latchOf, isEnd, storeOf, stateOf, answerOf, shownOf, seenOf}
+use Rattle.chip.specs.Memory.{Mem, chip, isEnd, storeOf, stateOf, answerOf, shownOf, seenOf}
 use Rattle.chip.specs.Onward.{Leads, Coasts, ignoresOf, ignoredOf, goesOnOf, largerOf, highestOf}
 use Rattle.chip.proofs.Turns.{leads-on, leads-then, leads-none}
 

@@ -3,9 +3,7 @@
 use Prim.Native.Nat.{ℕ, suc, _+_, _≤_, _<_}
 use mathlib.Core.Path.{_≡_, _∙_, sym, ap, refl}
 use mathlib.Core.List.{List, [], _∷_, _++_, append-assoc, append-nil}
-use mathlib.Core.Bool.{Bool, true, false}
 use native.Mathlib.Numerals.{add-one}
-use native.Mathlib.Nat.{add-assoc, add-zero}
 use native.Mathlib.Omega.{arith}
 use lib.ListN.{length, getD, take, drop, set, drop-of-length-le, take-append-drop}
 use lib.Seq.{drop-cons, take-suc-set, drop-set-lt}
@@ -22,7 +20,7 @@ use Rattle.line.specs.declared.Phase.{Phase}
 use Rattle.line.specs.declared.Phase.the-variants.{Idle, Receive, Send, Busy}
 use Rattle.line.specs.Rules.{moveOf, actOf, begunOf, stopBegunOf, begunBy, dueOf, placedOf, asksOf}
 use Rattle.state.specs.declared.Chip.{Chip}
-use Rattle.chip.specs.Memory.{Mem, mem, chip, stateOf, storeOf, answerOf, seenOf, latchOf}
+use Rattle.chip.specs.Memory.{Mem, chip, stateOf, storeOf, answerOf, seenOf, latchOf}
 use Rattle.chip.specs.Runs.{afterOf, memoryOf, levelsOf, cyclesOf}
 use Rattle.chip.specs.Calls.{stepBy}
 use Rattle.chip.specs.Onward.{Leads}

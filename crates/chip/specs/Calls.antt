@@ -4,29 +4,23 @@ use Prim.Native.Nat.{ℕ, suc}
 use mathlib.Core.Bool.{Bool, true, false, not, cond}
 use mathlib.Core.List.{List, [], _∷_, _++_}
 use lib.ListN.{length, drop}
-use lib.Dec.{eqb, ltb}
+use lib.Dec.{ltb}
 use Rattle.parts.specs.declared.Facts.{Facts}
-use Rattle.parts.specs.declared.Faults.{Faults}
 use Rattle.parts.specs.declared.Verdict.{Verdict}
 use Rattle.parts.specs.declared.Verdict.the-variants.{Fine, Refused}
-use Rattle.parts.specs.Table.{factsOf, idSizeOf, enableRightOf}
+use Rattle.parts.specs.Table.{factsOf, enableRightOf, buffersRightOf}
 use Rattle.parts.specs.Events.{eventOf, eventRightOf}
 use Rattle.parts.specs.Refusals.{givenOf}
 use Rattle.line.specs.Rules.{begunOf}
 use Rattle.state.specs.declared.Chip.{Chip}
 use Rattle.state.specs.Range.{inRangeOf}
-use Rattle.chip.specs.declared.Delivered.{Delivered}
 use Rattle.chip.specs.declared.Stepped.{Stepped}
 use Rattle.chip.specs.declared.Ran.{Ran}
 use Rattle.chip.specs.declared.Scan.{Scan}
 use Rattle.chip.specs.declared.Scan.the-variants.{Clean, BadAt}
 use Rattle.chip.specs.Memory.{Mem, stateOf, storeOf, answerOf}
 use Rattle.chip.specs.Runs.{afterOf, memoryOf, levelsOf, cyclesOf}
-use Rattle.chip.specs.Delivery.{standbyOf, deliveredOf}
-
--- refusal 3: a buffer that is not exactly the part's length
-unfoldable pub buffersRightOf : Facts → ℕ → ℕ → Bool
-buffersRightOf f n d = cond (eqb n (f .size)) (eqb d (idSizeOf f)) false
+use Rattle.chip.specs.Delivery.{deliveredOf}
 
 -- ---- delivery: refusals 1, 3
 

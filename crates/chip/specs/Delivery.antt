@@ -1,8 +1,8 @@
 -- Document 01, 'The six parts': a part as delivered.
 -- Assumes nothing.
 use Prim.Native.Nat.{ℕ}
-use mathlib.Core.Bool.{Bool, true, false, cond}
-use mathlib.Core.List.{List, [], _∷_}
+use mathlib.Core.Bool.{Bool, false, cond}
+use mathlib.Core.List.{List}
 use lib.ListN.{set, replicate}
 use lib.Dec.{eqb}
 use Rattle.parts.specs.declared.Facts.{Facts}
@@ -10,8 +10,6 @@ use Rattle.parts.specs.Table.{factsOf, idSizeOf}
 use Rattle.line.specs.declared.Pin.{Pin}
 use Rattle.line.specs.declared.Pin.the-variants.{Absent, Floating}
 use Rattle.line.specs.declared.Phase.the-variants.{Idle}
-use Rattle.line.specs.declared.Core.{Core}
-use Rattle.line.specs.declared.Line.{Line}
 use Rattle.line.specs.Rules.{at}
 use Rattle.state.specs.declared.Chip.{Chip}
 use Rattle.chip.specs.Memory.{Mem, mem, noLatch}

@@ -1,6 +1,6 @@
 -- Latches and stored bytes: what an event does to them (document 01, rules 3, 6, 7, 8).
 -- Assumes nothing.
-use Prim.Native.Nat.{ℕ, suc, _+_, _*_, _/_, _%_}
+use Prim.Native.Nat.{ℕ, suc, _*_, _/_, _%_}
 use mathlib.Core.Bool.{Bool, true, false, cond}
 use mathlib.Core.List.{List, [], _∷_}
 use lib.ListN.{getD, set, take, replicate}
@@ -17,7 +17,7 @@ use Rattle.line.specs.declared.Phase.the-variants.{Idle, Receive, Send, Busy}
 use Rattle.line.specs.declared.Act.{Act}
 use Rattle.line.specs.declared.Act.the-variants.{Keep, Drop, Put}
 use Rattle.line.specs.declared.Line.{Line}
-use Rattle.line.specs.Rules.{nextOf, actOf, levelOf, begunOf}
+use Rattle.line.specs.Rules.{nextOf, actOf, levelOf}
 use Rattle.state.specs.declared.Chip.{Chip}
 
 -- what is stored: the array and the identification page

@@ -6,7 +6,7 @@ ghost use Rattle.parts.specs.Table.{factsOf, idSizeOf};
 ghost use Rattle.chip.specs.Runs.{afterOf, memoryOf, levelsOf, cyclesOf};
 ghost use Rattle.chip.specs.Onward.{Leads, Coasts, ignoresOf, ignoredOf, goesOnOf, largerOf, highestOf};
 ghost use Rattle.chip.specs.Delivery.{pinAtFirstOf, standbyOf, codedOf, deliveredOf};
-ghost use Rattle.chip.specs.Calls.{buffersRightOf, deliverVerdictOf, deliverMem, stepVerdictOf, stepBy, stepMem, scanOf, isBad, placeOf, runVerdictOf, runBy, runMem, runAnswers};
+ghost use Rattle.chip.specs.Calls.{deliverVerdictOf, deliverMem, stepVerdictOf, stepBy, stepMem, scanOf, isBad, placeOf, runVerdictOf, runBy, runMem, runAnswers};
 ghost use mathlib.Core.Bool.{cond, false};
 ghost use mathlib.Core.List.{_++_};
 ghost use lib.Dec.{eqb};
@@ -252,24 +252,12 @@ fn stir(
 
 // ---- refusals
 
-fn buffers_right(part: u8, n: usize, d: usize) -> bool
-    ensures { λ r. ⌜ r ≡ buffersRightOf (factsOf part) n d ⌝ }
-{
-    let f = parts::facts_of(part);
-    let size = f.size;
-    let own = parts::id_size(f);
-    if n == size {
-        return d == own;
-    }
-    false
-}
-
 fn deliver_verdict(part: u8, n: usize, d: usize) -> Verdict
     ensures { λ r. ⌜ r ≡ deliverVerdictOf part n d ⌝ }
 {
     let f = parts::facts_of(part);
     let known = f.known;
-    let lent = buffers_right(part, n, d);
+    let lent = parts::buffers_right(f, n, d);
     parts::given(Faults {
         part: !known,
         enable: false,
@@ -292,7 +280,7 @@ fn step_verdict(part: u8, enable: u8, chip: Chip, n: usize, d: usize, code: u8) 
     let known = f.known;
     let pin = f.pin;
     let enabled = parts::enable_right(f, enable);
-    let lent = buffers_right(part, n, d);
+    let lent = parts::buffers_right(f, n, d);
     let ranged = state::in_range(part, chip);
     let taken = parts::event_right(pin, code);
     parts::given(Faults {
@@ -387,7 +375,7 @@ fn run_verdict(
     let known = f.known;
     let pin = f.pin;
     let enabled = parts::enable_right(f, enable);
-    let lent = buffers_right(part, n, d);
+    let lent = parts::buffers_right(f, n, d);
     let ranged = state::in_range(part, chip);
     let found = scanned(pin, events);
     let bad = is_bad(found);

@@ -14,7 +14,7 @@ use Rattle.parts.specs.declared.Faults.{Faults}
 use Rattle.parts.specs.declared.Refusal.{Refusal}
 use Rattle.parts.specs.declared.Refusal.the-variants.{NoData, PollsUsed}
 use Rattle.parts.specs.declared.Verdict.the-variants.{Fine, Refused as Judged}
-use Rattle.parts.specs.Table.{factsOf, idSizeOf, enableRightOf}
+use Rattle.parts.specs.Table.{factsOf, idSizeOf, enableRightOf, buffersRightOf}
 use Rattle.parts.specs.Refusals.{givenOf}
 use Rattle.parts.proofs.Laws.{Faultless, faultless}
 use Rattle.line.specs.declared.Target.{Target}
@@ -23,7 +23,6 @@ use Rattle.line.specs.declared.Phase.the-variants.{Idle}
 use Rattle.state.specs.declared.Chip.{Chip}
 use Rattle.state.specs.Range.{inRangeOf}
 use Rattle.chip.specs.Memory.{Mem, cellsOf}
-use Rattle.chip.specs.Calls.{buffersRightOf}
 use Rattle.laws.specs.Range.{Typed}
 use Rattle.driver.specs.declared.Request.{Request}
 use Rattle.driver.specs.declared.Answer.{Answer}

@@ -7,7 +7,7 @@ use mathlib.Core.List.{List, [], _∷_}
 use lib.ListN.{length, getD, replicate}
 use native.Mathlib.Omega.{arith}
 use Rattle.parts.specs.declared.Verdict.the-variants.{Fine}
-use Rattle.parts.specs.Table.{factsOf, idSizeOf, enableRightOf}
+use Rattle.parts.specs.Table.{factsOf, idSizeOf, enableRightOf, buffersRightOf}
 use Rattle.parts.specs.Refusals.{givenOf}
 use Rattle.line.specs.declared.Target.{Target}
 use Rattle.line.specs.declared.Target.the-variants.{Array as TheArray, Ident as TheIdent}
@@ -16,7 +16,6 @@ use Rattle.state.specs.Range.{marksRightOf, pinRightOf, lockRightOf, phaseRight
 use Rattle.chip.specs.Memory.{Mem, mem, noLatch, cellsOf}
 use Rattle.chip.specs.Runs.{cyclesOf}
 use Rattle.chip.specs.Delivery.{pinAtFirstOf, standbyOf}
-use Rattle.chip.specs.Calls.{buffersRightOf}
 use Rattle.driver.specs.declared.Place.the-variants.{Array}
 use Rattle.driver.specs.declared.Request.{Request}
 use Rattle.driver.specs.Request.{kOf, beyondAt, limitOf}

@@ -20,14 +20,11 @@ use Rattle.line.specs.declared.Target.{Target}
 use Rattle.line.specs.declared.Target.the-variants.{Array as TheArray, Ident as TheIdent}
 use Rattle.line.specs.declared.Recv.{Recv}
 use Rattle.line.specs.declared.Recv.the-variants.{Select as SelectByte, AddressHigh, AddressLow, Fill}
-use Rattle.line.specs.declared.Heard.{Heard as Named}
 use Rattle.line.specs.declared.Heard.the-variants.{Hit}
 use Rattle.line.specs.declared.Cycle.the-variants.{Writing}
-use Rattle.line.specs.declared.Phase.{Phase as ChipPhase}
 use Rattle.line.specs.declared.Phase.the-variants.{Idle, Receive, Send as Sending, Busy}
 use Rattle.line.specs.declared.Core.{Core}
 use Rattle.line.specs.declared.Line.{Line}
-use Rattle.line.specs.declared.After.{After as Outcome}
 use Rattle.line.specs.Rules.{isHigh, at, opened, rollOf, firstOf, selectedOf, decodeOf, loadedOf, refusesOf, givenUp, latchedOf, filledOf, takenOf, landed, releasedIn, asksOf, movedOf, sendLevelOf, endedByOf}
 use Rattle.state.specs.declared.Chip.{Chip}
 use Rattle.chip.specs.Memory.{Mem, noLatch, latchOf, cellsOf, withCells, committedOf, cycleStoredOf, shownOf}

@@ -13,8 +13,6 @@ use Rattle.parts.specs.Refusals.{numberOf}
 use Rattle.parts.specs.Table.{factsOf}
 use Rattle.line.specs.declared.Target.{Target}
 use Rattle.line.specs.declared.Target.the-variants.{Array as TheArray, Ident as TheIdent}
-use Rattle.line.specs.declared.Recv.the-variants.{Select as SelectByte}
-use Rattle.line.specs.declared.Phase.{Phase as ChipPhase}
 use Rattle.line.specs.declared.Phase.the-variants.{Receive}
 use Rattle.line.specs.declared.Line.{Line}
 use Rattle.state.specs.declared.Chip.{Chip}

@@ -1,7 +1,7 @@
 -- The tape of a run, given to the same chip by the chip's own definitions, is the run.
 -- Assumes nothing.
 use Prim.Native.Nat.{ℕ, zero, suc, _+_}
-use mathlib.Core.Path.{_≡_, refl, sym, _∙_, ap, subst}
+use mathlib.Core.Path.{_≡_, refl, _∙_, ap, subst}
 use mathlib.Core.Bool.{Bool, true, false, cond}
 use mathlib.Core.List.{List, [], _∷_, _++_}
 use lib.ListN.{take}
@@ -22,7 +22,6 @@ use Rattle.driver.specs.declared.Answer.{Answer}
 use Rattle.driver.specs.declared.Answer.the-variants.{Send, Done, Refused}
 use Rattle.driver.specs.Step.{nextOf, bufferOf}
 use Rattle.driver_laws.specs.Run.{clocksIn}
-use Rattle.bench.specs.declared.Report.{Report}
 use Rattle.bench.specs.Together.{System, startOf, answeredBy, askedOf, endedOf, dueOf, turnOf, turnsOf, enough}
 use Rattle.bench.specs.Tape.{sendsOf, codeOf, tapeBy, turnEvents, turnLevels, eventsOf, heardOf}
 use Rattle.bench.specs.Calls.{finalOf, reportBy, benchBy, benchMem, benchEvents, benchLevels}

@@ -17,7 +17,6 @@ use Rattle.parts.proofs.Laws.{sound, branch}
 use Rattle.line.specs.declared.Target.the-variants.{Array as TheArray, Ident as TheIdent}
 use Rattle.line.specs.declared.Cycle.{Cycle}
 use Rattle.line.specs.declared.Cycle.the-variants.{Writing, Locking}
-use Rattle.line.specs.declared.Phase.{Phase as ChipPhase}
 use Rattle.line.specs.declared.Phase.the-variants.{Idle, Receive, Send as Sending, Busy}
 use Rattle.line.specs.declared.Core.{Core}
 use Rattle.line.specs.declared.Line.{Line}

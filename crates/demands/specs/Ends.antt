@@ -11,7 +11,6 @@ use mathlib.Core.List.{List, [], _∷_}
 use Rattle.parts.specs.declared.Facts.{Facts}
 use Rattle.parts.specs.declared.Refusal.the-variants.{NoData, PollsUsed}
 use Rattle.parts.specs.Table.{factsOf}
-use Rattle.line.specs.declared.Target.the-variants.{Ident as TheIdent}
 use Rattle.line.specs.declared.Phase.{Phase}
 use Rattle.line.specs.declared.Phase.the-variants.{Idle, Receive, Send as Sending, Busy}
 use Rattle.line.specs.declared.Core.{Core}

@@ -14,7 +14,7 @@ use Rattle.parts.specs.declared.Refusal.the-variants.{NoPart, WrongEnable, Wron
 use Rattle.parts.specs.declared.Verdict.{Verdict}
 use Rattle.parts.specs.declared.Verdict.the-variants.{Fine, Refused}
 use Rattle.parts.specs.declared.Event.{Event}
-use Rattle.parts.specs.Table.{factsOf, enableRightOf}
+use Rattle.parts.specs.Table.{factsOf, enableRightOf, buffersRightOf}
 use Rattle.parts.specs.Events.{eventOf, eventRightOf}
 use Rattle.parts.specs.Refusals.{givenOf}
 use Rattle.parts.proofs.Laws.{branch, sound}
@@ -29,7 +29,7 @@ use Rattle.state.specs.Range.{inRangeOf}
 use Rattle.chip.specs.declared.Scan.the-variants.{BadAt}
 use Rattle.chip.specs.Memory.{Mem, oneOf, enteredOf, pageStartOf, committedOf, cycleStoredOf, storedOf, isEnd, storeOf, stateOf, answerOf}
 use Rattle.chip.specs.Runs.{afterOf, memoryOf, levelsOf, cyclesOf}
-use Rattle.chip.specs.Calls.{buffersRightOf, stepVerdictOf, stepBy, stepMem, scanOf, isBad, placeOf, runVerdictOf, runBy, runMem, runAnswers}
+use Rattle.chip.specs.Calls.{stepVerdictOf, stepBy, stepMem, scanOf, isBad, placeOf, runVerdictOf, runBy, runMem, runAnswers}
 use Rattle.laws.specs.Range.{Typed, AllTaken}
 use Rattle.laws.specs.Runs.{verdictOf, stepped, steppedMem, Steps, joined, stepsOf, runVerdict, RunIsSteps, RunGoesOn}
 use Rattle.laws.proofs.Range.{no-way, takes, range-next}

@@ -1,7 +1,7 @@
 -- The trials come out as document 01 says, by computation.
 -- Assumes nothing.
 use mathlib.Core.Path.{refl}
-use Rattle.parts.specs.Table.{factsOf, idSizeOf, enableRightOf}
+use Rattle.parts.specs.Table.{factsOf, idSizeOf, enableRightOf, buffersRightOf}
 use Rattle.parts.specs.Events.{eventOf, eventRightOf}
 use Rattle.parts.specs.Refusals.{givenOf}
 use Rattle.line.specs.Rules.{rollOf, beforeOf, onwardOf, enabledOf, namedOf, decodeOf, firstOf, selectedOf, loadArrayOf, loadIdOf, loadedOf, refusesOf, latchedOf, filledOf, lockedByOf, takenOf, receivedOf, receiveActOf, receiveLevelOf, movedOf, sentOf, sendLevelOf, clockedOf, clockActOf, clockLevelOf, startedOf, startActOf, asksOf, placedOf, stoppedOf, stopActOf, stopBegunOf, endedByOf, endedOf, endActOf, pinnedOf, resetOf, nextOf, actOf, levelOf, begunOf}
@@ -9,7 +9,7 @@ use Rattle.state.specs.Range.{marksRightOf, pinRightOf, lockRightOf, phaseRight
 use Rattle.chip.specs.Memory.{noLatch, oneOf, pageStartOf, committedOf, cycleStoredOf, storedOf, storeOf, shownOf, seenOf, stateOf, answerOf}
 use Rattle.chip.specs.Runs.{afterOf, memoryOf, levelsOf, cyclesOf}
 use Rattle.chip.specs.Delivery.{pinAtFirstOf, standbyOf, codedOf, deliveredIdOf, deliveredOf}
-use Rattle.chip.specs.Calls.{buffersRightOf, runVerdictOf}
+use Rattle.chip.specs.Calls.{runVerdictOf}
 use Rattle.laws.specs.Bytes.{bitsOf, byteOf}
 use Rattle.laws.specs.Trials.{firstWrong, doneOf, trialOf, bytesOf, sends, readOne, writes, lastLevel, acknowledged, released, cellIs, counterIs, begins, same, endsWith, chipTrials, ChipTrialsRight}
 

@@ -20,35 +20,7 @@ use Rattle.driver.specs.declared.Phase.the-variants.{Ready, Bits, Heard, Rest, 
 use Rattle.driver.specs.declared.Driver.{Driver}
 use Rattle.driver.specs.Request.{fromOf}
 use Rattle.driver.specs.Step.{clocksOf}
-use Rattle.pack_driver.specs.Layout.{
-  flagOf,
-  placeCodeOf,
-  slotCodeOf,
-  failedCodeOf,
-  phaseCodeOf,
-  packedLength,
-  wordEnd,
-  wordOf,
-  wordsOf,
-  headOf,
-  numbersOf,
-  packedOf,
-  allSmall,
-  smallOf,
-  packsOf,
-  packInto,
-  placeIn,
-  slotIn,
-  failedIn,
-  phaseIn,
-  joinedOf,
-  numberIn,
-  driverIn,
-  phaseRightOf,
-  codesRightOf,
-  holdsOf,
-  unpackedOf,
-}
+use Rattle.pack_driver.specs.Layout.{flagOf, placeCodeOf, slotCodeOf, failedCodeOf, phaseCodeOf, packedLength, wordEnd, wordOf, wordsOf, numbersOf, packedOf, allSmall, smallOf, packsOf, packInto, placeIn, slotIn, failedIn, phaseIn, joinedOf, numberIn, driverIn, phaseRightOf, codesRightOf, holdsOf, unpackedOf}
 use Rattle.pack_driver.specs.Promises.{AllBelow, Fits, PacksBack, UnpacksBack}
 use Rattle.pack_driver.proofs.Laws.{holds-length}
 

@@ -8,7 +8,7 @@ use mathlib.Core.List.{List, []}
 use lib.ListN.{length, replicate}
 use Rattle.parts.specs.declared.Verdict.{Verdict}
 use Rattle.parts.specs.declared.Verdict.the-variants.{Fine, Refused}
-use Rattle.parts.specs.Table.{factsOf, idSizeOf, enableRightOf}
+use Rattle.parts.specs.Table.{factsOf, idSizeOf, enableRightOf, buffersRightOf}
 use Rattle.parts.specs.Events.{eventOf, eventRightOf}
 use Rattle.parts.specs.Refusals.{givenOf}
 use Rattle.line.specs.Rules.{decodeOf, enabledOf, namedOf, firstOf, selectedOf, takenOf, receivedOf, receiveLevelOf, clockedOf, clockLevelOf, startedOf, nextOf, levelOf}
@@ -16,7 +16,7 @@ use Rattle.state.specs.declared.Chip.{Chip}
 use Rattle.state.specs.Range.{marksRightOf, pinRightOf, lockRightOf, phaseRightOf, restRightOf, inRangeOf}
 use Rattle.chip.specs.Memory.{Mem, mem, noLatch, stateOf, answerOf}
 use Rattle.chip.specs.Delivery.{pinAtFirstOf, standbyOf}
-use Rattle.chip.specs.Calls.{buffersRightOf, deliverVerdictOf, stepVerdictOf, runVerdictOf}
+use Rattle.chip.specs.Calls.{deliverVerdictOf, stepVerdictOf, runVerdictOf}
 use Rattle.promises.specs.Calls.{deliverLeftOf, deliverOf, stepLeftOf, stepOf, runLeftOf, runOf, stepVerdict, runVerdict}
 use Rattle.promises.specs.Model.{ours, levelsBy}
 use Rattle.promises.specs.Idle.{RefusesByTable, RefusingBreaks, SelectTrials, ConstantBreaks}

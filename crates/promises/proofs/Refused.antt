@@ -11,13 +11,13 @@ use Rattle.parts.specs.declared.Facts.{Facts}
 use Rattle.parts.specs.declared.Refusal.{Refusal}
 use Rattle.parts.specs.declared.Verdict.{Verdict}
 use Rattle.parts.specs.declared.Verdict.the-variants.{Fine, Refused}
-use Rattle.parts.specs.Table.{factsOf, enableRightOf}
+use Rattle.parts.specs.Table.{factsOf, enableRightOf, buffersRightOf}
 use Rattle.parts.specs.Refusals.{givenOf}
 use Rattle.parts.proofs.Laws.{branch}
 use Rattle.state.specs.declared.Chip.{Chip}
 use Rattle.state.specs.Range.{inRangeOf}
 use Rattle.chip.specs.Memory.{Mem}
-use Rattle.chip.specs.Calls.{buffersRightOf, deliverVerdictOf, stepVerdictOf, runVerdictOf}
+use Rattle.chip.specs.Calls.{deliverVerdictOf, stepVerdictOf, runVerdictOf}
 use Rattle.promises.specs.Calls.{deliverLeftOf, deliverOf, stepLeftOf, stepVerdict, stepOf, runLeftOf, runVerdict, runOf, Call, one, many, Ending, afterStep, afterRun, callBy, callsBy}
 use Rattle.promises.specs.Refused.{DeliverRefusedChangesNothing, StepRefusedChangesNothing, RunRefusedChangesNothing, RefusedChangesNothing}
 

@@ -10,7 +10,7 @@ use lib.Seq.{length-take-le, getD-take}
 use lib.Dec.{ltb, eqb}
 use borrow.Author.Tests.{le-ltb, ltb-false}
 use Rattle.parts.proofs.Laws.{branch}
-use Rattle.parts.specs.Table.{factsOf, idSizeOf, enableRightOf}
+use Rattle.parts.specs.Table.{factsOf, idSizeOf, enableRightOf, buffersRightOf}
 use Rattle.parts.specs.Events.{eventOf, eventRightOf}
 use Rattle.parts.specs.Refusals.{givenOf, numberOf}
 use Rattle.parts.specs.declared.Facts.{Facts}
@@ -27,7 +27,7 @@ use Rattle.state.specs.Range.{marksRightOf, pinRightOf, lockRightOf, phaseRight
 use Rattle.chip.specs.Memory.{Mem, noLatch, oneOf, pageStartOf, committedOf, cycleStoredOf, storedOf, storeOf, shownOf, seenOf, stateOf, answerOf}
 use Rattle.chip.specs.Runs.{afterOf, memoryOf, levelsOf, cyclesOf}
 use Rattle.chip.specs.Delivery.{pinAtFirstOf, standbyOf, codedOf, deliveredIdOf, deliveredOf}
-use Rattle.chip.specs.Calls.{buffersRightOf, runVerdictOf}
+use Rattle.chip.specs.Calls.{runVerdictOf}
 use Rattle.trace.specs.Trace.{headRightOf, lettersEndOf, lettersOf, codeOf, charOf, leadingOf, decimalOf, refusalTextOf, linesOf, tracedVerdictOf, tracedOf, traceOf, reportOf, charsOf, placeTextOf, placeIn, atWord, refusedWord, partWord, cyclesWord, newline, countOf}
 use Rattle.trace.specs.Promises.{ReadsNoFurther, AnswerFits, PrintedExample}
 use Rattle.trace.proofs.Laws.{letters-range}

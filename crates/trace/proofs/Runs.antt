@@ -10,7 +10,7 @@ use borrow.Author.Tests.{eq-eqb, lt-ltb}
 use Rattle.parts.specs.declared.Facts.{Facts}
 use Rattle.parts.specs.declared.Verdict.{Verdict}
 use Rattle.parts.specs.declared.Verdict.the-variants.{Fine, Refused}
-use Rattle.parts.specs.Table.{factsOf, idSizeOf, enableRightOf}
+use Rattle.parts.specs.Table.{factsOf, idSizeOf, enableRightOf, buffersRightOf}
 use Rattle.parts.specs.Refusals.{givenOf}
 use Rattle.parts.proofs.Laws.{faultless, sound, branch}
 use Rattle.state.specs.declared.Chip.{Chip}
@@ -18,7 +18,7 @@ use Rattle.chip.specs.declared.Ran.{Ran}
 use Rattle.chip.specs.Memory.{Mem, mem}
 use Rattle.chip.specs.Delivery.{standbyOf, deliveredOf}
 use Rattle.chip.specs.Runs.{levelsOf, cyclesOf}
-use Rattle.chip.specs.Calls.{buffersRightOf, deliverVerdictOf, deliverMem, runVerdictOf, runBy, runAnswers}
+use Rattle.chip.specs.Calls.{deliverVerdictOf, deliverMem, runVerdictOf, runBy, runAnswers}
 use Rattle.laws.proofs.Range.{standby-in-range}
 use Rattle.trace.specs.Trace.{reportOf, tracedVerdictOf, tracedOf, longVerdictOf, headRightOf, traceOf, lettersOf, codesOf, codeOf}
 use Rattle.trace.proofs.Texts.{each-length}

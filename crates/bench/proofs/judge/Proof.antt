@@ -1,6 +1,5 @@
 use mathlib.Core.Path.{_∙_}
 use Rattle.bench.proofs.Laws.{judge-by}
-use borrow.Author.Needs.{needs}
 use Rattle.bench.specs.Calls.{benchVerdictOf}
 use Rattle.bench.proofs.judge.Statement.{statement}
 use Rattle.bench.proofs.judge.Tie as tie

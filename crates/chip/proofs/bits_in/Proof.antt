@@ -11,8 +11,6 @@ use native.Mathlib.Omega.{arith}
 use borrow.Author.Needs.{needs}
 use Rattle.chip.proofs.bits_in.Statement.{statement}
 use Rattle.chip.proofs.bits_in.Tie as tie
-use Rattle.chip.proofs.bits_in.Reads as reads
-use Rattle.chip.proofs.bits_in.Lts as lts
 
 abbrev Inv-loop : tie.InvT-loop
 Inv-loop recv events answers₀ from l₀ i₀ answers l i =

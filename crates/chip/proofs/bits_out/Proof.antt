@@ -12,11 +12,6 @@ use native.Mathlib.Omega.{arith}
 use borrow.Author.Needs.{needs}
 use Rattle.chip.proofs.bits_out.Statement.{statement}
 use Rattle.chip.proofs.bits_out.Tie as tie
-use Rattle.chip.proofs.bits_out.Reads as reads
-use Rattle.chip.proofs.bits_out.Lts as lts
-use Rattle.chip.proofs.goes_on.Reads as goes-on-reads
-use Rattle.chip.proofs.shown.Reads as shown-reads
-use Rattle.line.proofs.send.Reads as send-reads
 
 abbrev Inv-loop : tie.InvT-loop
 Inv-loop part target array id events answers₀ from l₀ i₀ answers l i =

@@ -8,8 +8,6 @@ use borrow.Author.Needs.{needs}
 use native.Mathlib.Omega.{arith}
 use Rattle.chip.proofs.blank.Statement.{statement}
 use Rattle.chip.proofs.blank.Tie as tie
-use Rattle.chip.proofs.blank.Reads as reads
-use Rattle.chip.proofs.blank.Lts as lts
 
 abbrev Inv-loop : tie.InvT-loop
 Inv-loop s₀ i₀ s i = (s ≡ replicate i 255 ++ drop i s₀) × (i ≤ length s₀) × (length s ≡ length s₀)

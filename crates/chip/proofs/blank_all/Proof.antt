@@ -1,13 +1,9 @@
 use Rattle.chip.specs.Delivery.{deliveredOf, deliveredIdOf}
 use lib.ListN.{length-replicate}
-use mathlib.Core.Path.{_≡_, _∙_, sym, refl}
+use mathlib.Core.Path.{_∙_}
 use borrow.Author.Needs.{needs}
 use Rattle.chip.proofs.blank_all.Statement.{statement}
 use Rattle.chip.proofs.blank_all.Tie as tie
-use Rattle.chip.proofs.blank_all.Reads as reads
-use Rattle.chip.proofs.blank_all.Lts as lts
-use Rattle.chip.proofs.blank.Reads as blank-reads
-use Rattle.chip.proofs.code.Reads as code-reads
 
 blank-requires : tie.Need-blank-requires
 blank-requires c κs = search needs

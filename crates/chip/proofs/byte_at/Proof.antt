@@ -1,9 +1,7 @@
 use denote.Ref.{now}
 use lib.ListN.{List·getD-eq-default}
 use borrow.Author.Needs.{needs}
-use Rattle.parts.proofs.Kit.{tests}
-use mathlib.Core.Path.{sym, refl}
-use borrow.Author.Tests.{not-true, not-false}
+use mathlib.Core.Path.{sym}
 use Rattle.chip.proofs.byte_at.Statement.{statement}
 use Rattle.chip.proofs.byte_at.Tie as tie
 

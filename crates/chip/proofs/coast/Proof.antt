@@ -1,15 +1,9 @@
 use denote.Ref.{now}
 use Rattle.chip.specs.Memory.{mem}
 use Rattle.parts.specs.Table.{factsOf}
-use native.Mathlib.Omega.{arith}
 use borrow.Author.Needs.{needs}
 use Rattle.chip.proofs.coast.Statement.{statement}
 use Rattle.chip.proofs.coast.Tie as tie
-use Rattle.chip.proofs.coast.Reads as reads
-use Rattle.chip.proofs.coast.Lts as lts
-use Rattle.chip.proofs.bits_in.Reads as bits-in-reads
-use Rattle.chip.proofs.bits_out.Reads as bits-out-reads
-use Rattle.chip.proofs.hold.Reads as hold-reads
 
 enum-told : tie.Need-enum-told
 enum-told c = search needs

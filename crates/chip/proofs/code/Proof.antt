@@ -6,8 +6,6 @@ use native.Mathlib.Omega.{arith}
 use borrow.Author.Needs.{needs}
 use Rattle.chip.proofs.code.Statement.{statement}
 use Rattle.chip.proofs.code.Tie as tie
-use Rattle.chip.proofs.code.Reads as reads
-use Rattle.chip.proofs.code.Lts as lts
 
 slice-write-id : tie.Need-slice-write-id
 slice-write-id c = omega (arith, coded-room (c .before .args .part) (c .if1 .taken))

@@ -2,11 +2,6 @@ use Rattle.chip.specs.Memory.{committedOf}
 use borrow.Author.Needs.{needs}
 use Rattle.chip.proofs.commit.Statement.{statement}
 use Rattle.chip.proofs.commit.Tie as tie
-use Rattle.chip.proofs.commit.Reads as reads
-use Rattle.chip.proofs.commit.Lts as lts
-use Rattle.chip.proofs.enter.Reads as enter-reads
-use Rattle.chip.proofs.page_start.Reads as page-start-reads
-use Rattle.parts.proofs.facts_of.Reads as facts-of-reads
 
 facts-of-requires : tie.Need-facts-of-requires
 facts-of-requires c κs = search needs

@@ -1,13 +1,8 @@
 use Rattle.chip.proofs.Laws.{deliver-fine}
-use mathlib.Core.Path.{_≡_, _∙_, sym, refl}
+use mathlib.Core.Path.{_∙_, sym, refl}
 use borrow.Author.Needs.{needs}
 use Rattle.chip.proofs.deliver.Statement.{statement}
 use Rattle.chip.proofs.deliver.Tie as tie
-use Rattle.chip.proofs.deliver.Reads as reads
-use Rattle.chip.proofs.deliver.Lts as lts
-use Rattle.chip.proofs.blank_all.Reads as blank-all-reads
-use Rattle.chip.proofs.deliver_verdict.Reads as deliver-verdict-reads
-use Rattle.chip.proofs.standby.Reads as standby-reads
 
 -- src/lib.rt:449:9
 deliver-verdict-requires : tie.Need-deliver-verdict-requires

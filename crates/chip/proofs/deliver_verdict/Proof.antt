@@ -2,11 +2,6 @@ use Rattle.chip.specs.Calls.{deliverVerdictOf}
 use borrow.Author.Needs.{needs}
 use Rattle.chip.proofs.deliver_verdict.Statement.{statement}
 use Rattle.chip.proofs.deliver_verdict.Tie as tie
-use Rattle.chip.proofs.deliver_verdict.Reads as reads
-use Rattle.chip.proofs.deliver_verdict.Lts as lts
-use Rattle.chip.proofs.buffers_right.Reads as buffers-right-reads
-use Rattle.parts.proofs.facts_of.Reads as facts-of-reads
-use Rattle.parts.proofs.given.Reads as given-reads
 
 facts-of-requires : tie.Need-facts-of-requires
 facts-of-requires c κs = search needs

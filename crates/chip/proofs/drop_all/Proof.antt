@@ -1,6 +1,4 @@
-use Rattle.parts.proofs.Kit.{tests}
-use mathlib.Core.Path.{sym, refl}
-use borrow.Author.Tests.{not-true, not-false}
+use mathlib.Core.Path.{refl}
 use Rattle.chip.specs.Memory.{noLatch}
 use Rattle.chip.proofs.drop_all.Statement.{statement}
 use Rattle.chip.proofs.drop_all.Tie as tie

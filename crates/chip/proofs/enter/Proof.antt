@@ -9,9 +9,6 @@ use Rattle.chip.specs.Memory.{enteredOf}
 use Rattle.chip.proofs.Laws.{enter-step, enter-end}
 use Rattle.chip.proofs.enter.Statement.{statement}
 use Rattle.chip.proofs.enter.Tie as tie
-use Rattle.chip.proofs.enter.Reads as reads
-use Rattle.chip.proofs.enter.Lts as lts
-use Rattle.chip.proofs.enter_one.Reads as enter-one-reads
 
 abbrev Inv-loop : tie.InvT-loop
 Inv-loop s₀ page latch p i₀ s i =

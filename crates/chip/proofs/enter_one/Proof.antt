@@ -6,8 +6,6 @@ use Rattle.chip.specs.Memory.{oneOf}
 use Rattle.parts.proofs.Kit.{tests}
 use Rattle.chip.proofs.enter_one.Statement.{statement}
 use Rattle.chip.proofs.enter_one.Tie as tie
-use Rattle.chip.proofs.enter_one.Reads as reads
-use Rattle.chip.proofs.enter_one.Lts as lts
 
 cast-s : tie.Need-cast-s
 cast-s c = search needs

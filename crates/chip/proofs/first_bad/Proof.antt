@@ -2,16 +2,13 @@ use denote.Ref.{now}
 use borrow.Author.Tests.{not-true, not-false}
 use Prim.Native.Nat.{_-_, _≤_}
 use mathlib.Core.Path.{_≡_, refl, sym, _∙_}
-use lib.ListN.{length, drop, getD}
+use lib.ListN.{length, drop}
 use Rattle.chip.specs.Calls.{scanOf}
 use Rattle.chip.proofs.Laws.{scan-step, scan-stop, scan-end}
 use borrow.Author.Needs.{needs}
 use native.Mathlib.Omega.{arith}
 use Rattle.chip.proofs.first_bad.Statement.{statement}
 use Rattle.chip.proofs.first_bad.Tie as tie
-use Rattle.chip.proofs.first_bad.Reads as reads
-use Rattle.chip.proofs.first_bad.Lts as lts
-use Rattle.parts.proofs.event_right.Reads as event-right-reads
 
 abbrev Inv-loop : tie.InvT-loop
 Inv-loop pin events i₀ i = (i ≤ length events) × (scanOf pin i (drop i events) ≡ scanOf pin 0 events)

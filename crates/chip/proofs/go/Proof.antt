@@ -1,10 +1,7 @@
-use mathlib.Core.Path.{_≡_, _∙_, sym, refl}
+use mathlib.Core.Path.{refl}
 use borrow.Author.Needs.{needs}
 use Rattle.chip.proofs.go.Statement.{statement}
 use Rattle.chip.proofs.go.Tie as tie
-use Rattle.chip.proofs.go.Reads as reads
-use Rattle.chip.proofs.go.Lts as lts
-use Rattle.chip.proofs.run_all.Reads as run-all-reads
 
 -- src/lib.rt:564:9
 run-all-requires : tie.Need-run-all-requires

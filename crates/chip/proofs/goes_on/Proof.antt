@@ -1,11 +1,7 @@
 use Rattle.parts.proofs.Kit.{tests}
 use Rattle.chip.specs.Onward.{goesOnOf}
-use native.Mathlib.Omega.{arith}
-use borrow.Author.Needs.{needs}
 use Rattle.chip.proofs.goes_on.Statement.{statement}
 use Rattle.chip.proofs.goes_on.Tie as tie
-use Rattle.chip.proofs.goes_on.Reads as reads
-use Rattle.chip.proofs.goes_on.Lts as lts
 
 returns : tie.Need-returns
 unfolding goesOnOf

@@ -8,9 +8,6 @@ use native.Mathlib.Omega.{arith}
 use borrow.Author.Needs.{needs}
 use Rattle.chip.proofs.highest.Statement.{statement}
 use Rattle.chip.proofs.highest.Tie as tie
-use Rattle.chip.proofs.highest.Reads as reads
-use Rattle.chip.proofs.highest.Lts as lts
-use Rattle.chip.proofs.larger.Reads as larger-reads
 
 abbrev Inv-loop : tie.InvT-loop
 Inv-loop events top₀ i₀ top i =

@@ -10,10 +10,6 @@ use native.Mathlib.Omega.{arith}
 use borrow.Author.Needs.{needs}
 use Rattle.chip.proofs.hold.Statement.{statement}
 use Rattle.chip.proofs.hold.Tie as tie
-use Rattle.chip.proofs.hold.Reads as reads
-use Rattle.chip.proofs.hold.Lts as lts
-use Rattle.chip.proofs.ignored.Reads as ignored-reads
-use Rattle.chip.proofs.ignores.Reads as ignores-reads
 
 abbrev Inv-loop : tie.InvT-loop
 Inv-loop line events answers₀ from limit i₀ answers i =

@@ -1,10 +1,6 @@
 use Rattle.parts.proofs.Kit.{tests}
-use native.Mathlib.Omega.{arith}
-use borrow.Author.Needs.{needs}
 use Rattle.chip.proofs.ignored.Statement.{statement}
 use Rattle.chip.proofs.ignored.Tie as tie
-use Rattle.chip.proofs.ignored.Reads as reads
-use Rattle.chip.proofs.ignored.Lts as lts
 
 returns : tie.Need-returns
 returns c = simp (tests, c .if1 .taken)

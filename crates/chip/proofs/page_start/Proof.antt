@@ -1,7 +1,4 @@
 use borrow.Author.Needs.{needs}
-use Rattle.parts.proofs.Kit.{tests}
-use mathlib.Core.Path.{sym, refl}
-use borrow.Author.Tests.{not-true, not-false}
 use Rattle.chip.specs.Memory.{pageStartOf}
 use Rattle.line.proofs.Laws.{page-room}
 use native.Mathlib.Omega.{arith}

@@ -1,7 +1,5 @@
 use borrow.Author.Needs.{needs}
 use Rattle.parts.proofs.Kit.{tests}
-use mathlib.Core.Path.{sym, refl}
-use borrow.Author.Tests.{not-true, not-false}
 use Rattle.chip.specs.Delivery.{pinAtFirstOf}
 use Rattle.chip.proofs.pin_at_first.Statement.{statement}
 use Rattle.chip.proofs.pin_at_first.Tie as tie

@@ -4,8 +4,6 @@ use mathlib.Core.Path.{sym}
 use lib.Seq.{set-out}
 use Rattle.chip.proofs.put.Statement.{statement}
 use Rattle.chip.proofs.put.Tie as tie
-use Rattle.chip.proofs.put.Reads as reads
-use Rattle.chip.proofs.put.Lts as lts
 
 mul-latch : tie.Need-mul-latch
 mul-latch c = search needs

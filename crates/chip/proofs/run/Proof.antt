@@ -1,12 +1,8 @@
 use Rattle.chip.proofs.Laws.{run-fine}
-use mathlib.Core.Path.{_≡_, _∙_, sym, refl}
+use mathlib.Core.Path.{_∙_, sym, refl}
 use borrow.Author.Needs.{needs}
 use Rattle.chip.proofs.run.Statement.{statement}
 use Rattle.chip.proofs.run.Tie as tie
-use Rattle.chip.proofs.run.Reads as reads
-use Rattle.chip.proofs.run.Lts as lts
-use Rattle.chip.proofs.go.Reads as go-reads
-use Rattle.chip.proofs.run_verdict.Reads as run-verdict-reads
 
 -- src/lib.rt:590:9
 run-verdict-requires : tie.Need-run-verdict-requires

@@ -2,17 +2,13 @@ use Rattle.chip.proofs.Turns.{leads-none, leads-then, gone-state, gone-
 use Rattle.chip.specs.Onward.{Leads}
 use Rattle.chip.specs.Memory.{mem, chip}
 use Rattle.parts.specs.Table.{factsOf}
-use denote.Ref.{now}
 use lib.ListN.{length}
-use mathlib.Core.Path.{_≡_, _∙_, refl}
-use Prim.Native.Nat.{_-_, _≤_, _+_}
+use mathlib.Core.Path.{_≡_, refl}
+use Prim.Native.Nat.{_-_, _≤_}
 use native.Mathlib.Omega.{arith}
 use borrow.Author.Needs.{needs}
 use Rattle.chip.proofs.run_all.Statement.{statement}
 use Rattle.chip.proofs.run_all.Tie as tie
-use Rattle.chip.proofs.run_all.Reads as reads
-use Rattle.chip.proofs.run_all.Lts as lts
-use Rattle.chip.proofs.turn.Reads as turn-reads
 
 abbrev Inv-loop : tie.InvT-loop
 Inv-loop part enable latch₀ array₀ id₀ events answers₀ at₀ cycles₀ i₀ latch array id answers at cycles i =

@@ -1,14 +1,9 @@
 use Rattle.chip.proofs.Quick.{scan-clear}
 use denote.Ref.{now}
-use mathlib.Core.Path.{sym}
 use native.Mathlib.Omega.{arith}
 use borrow.Author.Needs.{needs}
 use Rattle.chip.proofs.scanned.Statement.{statement}
 use Rattle.chip.proofs.scanned.Tie as tie
-use Rattle.chip.proofs.scanned.Reads as reads
-use Rattle.chip.proofs.scanned.Lts as lts
-use Rattle.chip.proofs.first_bad.Reads as first-bad-reads
-use Rattle.chip.proofs.highest.Reads as highest-reads
 
 highest-requires : tie.Need-highest-requires
 highest-requires c κs = search needs

@@ -1,7 +1,5 @@
 use borrow.Author.Needs.{needs}
 use Rattle.parts.proofs.Kit.{tests}
-use mathlib.Core.Path.{sym, refl}
-use borrow.Author.Tests.{not-true, not-false}
 use Rattle.chip.specs.Memory.{shownOf}
 use Rattle.chip.proofs.shown.Statement.{statement}
 use Rattle.chip.proofs.shown.Tie as tie

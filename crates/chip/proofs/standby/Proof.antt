@@ -1,8 +1,5 @@
 use Rattle.chip.specs.Memory.{noLatch}
 use borrow.Author.Needs.{needs}
-use Rattle.parts.proofs.Kit.{tests}
-use mathlib.Core.Path.{sym, refl}
-use borrow.Author.Tests.{not-true, not-false}
 use Rattle.chip.specs.Delivery.{standbyOf}
 use Rattle.chip.proofs.standby.Statement.{statement}
 use Rattle.chip.proofs.standby.Tie as tie

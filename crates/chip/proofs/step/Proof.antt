@@ -1,11 +1,7 @@
-use mathlib.Core.Path.{_≡_, _∙_, sym, refl}
+use mathlib.Core.Path.{_∙_, sym, refl}
 use borrow.Author.Needs.{needs}
 use Rattle.chip.proofs.step.Statement.{statement}
 use Rattle.chip.proofs.step.Tie as tie
-use Rattle.chip.proofs.step.Reads as reads
-use Rattle.chip.proofs.step.Lts as lts
-use Rattle.chip.proofs.step_verdict.Reads as step-verdict-reads
-use Rattle.chip.proofs.take.Reads as take-reads
 
 -- src/lib.rt:495:9
 step-verdict-requires : tie.Need-step-verdict-requires

@@ -3,12 +3,6 @@ use Rattle.line.specs.Rules.{moveOf}
 use borrow.Author.Needs.{needs}
 use Rattle.chip.proofs.stir.Statement.{statement}
 use Rattle.chip.proofs.stir.Tie as tie
-use Rattle.chip.proofs.stir.Reads as reads
-use Rattle.chip.proofs.stir.Lts as lts
-use Rattle.chip.proofs.keep.Reads as keep-reads
-use Rattle.chip.proofs.seen.Reads as seen-reads
-use Rattle.chip.proofs.store_at.Reads as store-at-reads
-use Rattle.line.proofs.advance.Reads as advance-reads
 
 seen-requires : tie.Need-seen-requires
 seen-requires c κs = search needs

@@ -2,9 +2,6 @@ use Rattle.chip.specs.Memory.{storedOf}
 use borrow.Author.Needs.{needs}
 use Rattle.chip.proofs.store.Statement.{statement}
 use Rattle.chip.proofs.store.Tie as tie
-use Rattle.chip.proofs.store.Reads as reads
-use Rattle.chip.proofs.store.Lts as lts
-use Rattle.chip.proofs.store_cycle.Reads as store-cycle-reads
 
 enum-told : tie.Need-enum-told
 enum-told c = search needs

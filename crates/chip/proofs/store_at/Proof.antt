@@ -2,10 +2,6 @@ use Rattle.chip.specs.Memory.{storeOf}
 use borrow.Author.Needs.{needs}
 use Rattle.chip.proofs.store_at.Statement.{statement}
 use Rattle.chip.proofs.store_at.Tie as tie
-use Rattle.chip.proofs.store_at.Reads as reads
-use Rattle.chip.proofs.store_at.Lts as lts
-use Rattle.chip.proofs.is_end.Reads as is-end-reads
-use Rattle.chip.proofs.store.Reads as store-reads
 
 is-end-requires : tie.Need-is-end-requires
 is-end-requires c κs = search needs

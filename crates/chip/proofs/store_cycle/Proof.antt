@@ -2,9 +2,6 @@ use Rattle.chip.specs.Memory.{cycleStoredOf}
 use borrow.Author.Needs.{needs}
 use Rattle.chip.proofs.store_cycle.Statement.{statement}
 use Rattle.chip.proofs.store_cycle.Tie as tie
-use Rattle.chip.proofs.store_cycle.Reads as reads
-use Rattle.chip.proofs.store_cycle.Lts as lts
-use Rattle.chip.proofs.commit.Reads as commit-reads
 
 enum-known-cycle : tie.Need-enum-known-cycle
 enum-known-cycle c = search needs

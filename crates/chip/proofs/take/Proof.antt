@@ -3,10 +3,6 @@ use Rattle.chip.proofs.Turns.{stepped}
 use borrow.Author.Needs.{needs}
 use Rattle.chip.proofs.take.Statement.{statement}
 use Rattle.chip.proofs.take.Tie as tie
-use Rattle.chip.proofs.take.Reads as reads
-use Rattle.chip.proofs.take.Lts as lts
-use Rattle.chip.proofs.stir.Reads as stir-reads
-use Rattle.parts.proofs.event_of.Reads as event-of-reads
 
 -- src/lib.rt:475:9
 event-of-requires : tie.Need-event-of-requires

@@ -7,17 +7,11 @@ use Rattle.parts.specs.Events.{eventOf}
 use Rattle.parts.specs.Table.{factsOf}
 use lib.ListN.{length, getD}
 use denote.Ref.{now}
-use mathlib.Core.Path.{_≡_, _∙_, sym, ap, refl}
-use Prim.Native.Nat.{_+_, _<_, _≤_}
+use mathlib.Core.Path.{_∙_, ap, refl}
 use native.Mathlib.Omega.{arith}
 use borrow.Author.Needs.{needs}
 use Rattle.chip.proofs.turn.Statement.{statement}
 use Rattle.chip.proofs.turn.Tie as tie
-use Rattle.chip.proofs.turn.Reads as reads
-use Rattle.chip.proofs.turn.Lts as lts
-use Rattle.chip.proofs.coast.Reads as coast-reads
-use Rattle.chip.proofs.stir.Reads as stir-reads
-use Rattle.parts.proofs.event_of.Reads as event-of-reads
 
 coast-requires : tie.Need-coast-requires
 coast-requires c κs = search needs

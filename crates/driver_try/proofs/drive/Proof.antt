@@ -1,18 +1,9 @@
 use Prim.Native.Nat.{_≤_, _-_}
 use mathlib.Core.Path.{_≡_}
 use lib.ListN.{length}
-use native.Mathlib.Omega.{arith}
 use borrow.Author.Needs.{needs}
 use Rattle.driver_try.proofs.drive.Statement.{statement}
 use Rattle.driver_try.proofs.drive.Tie as tie
-use Rattle.driver_try.proofs.drive.Reads as reads
-use Rattle.driver_try.proofs.drive.Lts as lts
-use Rattle.driver.proofs.begin.Reads as begin-reads
-use Rattle.driver.proofs.next.Reads as next-reads
-use Rattle.driver_try.proofs.clock.Reads as clock-reads
-use Rattle.driver_try.proofs.ended.Reads as ended-reads
-use Rattle.driver_try.proofs.is_event.Reads as is-event-reads
-use Rattle.driver_try.proofs.level_at.Reads as level-at-reads
 
 abbrev Inv-loop : tie.InvT-loop
 Inv-loop low buffer₀ d₀ events₀ clocks₀ buffer d events clocks = (clocks ≤ events) × (events ≤ 60000) × (length buffer ≡ length buffer₀)

@@ -3,12 +3,6 @@ use lib.ListN.{length-take}
 use borrow.Author.Needs.{needs}
 use Rattle.driver_try.proofs.run.Statement.{statement}
 use Rattle.driver_try.proofs.run.Tie as tie
-use Rattle.driver_try.proofs.run.Reads as reads
-use Rattle.driver_try.proofs.run.Lts as lts
-use Rattle.driver_try.proofs.drive.Reads as drive-reads
-use Rattle.driver_try.proofs.say_first.Reads as say-first-reads
-use Rattle.driver_try.proofs.say_tally.Reads as say-tally-reads
-use Rattle.io.proofs.write_all.Reads as write-all-reads
 
 write-all-requires : tie.Need-write-all-requires
 write-all-requires c κs = search needs

@@ -3,14 +3,6 @@ use lib.ListN.{length-take}
 use borrow.Author.Needs.{needs}
 use Rattle.driver_try.proofs.step.Statement.{statement}
 use Rattle.driver_try.proofs.step.Tie as tie
-use Rattle.driver_try.proofs.step.Reads as reads
-use Rattle.driver_try.proofs.step.Lts as lts
-use Rattle.driver.proofs.next.Reads as next-reads
-use Rattle.driver_try.proofs.ended.Reads as ended-reads
-use Rattle.driver_try.proofs.say.Reads as say-reads
-use Rattle.driver_try.proofs.say_first.Reads as say-first-reads
-use Rattle.driver_try.proofs.wide.Reads as wide-reads
-use Rattle.io.proofs.write_all.Reads as write-all-reads
 
 write-all-requires : tie.Need-write-all-requires
 write-all-requires c κs = search needs

@@ -7,8 +7,6 @@ use Rattle.state.specs.Range.{emptyOf}
 use Rattle.state.proofs.Laws.{empty-step, empty-stop, empty-end}
 use Rattle.state.proofs.empty_from.Statement.{statement}
 use Rattle.state.proofs.empty_from.Tie as tie
-use Rattle.state.proofs.empty_from.Reads as reads
-use Rattle.state.proofs.empty_from.Lts as lts
 
 abbrev Inv-loop : tie.InvT-loop
 Inv-loop from latch i₀ i = (i ≤ 64) × (emptyOf (drop i latch) ≡ emptyOf (drop from latch))
