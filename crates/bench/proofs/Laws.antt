@@ -431,7 +431,7 @@ module _ (r : Request) (enable d : ℕ) (c : Chip) (n i b : ℕ) where
       judged (not (factsOf (r .part) .known)) (enableRightOf (factsOf (r .part)) (r .enable)) _ _ _ _ (beyondAt (fromOf (r .place)) (r .length) (roomOf (factsOf (r .part)) (r .place)) (thereOf (factsOf (r .part)) (r .place))) (limitOf (r .reads) (r .budget)) d
 
   pub judge-by : (f : Facts) (en lent ranged : Bool) (v : Verdict) (own : ℕ) (wrong scant limit : Bool) → f ≡ factsOf (r .part)
-      → en ≡ cond (enableRightOf f (r .enable)) (not (enableRightOf f enable)) true → lent ≡ buffersRightOf (factsOf (r .part)) n i → ranged ≡ inRangeOf (factsOf (r .part)) c
+      → en ≡ cond (enableRightOf f (r .enable)) (not (enableRightOf f enable)) true → lent ≡ buffersRightOf f n i → ranged ≡ inRangeOf (factsOf (r .part)) c
       → v ≡ judgeOf r → own ≡ numberBy v → wrong ≡ tooUnfit ranged (r .reads) (r .length) b → scant ≡ shortOf (r .reads) (r .length) b
       → limit ≡ limitedOf (eqb own 8) d
       → givenOf record { part = not (f .known); enable = en; buffer = not lent; state = wrong; many = false; event = false; place = 0; short = scant; beyond = eqb own 7; limit = limit; image = false }
