@@ -50,6 +50,9 @@ use Rattle.demands.specs.Ground.{Bytes}
 use Rattle.demands.proofs.Hears.{Free, Deaf, After, bit-heard, ninth-heard, deaf-heard, sent-heard, end-heard, start-free, start-busy, stop-idle, stop-busy, stop-none, stop-begins, end-free, end-busy}
 use Rattle.demands.proofs.Wrote.{wrote, less-or-same, commit-none, commit-more, roll-next, cells-with, with-with}
 use Rattle.demands.proofs.Codes.{decode-hit, asks-none, first-wide, first-narrow, Placed, room-most, load-is, shown-is, moved-last, moved-later, register-step, inside-page}
+use Rattle.line.specs.declared.Heard.{Heard as Named}
+use Rattle.line.specs.declared.Phase.{Phase as ChipPhase}
+use Rattle.line.specs.declared.After.{After as Outcome}
 use Rattle.demands.proofs.Rel.{Taking, refusing, Given, F, T, from, W, there, selectB, highB, lowB, Heading, Lower, Filling, Filled, Dropped, Running, Settled, Pending, Polled, Reading, Read, InBits, InHeard, At, Buffer, Rel}
 
 -- what is wanted of a start: bytes are bytes

@@ -47,6 +47,8 @@ use Rattle.demands.proofs.Rel.{refusing, Given, F, T, selectB, Pending,
 use Rattle.demands.proofs.Keep.{Sane, Same, After′, k-poll, k-polled, k-deaf, k-select, select-lt, no-nack}
 use Rattle.demands.proofs.Whole.{Holds, Stepped, stepped, asked-elim, asked-holds, ended-holds, G, sane, start-holds}
 use Rattle.demands.proofs.Cycles.{Cyc}
+use Rattle.line.specs.declared.Recv.the-variants.{Select as SelectByte}
+use Rattle.line.specs.declared.Phase.{Phase as ChipPhase}
 use Rattle.demands.proofs.Stored.{spoken, over-is, all-done, cycles-now, finished}
 
 -- the last poll allowed for a page is heard, and then acknowledged

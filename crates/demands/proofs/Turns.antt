@@ -51,6 +51,7 @@ use Rattle.demands.proofs.Wrote.{less-or-same}
 use Rattle.demands.proofs.Rel.{Given, F, selectB, Pending, InBits, InHeard, Rel}
 use Rattle.demands.proofs.Keep.{Sane, Same, After′, k-poll, k-polled, k-deaf, k-select, select-lt}
 use Rattle.demands.proofs.Whole.{Holds, Stepped, stepped, asked-elim, asked-holds, ended-holds, G, sane, start-holds}
+use Rattle.line.specs.declared.Phase.{Phase as ChipPhase}
 use Rattle.demands.proofs.Live.{write-ends}
 
 -- ---- a run with d as choices

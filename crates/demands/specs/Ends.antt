@@ -26,6 +26,7 @@ use Rattle.driver_laws.specs.Run.{boundOf}
 use Rattle.driver_laws.specs.Promises.{Accepted}
 use Rattle.bench.specs.Together.{System, startOf, askedOf, endedOf, pollNext, enough}
 use Rattle.demands.specs.Ground.{targetOf}
+use Rattle.line.specs.declared.Target.the-variants.{Ident as TheIdent}
 use Rattle.demands.specs.Together.{Runs, Begins, answerOf, askings, from}
 
 -- "its pin not high"; and a locked identification page cannot be written
