@@ -5,6 +5,7 @@ use mathlib.Core.Path.{refl}
 use Rattle.determined.specs.Functions.{
   FactsOfDetermined,
   IdSizeDetermined,
+  BuffersRightDetermined,
   AddressBytesDetermined,
   EnableRightDetermined,
   EventOfDetermined,
@@ -29,6 +30,7 @@ use Rattle.determined.specs.Functions.{
   JudgeDetermined,
   BeginDetermined,
   NextDetermined,
+  BenchRecordDetermined,
   BenchRunDetermined,
   DriverPackDetermined,
   DriverUnpackDetermined,
@@ -40,6 +42,9 @@ facts-of-determined = record { taken = λ κs a. tt; equal = λ κs a x y p q. s
 
 pub id-size-determined : IdSizeDetermined
 id-size-determined = plainly (λ κs a u v. refl)
+
+pub buffers-right-determined : BuffersRightDetermined
+buffers-right-determined = plainly (λ κs a u v. refl)
 
 pub address-bytes-determined : AddressBytesDetermined
 address-bytes-determined = plainly (λ κs a u v. refl)
@@ -121,7 +126,7 @@ load-determined = record {
 pub letters-determined : LettersDetermined
 letters-determined = record {
   taken = λ κs a. tt;
-  equal = λ κs a x y p q. (agree p q, refl);
+  equal = λ κs a x y p q. (λ i. record { bytes = agree (p .0) (q .0) i; place = agree (p .1) (q .1) i }, refl);
 }
 
 pub code-of-determined : CodeOfDetermined
@@ -147,11 +152,18 @@ next-determined = record {
       (λ i. (tt, (tt, (agree (p .1) (q .1) i, tt))));
 }
 
+pub bench-record-determined : BenchRecordDetermined
+bench-record-determined = record {
+  taken = λ κs a. tt;
+  equal = λ κs a x y p q. same (λ i. record { report = agree (p .0) (q .0) i; sent = agree (p .1 .1 .1 .0) (q .1 .1 .1 .0) i })
+      (λ i. (tt, (tt, (tt, (tt, (agree (p .1 .0) (q .1 .0) i .cells, (agree (p .1 .0) (q .1 .0) i .ident, (agree (p .1 .1 .0) (q .1 .1 .0) i, (agree (p .1 .1 .1 .1 .0) (q .1 .1 .1 .1 .0) i, (agree (p .1 .1 .1 .1 .1) (q .1 .1 .1 .1 .1) i, tt))))))))));
+}
+
 pub bench-run-determined : BenchRunDetermined
 bench-run-determined = record {
   taken = λ κs a. tt;
   equal = λ κs a x y p q. same (agree (p .0) (q .0))
-      (λ i. (tt, (tt, (tt, (agree (p .1 .0) (q .1 .0) i .cells, (agree (p .1 .0) (q .1 .0) i .ident, (agree (p .1 .1) (q .1 .1) i, tt)))))));
+      (λ i. (tt, (tt, (tt, (tt, (agree (p .1 .0) (q .1 .0) i .cells, (agree (p .1 .0) (q .1 .0) i .ident, (agree (p .1 .1) (q .1 .1) i, tt))))))));
 }
 
 pub driver-pack-determined : DriverPackDetermined

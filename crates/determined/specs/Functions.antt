@@ -3,6 +3,7 @@
 -- Assumes nothing.
 use Rattle.parts.proofs.facts_of as facts-of
 use Rattle.parts.proofs.id_size as id-size
+use Rattle.parts.proofs.buffers_right as buffers-right
 use Rattle.parts.proofs.address_bytes as address-bytes
 use Rattle.parts.proofs.enable_right as enable-right
 use Rattle.parts.proofs.event_of as event-of
@@ -27,6 +28,7 @@ use Rattle.trace.proofs.trace as trace
 use Rattle.driver.proofs.judge as judge
 use Rattle.driver.proofs.begin as begin
 use Rattle.driver.proofs.next as next
+use Rattle.bench.proofs.record as bench-record
 use Rattle.bench.proofs.run as bench-run
 use Rattle.pack_driver.proofs.pack as driver-pack
 use Rattle.pack_driver.proofs.unpack as driver-unpack
@@ -39,6 +41,9 @@ FactsOfDetermined = Determined facts-of.ended facts-of.Reads.Asked facts-of.Read
 
 abbrev pub IdSizeDetermined : Type 0
 IdSizeDetermined = Determined id-size.ended id-size.Reads.Asked id-size.Reads.Learnt
+
+abbrev pub BuffersRightDetermined : Type 0
+BuffersRightDetermined = Determined buffers-right.ended buffers-right.Reads.Asked buffers-right.Reads.Learnt
 
 abbrev pub AddressBytesDetermined : Type 0
 AddressBytesDetermined = Determined address-bytes.ended address-bytes.Reads.Asked address-bytes.Reads.Learnt
@@ -109,7 +114,7 @@ LoadDetermined = Determined load.ended load.Reads.Asked load.Reads.Learnt
 
 -- its bytes: no rule asks where they lie
 abbrev pub LettersDetermined : Type 0
-LettersDetermined = DeterminedAs letters.ended (λ κs r. part r .bytes) letters.Reads.Asked letters.Reads.Learnt
+LettersDetermined = DeterminedAs letters.ended (λ κs r. part r) letters.Reads.Asked letters.Reads.Learnt
 
 abbrev pub CodeOfDetermined : Type 0
 CodeOfDetermined = Determined code-of.ended code-of.Reads.Asked code-of.Reads.Learnt
@@ -129,6 +134,9 @@ abbrev pub NextDetermined : Type 0
 NextDetermined = Determined next.ended next.Reads.Asked next.Reads.Learnt
 
 -- ---- bench
+
+abbrev pub BenchRecordDetermined : Type 0
+BenchRecordDetermined = Determined bench-record.ended bench-record.Reads.Asked bench-record.Reads.Learnt
 
 abbrev pub BenchRunDetermined : Type 0
 BenchRunDetermined = Determined bench-run.ended bench-run.Reads.Asked bench-run.Reads.Learnt
