@@ -25,7 +25,7 @@ use Rattle.bench.specs.Calls.{benchVerdictOf}
 use Rattle.demands.specs.Ground.{Bytes}
 use Rattle.demands.specs.Ends.{Writable}
 use Rattle.demands.specs.Calls.{Bench, ours, Called, BenchPromises}
-use Rattle.demands.specs.Idle.{refusing, boasting, forgetting, blind, inventing, untold, IdleBreak}
+use Rattle.demands.specs.Idle.{refusing, boasting, forgetting, blind, low, inventing, untold, IdleBreak}
 use Rattle.demands.proofs.Calls.{bench-promises}
 
 -- one byte at 0 of part 0, budget 1: a write or a read
@@ -95,6 +95,7 @@ idle-break =
       boasting = λ p. (let e = stored boasting p in omega arith);
       forgetting = λ p. (let e = stored forgetting p in omega arith);
       blind = λ p. (let e = read blind p in omega arith);
+      low = λ p. (let e = read low p in omega arith);
       inventing = λ p.
           (let a = p .ends (one false) 1 chip₀ mem₀ byte (called false) refl free (omega arith) .cycles in
           let b = bench-promises .ends (one false) 1 chip₀ mem₀ byte (called false) refl free (omega arith) .cycles in

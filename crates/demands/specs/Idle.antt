@@ -2,6 +2,7 @@
 -- Assumes nothing.
 use Prim.Native.Nat.{_+_}
 use mathlib.Core.List.{[]}
+use lib.ListN.{length, replicate}
 use Rattle.parts.specs.declared.Refusal.the-variants.{NoSelect}
 use Rattle.parts.specs.declared.Verdict.the-variants.{Fine, Refused as Judged}
 use Rattle.bench.specs.declared.Report.{Report}
@@ -37,6 +38,10 @@ forgetting = record { report = ours .report; memory = λ r en d c m ys. m; buffe
 abbrev pub blind : Bench
 blind = record { report = ours .report; memory = ours .memory; buffer = λ r en d c m ys. ys; events = ours .events; levels = ours .levels }
 
+-- what ours would read on a line that is always low: every bit is 0. On one that is always high no select is acknowledged (refusing)
+abbrev pub low : Bench
+low = record { report = ours .report; memory = ours .memory; buffer = λ r en d c m ys. replicate (length ys) 0; events = ours .events; levels = ours .levels }
+
 -- ours, but it counts a cycle that was not begun
 abbrev pub oneMore : Report → Report
 oneMore p = record { verdict = p .verdict; polls = p .polls; bytes = p .bytes; cycles = p .cycles + 1; clocks = p .clocks; chip = p .chip }
@@ -53,5 +58,6 @@ pub record IdleBreak : Type 0 where
   pub boasting : BenchPromises boasting → ⊥
   pub forgetting : BenchPromises forgetting → ⊥
   pub blind : BenchPromises blind → ⊥
+  pub low : BenchPromises low → ⊥
   pub inventing : BenchPromises inventing → ⊥
   pub untold : BenchPromises untold → ⊥
