@@ -1,8 +1,8 @@
 use Rattle.parts.proofs.Kit.{tests}
 use Rattle.chip.specs.Calls.{buffersRightOf}
 use borrow.Author.Needs.{needs}
-use Rattle.sapwoodle.proofs.lent_right.Statement.{statement}
-use Rattle.sapwoodle.proofs.lent_right.Tie as tie
+use Rattle.lent_chip.proofs.lent_right.Statement.{statement}
+use Rattle.lent_chip.proofs.lent_right.Tie as tie
 
 facts-of-requires : tie.Need-facts-of-requires
 facts-of-requires c κs = search needs

@@ -1,7 +1,7 @@
 use mathlib.Core.Path.{refl}
 use borrow.Author.Needs.{needs}
-use Rattle.sapwoodle.proofs.sapwoodle_step.Statement.{statement}
-use Rattle.sapwoodle.proofs.sapwoodle_step.Tie as tie
+use Rattle.lent_chip.proofs.step.Statement.{statement}
+use Rattle.lent_chip.proofs.step.Tie as tie
 
 unpack-requires : tie.Need-unpack-requires
 unpack-requires c κs = search needs
@@ -31,8 +31,8 @@ returns c =
     let k = c .before .before .settle .ensures in
     (rw (k .0, s .0, u) refl, (rw (k .1, s .0, u) refl, (rw (s .1 .0, u) refl, (rw (s .1 .1, u) refl, (rw (s .0, u) refl, rw (s .0, u) refl)))))
 
-pub sapwoodle-step-spec : {M : Type 1} → statement M
-sapwoodle-step-spec =
+pub step-spec : {M : Type 1} → statement M
+step-spec =
     tie.close
     (tie.spec
     unpack-requires

@@ -1,7 +1,7 @@
 use mathlib.Core.Path.{refl}
 use borrow.Author.Needs.{needs}
-use Rattle.sapwoodle.proofs.sapwoodle_run.Statement.{statement}
-use Rattle.sapwoodle.proofs.sapwoodle_run.Tie as tie
+use Rattle.lent_chip.proofs.run.Statement.{statement}
+use Rattle.lent_chip.proofs.run.Tie as tie
 
 unpack-requires : tie.Need-unpack-requires
 unpack-requires c κs = search needs
@@ -34,8 +34,8 @@ returns c =
     let k = c .before .before .settle .ensures in
     (rw (k .0, s .0, u) refl, (rw (k .1, s .0, u) refl, (rw (s .1 .0, u) refl, (rw (s .1 .1, u) refl, (rw (s .0, u) refl, rw (c .before .before .before .before .place .ensures, s .0, u) refl)))))
 
-pub sapwoodle-run-spec : {M : Type 1} → statement M
-sapwoodle-run-spec =
+pub run-spec : {M : Type 1} → statement M
+run-spec =
     tie.close
     (tie.spec
     unpack-requires

@@ -55,6 +55,28 @@ unheldOf part enable m =
     givenOf
     record { part = not (factsOf part .known); enable = not (enableRightOf (factsOf part) enable); buffer = not (buffersRightOf (factsOf part) (length (m .cells)) (length (m .ident))); state = true; many = false; event = false; place = 0; short = false; beyond = false; limit = false; image = false }
 
+-- ---- what a call answers, and each lent byte after it: of the part, the enable, the state's bytes, what is stored, and the rest
+
+pub record AfterStep : Type 0 where
+  pub number : ℕ
+  pub level : ℕ
+  pub cycles : ℕ
+  pub state : List ℕ
+  pub stored : Mem
+
+pub record AfterRun : Type 0 where
+  pub number : ℕ
+  pub cycles : ℕ
+  pub place : ℕ
+  pub state : List ℕ
+  pub stored : Mem
+  pub answers : List ℕ
+
+pub record AfterDeliver : Type 0 where
+  pub number : ℕ
+  pub state : List ℕ
+  pub stored : Mem
+
 -- ---- one event
 
 abbrev pub stepVerdict : ℕ → ℕ → List ℕ → Mem → ℕ → Verdict
@@ -63,8 +85,15 @@ stepVerdict part enable s m e = stepVerdictOf part enable (unpackedOf s) (length
 abbrev pub steppedOf : ℕ → ℕ → List ℕ → Mem → ℕ → Stepped
 steppedOf part enable s m e = stepBy (factsOf part) enable (unpackedOf s) m e (stepVerdict part enable s m e)
 
-abbrev pub stepStored : ℕ → ℕ → List ℕ → Mem → ℕ → Mem
-stepStored part enable s m e = stepMem (factsOf part) (unpackedOf s) m e (stepVerdict part enable s m e)
+abbrev pub stepping : ℕ → ℕ → List ℕ → Mem → ℕ → AfterStep
+stepping part enable s m e =
+    record {
+      number = answerOf (steppedOf part enable s m e .verdict);
+      level = steppedOf part enable s m e .level;
+      cycles = steppedOf part enable s m e .cycles;
+      state = keptOf (steppedOf part enable s m e .verdict) (steppedOf part enable s m e .chip) s;
+      stored = stepMem (factsOf part) (unpackedOf s) m e (stepVerdict part enable s m e);
+    }
 
 -- ---- a list of events
 
@@ -74,11 +103,16 @@ runVerdict part enable s m es a = runVerdictOf part enable (unpackedOf s) (lengt
 abbrev pub ranOf : ℕ → ℕ → List ℕ → Mem → List ℕ → List ℕ → Ran
 ranOf part enable s m es a = runBy (factsOf part) enable (unpackedOf s) es (runVerdict part enable s m es a)
 
-abbrev pub runStored : ℕ → ℕ → List ℕ → Mem → List ℕ → List ℕ → Mem
-runStored part enable s m es a = runMem (factsOf part) enable (unpackedOf s) m es (runVerdict part enable s m es a)
-
-abbrev pub runLevels : ℕ → ℕ → List ℕ → Mem → List ℕ → List ℕ → List ℕ
-runLevels part enable s m es a = runAnswers (factsOf part) enable (unpackedOf s) m es a (runVerdict part enable s m es a)
+abbrev pub running : ℕ → ℕ → List ℕ → Mem → List ℕ → List ℕ → AfterRun
+running part enable s m es a =
+    record {
+      number = answerOf (ranOf part enable s m es a .verdict);
+      cycles = ranOf part enable s m es a .cycles;
+      place = placeOf (ranOf part enable s m es a .verdict);
+      state = keptOf (ranOf part enable s m es a .verdict) (ranOf part enable s m es a .chip) s;
+      stored = runMem (factsOf part) enable (unpackedOf s) m es (runVerdict part enable s m es a);
+      answers = runAnswers (factsOf part) enable (unpackedOf s) m es a (runVerdict part enable s m es a);
+    }
 
 -- ---- delivery
 
@@ -87,8 +121,10 @@ unfoldable pub deliverVerdict : ℕ → List ℕ → Mem → Verdict
 deliverVerdict part s m =
     cond (eqb (length s) packedLength) (deliverVerdictOf part (length (m .cells)) (length (m .ident))) (unheldOf part 0 m)
 
-abbrev pub deliverState : ℕ → List ℕ → Mem → List ℕ
-deliverState part s m = keptOf (deliverVerdict part s m) (standbyOf (factsOf part) false) s
-
-abbrev pub deliverStored : ℕ → List ℕ → Mem → Mem
-deliverStored part s m = deliverMem part m (deliverVerdict part s m)
+abbrev pub delivering : ℕ → List ℕ → Mem → AfterDeliver
+delivering part s m =
+    record {
+      number = answerOf (deliverVerdict part s m);
+      state = keptOf (deliverVerdict part s m) (standbyOf (factsOf part) false) s;
+      stored = deliverMem part m (deliverVerdict part s m);
+    }

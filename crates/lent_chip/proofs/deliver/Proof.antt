@@ -1,12 +1,12 @@
 use mathlib.Core.Path.{refl, sym, ap}
 use Rattle.chip.specs.Memory.{Mem, mem}
 use denote.Ref.{now}
-use Rattle.sapwoodle.specs.Chips.{deliverVerdict}
-use Rattle.sapwoodle.proofs.Laws.{unheld-refused, delivers-nothing}
+use Rattle.lent_chip.specs.Chips.{deliverVerdict}
+use Rattle.lent_chip.proofs.Laws.{unheld-refused, delivers-nothing}
 use borrow.Author.Tests.{eq-eqb, ne-eqb}
 use borrow.Author.Needs.{needs}
-use Rattle.sapwoodle.proofs.sapwoodle_deliver.Statement.{statement}
-use Rattle.sapwoodle.proofs.sapwoodle_deliver.Tie as tie
+use Rattle.lent_chip.proofs.deliver.Statement.{statement}
+use Rattle.lent_chip.proofs.deliver.Tie as tie
 
 unheld-requires : tie.Need-unheld-requires
 unheld-requires c κs = search needs
@@ -60,8 +60,8 @@ returns-2 c =
     let k = c .before .before .settle2 .ensures in
     (rw (w, k .0, d .0) refl, (rw (w, k .1, d .0) refl, (rw (w, d .1 .0) refl, rw (w, d .1 .1) refl)))
 
-pub sapwoodle-deliver-spec : {M : Type 1} → statement M
-sapwoodle-deliver-spec =
+pub deliver-spec : {M : Type 1} → statement M
+deliver-spec =
     tie.close
     (tie.spec
     unheld-requires

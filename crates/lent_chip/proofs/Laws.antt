@@ -8,7 +8,7 @@ use Rattle.parts.specs.declared.Verdict.the-variants.{Fine, Refused}
 use Rattle.parts.proofs.Laws.{faultless}
 use Rattle.chip.specs.Memory.{Mem}
 use Rattle.chip.specs.Calls.{deliverMem}
-use Rattle.sapwoodle.specs.Chips.{unheldOf}
+use Rattle.lent_chip.specs.Chips.{unheldOf}
 
 -- where no state is held, the call is refused
 pub unheld-refused : (part enable : ℕ) (m : Mem) → unheldOf part enable m ≡ Fine → ⊥
