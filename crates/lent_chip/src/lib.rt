@@ -1,8 +1,6 @@
 // The chip for callers that hold numbers and bytes only: a state is lent as bytes, and further results are stored where asked.
 ghost use mathlib.Core.Path.{_≡_};
-ghost use Rattle.parts.specs.Table.{factsOf};
 ghost use Rattle.chip.specs.Memory.{mem};
-ghost use Rattle.chip.specs.Calls.{buffersRightOf};
 ghost use Rattle.lent_chip.specs.Chips.{
   answerOf,
   badPlaceOf,
@@ -49,6 +47,16 @@ fn place(verdict: Verdict) -> usize
     }
 }
 
+// 0, or the number of the refusal.
+pub fn number(verdict: Verdict) -> u8
+    ensures { λ r. ⌜ r ≡ answerOf verdict ⌝ }
+{
+    match verdict {
+        Verdict::Fine => 0,
+        Verdict::Refused(r) => parts::number(r),
+    }
+}
+
 // The number of a verdict. Where nothing is refused, the state is packed.
 pub fn settle(verdict: Verdict, chip: Chip, state: &mut [u8]) -> u8
     ensures answer { λ r. ⌜ r ≡ answerOf verdict ⌝ }
@@ -63,18 +71,6 @@ pub fn settle(verdict: Verdict, chip: Chip, state: &mut [u8]) -> u8
     }
 }
 
-fn lent_right(part: u8, n: usize, d: usize) -> bool
-    ensures { λ r. ⌜ r ≡ buffersRightOf (factsOf part) n d ⌝ }
-{
-    let f = parts::facts_of(part);
-    let size = f.size;
-    let own = parts::id_size(f);
-    if n == size {
-        return d == own;
-    }
-    false
-}
-
 // Which refusal a call is given whose state buffer has another length.
 pub fn unheld(part: u8, enable: u8, array: &[u8], id: &[u8]) -> Verdict
     ensures { λ r. ⌜ r ≡ unheldOf part enable (mem (now (array .entry)) (now (id .entry))) ⌝ }
@@ -82,7 +78,7 @@ pub fn unheld(part: u8, enable: u8, array: &[u8], id: &[u8]) -> Verdict
     let f = parts::facts_of(part);
     let known = f.known;
     let enabled = parts::enable_right(f, enable);
-    let lent = lent_right(part, array.len(), id.len());
+    let lent = parts::buffers_right(f, array.len(), id.len());
     parts::given(Faults {
         part: !known,
         enable: !enabled,
