@@ -143,7 +143,7 @@ pub fn begin(
 
 // ---- next
 
-fn told(answer: Answer) -> Told
+fn spoken(answer: Answer) -> Told
     ensures { λ r. ⌜ r ≡ toldOf answer ⌝ }
 {
     match answer {
@@ -197,7 +197,7 @@ pub fn next(
     let asked = driver::next(held, level, buffer);
     let answer = asked.answer;
     let moved = asked.driver;
-    let t = told(answer);
+    let t = spoken(answer);
     *event = t.event;
     *polls = t.polls;
     *bytes = t.bytes;
