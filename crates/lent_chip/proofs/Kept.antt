@@ -13,14 +13,14 @@ use Rattle.parts.specs.declared.Refusal.{Refusal}
 use Rattle.parts.specs.declared.Refusal.the-variants.{NoPart, WrongEnable, WrongBuffer, BadState, BadEvent, ShortBuffer, Beyond, BadLimit, NoSelect, NoData, PollsUsed, BadImage, TooMany}
 use Rattle.parts.specs.declared.Verdict.{Verdict}
 use Rattle.parts.specs.declared.Verdict.the-variants.{Fine, Refused}
-use Rattle.parts.specs.Table.{factsOf, idSizeOf, enableRightOf}
+use Rattle.parts.specs.Table.{factsOf, idSizeOf, buffersRightOf, enableRightOf}
 use Rattle.parts.specs.Refusals.{numberOf, givenOf}
 use Rattle.parts.proofs.Laws.{branch}
 use Rattle.state.specs.declared.Chip.{Chip}
 use Rattle.state.specs.Range.{inRangeOf}
 use Rattle.chip.specs.Memory.{Mem, noLatch}
 use Rattle.chip.specs.Delivery.{standbyOf}
-use Rattle.chip.specs.Calls.{buffersRightOf, deliverMem, stepVerdictOf, stepBy, stepMem, runVerdictOf, runBy, runMem, runAnswers}
+use Rattle.chip.specs.Calls.{deliverMem, stepVerdictOf, stepBy, stepMem, runVerdictOf, runBy, runMem, runAnswers}
 use Rattle.pack_chip.specs.Layout.{packedLength, packedOf, packInto, unpackedOf}
 use Rattle.pack_chip.specs.Promises.{AllBelow, Fits}
 use Rattle.pack_chip.proofs.Laws.{holds-long}

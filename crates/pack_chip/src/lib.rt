@@ -310,7 +310,8 @@ fn codes_right(pin: u8, inhibited: u8, locked: u8, code: u8, high: u8) -> bool
     phase_right(code, high)
 }
 
-fn holds(bytes: &[u8]) -> bool
+// Whether the bytes hold a state: their length, and every code one that there is.
+pub fn holds(bytes: &[u8]) -> bool
     ensures { λ r. ⌜ r ≡ holdsOf (now (bytes .entry)) ⌝ }
 {
     if bytes.len() != 137 {
