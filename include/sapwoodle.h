@@ -109,6 +109,94 @@ unsigned char sapwoodle_run(unsigned char part, unsigned char enable,
     unsigned char *answers, unsigned long answers_length,
     unsigned long *cycles, unsigned long *place);
 
+/* ---- the image: what a chip stores and its lock as one string of bytes
+ *
+ *     0  'E' 'P' 'R'     3  00h 01h     5  part     6  lock, 0 or 1     7  the array, then the identification page */
+#define SAPWOODLE_IMAGE_MOST (7 + SAPWOODLE_ARRAY_MOST + SAPWOODLE_ID_MOST)
+
+/* The bytes as they stand, without what is latched or under way. `written` gets the length of the image, of a refused call 0; further
+ * bytes of `out` keep their values. Refused with 1, 3, 4, 6. */
+unsigned char sapwoodle_save(unsigned char part,
+    const unsigned char *state, unsigned long state_length,
+    const unsigned char *array, unsigned long array_length,
+    const unsigned char *id, unsigned long id_length,
+    unsigned char *out, unsigned long out_length,
+    unsigned long *written);
+
+/* A chip in standby as after reset, its pin floating. `part` gets the image's part byte, refused or not; 0 where it has none.
+ * Refused with 1, 2, 3, 4, 12; an image too short to hold its part byte is 12 at once. */
+unsigned char sapwoodle_load(const unsigned char *image, unsigned long image_length, unsigned char enable,
+    unsigned char *state, unsigned long state_length,
+    unsigned char *array, unsigned long array_length,
+    unsigned char *id, unsigned long id_length,
+    unsigned char *part);
+
+/* ---- the driver: it is asked for one event at a time, and told the level of the last clock */
+enum {
+    SAPWOODLE_WRITE = 0, /* what a request asks for; another number is refused with 7 */
+    SAPWOODLE_READ = 1,
+    SAPWOODLE_WRITE_ID = 2, /* the identification page */
+    SAPWOODLE_READ_ID = 3,
+    SAPWOODLE_NO_EVENT = 255 /* the driver has finished */
+};
+
+/* Its state: 35 bytes. Every state has exactly one form, and the caller may keep and copy it.
+ *
+ *     0, 1   part and enable of the request
+ *     2      1 for the identification page, 0 for the array
+ *     3      1 for a read, 0 for a write
+ *     4      what it is doing: 0 before a Start, or done; 1 to 7 inside a byte; 8 to 14 after the ninth clock of it (select, first
+ *            of two address bytes, last address byte, data, select of a poll, second select of a read, byte read); 15 after the Stop of
+ *            a page; 16 to 18 refused, with 9, 10, 11
+ *     5      clocks sent of the byte, in 1 to 7; else 0
+ *     6      bits told of a byte that is read
+ *     7      seven numbers of four bytes each, high byte first: address, length and budget of the request, bytes sent or got, bytes seen
+ *            to be done, polls for this page, polls in all */
+#define SAPWOODLE_DRIVER_LENGTH 35
+
+/* A driver for a request: `length` bytes at an address of the array, or at a location of the identification page. `budget` is the
+ * polls allowed for a page, 1 to 1,000; a read needs none. Refused with 1, 2, 4, 7, 8. */
+unsigned char sapwoodle_driver_begin(unsigned char part, unsigned char enable, unsigned char what,
+    unsigned long address, unsigned long length, unsigned long budget,
+    unsigned char *driver, unsigned long driver_length);
+
+/* One step. `level` is that of the last clock, 0 or 1 (more counts as 1); only that of an acknowledge and of a bit that is read matters.
+ * `data` is the same buffer at each step, of exactly the length asked for: the bytes to write, or where the bytes read go.
+ *
+ * `event` gets a clock, a Start or a Stop to send; or SAPWOODLE_NO_EVENT, and then the answer is 0, done, or the refusal that ended the
+ * driver, `polls` the polls spent and `bytes` the leading bytes that were seen to be written, or were read. With an event both are 0.
+ * A finished driver answers the same again. Refused with 9, 10, 11 after its Stop was sent, and with 4. */
+unsigned char sapwoodle_driver_next(unsigned char *driver, unsigned long driver_length,
+    unsigned char level,
+    unsigned char *data, unsigned long data_length,
+    unsigned char *event, unsigned long *polls, unsigned long *bytes);
+
+/* ---- driver and chip together, to the end
+ *
+ * `chip_enable` is the chip's own enable, `enable` the one that the driver selects. Each write cycle ends just before its poll number `d`,
+ * 1 to 65,535. `data` has the bytes to write, exactly `length`; or room for the bytes read, and keeps its further bytes.
+ * `polls` and `bytes` as above, `cycles` the write cycles begun, `clocks` the clocks sent; of a call refused with 1 to 8 all 0.
+ * Refused with 1 to 4, 6, 7, 8 before anything changes; with 9 to 11 by the driver, and then the chip is as the driver left it. */
+unsigned char sapwoodle_bench_run(unsigned char part, unsigned char enable, unsigned char what,
+    unsigned long address, unsigned long length, unsigned long budget,
+    unsigned char chip_enable, unsigned long d,
+    unsigned char *state, unsigned long state_length,
+    unsigned char *array, unsigned long array_length,
+    unsigned char *id, unsigned long id_length,
+    unsigned char *data, unsigned long data_length,
+    unsigned long *polls, unsigned long *bytes, unsigned long *cycles, unsigned long *clocks);
+
+/* ---- the trace program: a typed trace in, what the program prints out, `refused N` too. Answers the number of bytes written, at most
+ * 32,800; 0 where `out` is too short for them, and then it is as before. */
+unsigned long sapwoodle_trace(const unsigned char *text, unsigned long text_length,
+    unsigned char *out, unsigned long out_length);
+
+/* ---- lengths: of the array and the identification page of a part, 0 for a number that is no part; and the two above */
+unsigned long sapwoodle_array_length(unsigned char part);
+unsigned long sapwoodle_id_length(unsigned char part);
+unsigned long sapwoodle_state_length(void);
+unsigned long sapwoodle_driver_length(void);
+
 #ifdef __cplusplus
 }
 #endif

@@ -31,7 +31,7 @@ same-length-4 : tie.Need-same-length-4
 same-length-4 c = search needs
 
 returns : tie.Need-returns
-returns c = 
+returns c =
     let u = c .before .before .before .before .before .before .before .before .before .before .before .before .before .before .before .before .unpack .ensures in
     let q = c .before .before .before .before .before .before .before .before .before .before .before .before .before .before .before .before .before .before .request .ensures in
     let s = c .before .before .before .before .before .before .before .before .before .before .before .before .run .ensures in

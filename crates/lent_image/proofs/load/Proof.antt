@@ -32,7 +32,7 @@ same-length-2 c = search needs
 
 returns : tie.Need-returns
 unfolding verdictOf
-returns c = 
+returns c =
     let a = c .before .before .before .before .before .before .before .before .before .before .before .args in
     let m = mem (now (a .array)) (now (a .id)) in
     let w = sym (c .before .before .before .before .before .looks .ensures) ∙ not-true (c .before .before .before .before .before .looks .result) (c .before .before .before .before .if1 .taken) in
@@ -57,7 +57,7 @@ same-length-5 c = search needs
 
 returns-2 : tie.Need-returns-2
 unfolding verdictOf
-returns-2 c = 
+returns-2 c =
     let a = c .before .before .before .before .before .before .before .before .before .before .before .before .before .before .before .before .before .before .before .args in
     let w = sym (c .before .before .before .before .before .before .before .before .before .before .before .before .before .looks .ensures) ∙ not-false (c .before .before .before .before .before .before .before .before .before .before .before .before .before .looks .result) (c .before .before .before .before .before .before .before .before .before .before .before .before .if1 .left) in
     let l = c .before .before .before .before .before .before .before .before .before .load .ensures in

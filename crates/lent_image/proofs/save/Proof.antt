@@ -16,7 +16,7 @@ same-length : tie.Need-same-length
 same-length c = search needs
 
 returns : tie.Need-returns
-returns c = 
+returns c =
     let u = c .before .before .before .before .before .unpack .ensures in
     let s = c .before .before .before .save .ensures in
     (rw (c .number .ensures, s .0, u) refl, (rw (s .1, u) refl, rw (s .0, u) refl))
