@@ -8,7 +8,7 @@ use Rattle.parts.specs.declared.Verdict.{Verdict}
 use Rattle.state.specs.declared.Chip.{Chip}
 use Rattle.chip.specs.Memory.{Mem}
 use Rattle.pack_chip.specs.Layout.{packInto, holdsOf, unpackedOf}
-use Rattle.lent_chip.specs.Chips.{answerOf}
+use Rattle.lent.specs.Answers.{answerOf}
 use Rattle.driver.specs.declared.Request.{Request}
 use Rattle.bench.specs.declared.Report.{Report}
 use Rattle.bench.specs.Calls.{benchVerdictOf, benchBy, benchMem, benchBuffer}

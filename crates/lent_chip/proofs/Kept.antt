@@ -9,12 +9,11 @@ use lib.ListN.{length, replicate}
 use lib.Dec.{eqb}
 use borrow.Author.Tests.{eq-eqb, eqb-true}
 use Rattle.parts.specs.declared.Facts.{Facts}
-use Rattle.parts.specs.declared.Refusal.{Refusal}
-use Rattle.parts.specs.declared.Refusal.the-variants.{NoPart, WrongEnable, WrongBuffer, BadState, BadEvent, ShortBuffer, Beyond, BadLimit, NoSelect, NoData, PollsUsed, BadImage, TooMany}
+use Rattle.parts.specs.declared.Refusal.the-variants.{NoPart, WrongEnable, WrongBuffer, BadState}
 use Rattle.parts.specs.declared.Verdict.{Verdict}
 use Rattle.parts.specs.declared.Verdict.the-variants.{Fine, Refused}
 use Rattle.parts.specs.Table.{factsOf, idSizeOf, buffersRightOf, enableRightOf}
-use Rattle.parts.specs.Refusals.{numberOf, givenOf}
+use Rattle.parts.specs.Refusals.{givenOf}
 use Rattle.parts.proofs.Laws.{branch}
 use Rattle.state.specs.declared.Chip.{Chip}
 use Rattle.state.specs.Range.{inRangeOf}
@@ -25,9 +24,10 @@ use Rattle.pack_chip.specs.Layout.{packedLength, packedOf, packInto, unpackedOf
 use Rattle.pack_chip.specs.Promises.{AllBelow, Fits}
 use Rattle.pack_chip.proofs.Laws.{holds-long}
 use Rattle.pack_chip.proofs.Kept.{packs-back, refuses-others}
-use Rattle.lent_chip.specs.Chips.{answerOf, keptOf, stepVerdict, runVerdict, deliverVerdict, stepping, running, delivering}
+use Rattle.lent.specs.Answers.{answerOf, keptOf}
+use Rattle.lent_chip.specs.Chips.{stepVerdict, runVerdict, deliverVerdict, stepping, running, delivering}
 use Rattle.lent_chip.specs.Promises.{StepKeeps, RunKeeps, DeliverKeeps, StepIsChips, RunIsChips, DeliverHolds, StepRefuses4, RunRefuses4}
-use Rattle.lent_chip.proofs.Laws.{unheld-refused}
+use Rattle.lent.proofs.Laws.{unheld-refused, fine}
 
 -- ---- a refused call changes nothing
 
@@ -102,26 +102,6 @@ deliver-long part s m =
     branch (λ (v : Verdict). v ≡ Fine → length s ≡ packedLength) (eqb (length s) packedLength)
     (λ e _. eqb-true (length s) packedLength e)
     (λ _ h. absurd (unheld-refused part 0 m h))
-
-no-zero : (r : Refusal) → numberOf r ≡ 0 → ⊥
-no-zero NoPart h = omega arith
-no-zero WrongEnable h = omega arith
-no-zero WrongBuffer h = omega arith
-no-zero BadState h = omega arith
-no-zero (BadEvent k) h = omega arith
-no-zero ShortBuffer h = omega arith
-no-zero Beyond h = omega arith
-no-zero BadLimit h = omega arith
-no-zero NoSelect h = omega arith
-no-zero NoData h = omega arith
-no-zero PollsUsed h = omega arith
-no-zero BadImage h = omega arith
-no-zero TooMany h = omega arith
-
--- 0 is no refusal's number
-pub fine : (v : Verdict) → answerOf v ≡ 0 → v ≡ Fine
-fine Fine h = refl
-fine (Refused r) h = absurd (no-zero r h)
 
 pub deliver-holds : DeliverHolds delivering
 unfolding packInto

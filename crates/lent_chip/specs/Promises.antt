@@ -14,7 +14,8 @@ use Rattle.chip.specs.Delivery.{standbyOf}
 use Rattle.chip.specs.Calls.{stepVerdictOf, stepBy, stepMem, runVerdictOf, runBy, runMem, runAnswers}
 use Rattle.pack_chip.specs.Layout.{packedOf, holdsOf, unpackedOf}
 use Rattle.pack_chip.specs.Promises.{Fits}
-use Rattle.lent_chip.specs.Chips.{AfterStep, AfterRun, AfterDeliver, answerOf, placeOf}
+use Rattle.lent.specs.Answers.{answerOf, placeOf}
+use Rattle.lent_chip.specs.Chips.{AfterStep, AfterRun, AfterDeliver}
 
 -- of the part, the enable, the state's bytes, what is stored, and the event
 abbrev pub Stepping : Type 0

@@ -1,100 +1,7 @@
 // The chip for callers that hold numbers and bytes only: a state is lent as bytes, and further results are stored where asked.
 ghost use mathlib.Core.Path.{_≡_};
 ghost use Rattle.chip.specs.Memory.{mem};
-ghost use Rattle.lent_chip.specs.Chips.{
-  answerOf,
-  badPlaceOf,
-  placeOf,
-  keptOf,
-  unheldOf,
-  stepping,
-  running,
-  delivering,
-};
-use parts::Faults;
-use parts::Refusal;
-use parts::Verdict;
-use state::Chip;
-
-// ---- answers
-
-fn bad_place(refusal: Refusal) -> usize
-    ensures { λ r. ⌜ r ≡ badPlaceOf refusal ⌝ }
-{
-    match refusal {
-        Refusal::NoPart => 0,
-        Refusal::WrongEnable => 0,
-        Refusal::WrongBuffer => 0,
-        Refusal::BadState => 0,
-        Refusal::BadEvent(k) => k,
-        Refusal::ShortBuffer => 0,
-        Refusal::Beyond => 0,
-        Refusal::BadLimit => 0,
-        Refusal::NoSelect => 0,
-        Refusal::NoData => 0,
-        Refusal::PollsUsed => 0,
-        Refusal::BadImage => 0,
-        Refusal::TooMany => 0,
-    }
-}
-
-fn place(verdict: Verdict) -> usize
-    ensures { λ r. ⌜ r ≡ placeOf verdict ⌝ }
-{
-    match verdict {
-        Verdict::Fine => 0,
-        Verdict::Refused(r) => bad_place(r),
-    }
-}
-
-// 0, or the number of the refusal.
-pub fn number(verdict: Verdict) -> u8
-    ensures { λ r. ⌜ r ≡ answerOf verdict ⌝ }
-{
-    match verdict {
-        Verdict::Fine => 0,
-        Verdict::Refused(r) => parts::number(r),
-    }
-}
-
-// The number of a verdict. Where nothing is refused, the state is packed.
-pub fn settle(verdict: Verdict, chip: Chip, state: &mut [u8]) -> u8
-    ensures answer { λ r. ⌜ r ≡ answerOf verdict ⌝ }
-    ensures kept { λ _. ⌜ now (state .exit) ≡ keptOf verdict chip (now (state .entry)) ⌝ }
-{
-    match verdict {
-        Verdict::Fine => {
-            pack_chip::pack(chip, state);
-            0
-        }
-        Verdict::Refused(r) => parts::number(r),
-    }
-}
-
-// Which refusal a call is given whose state buffer has another length.
-pub fn unheld(part: u8, enable: u8, array: &[u8], id: &[u8]) -> Verdict
-    ensures { λ r. ⌜ r ≡ unheldOf part enable (mem (now (array .entry)) (now (id .entry))) ⌝ }
-{
-    let f = parts::facts_of(part);
-    let known = f.known;
-    let enabled = parts::enable_right(f, enable);
-    let lent = parts::buffers_right(f, array.len(), id.len());
-    parts::given(Faults {
-        part: !known,
-        enable: !enabled,
-        buffer: !lent,
-        state: true,
-        many: false,
-        event: false,
-        place: 0,
-        short: false,
-        beyond: false,
-        limit: false,
-        image: false,
-    })
-}
-
-// ---- the chip
+ghost use Rattle.lent_chip.specs.Chips.{stepping, running, delivering};
 
 // A part as delivered.
 pub fn deliver(part: u8, state: &mut [u8], array: &mut [u8], id: &mut [u8]) -> u8
@@ -104,14 +11,14 @@ pub fn deliver(part: u8, state: &mut [u8], array: &mut [u8], id: &mut [u8]) -> u
     ensures ident { λ _. ⌜ now (id .exit) ≡ delivering part (now (state .entry)) (mem (now (array .entry)) (now (id .entry))) .stored .ident ⌝ }
 {
     if state.len() != 137 {
-        let verdict = unheld(part, 0, array, id);
+        let verdict = lent::unheld(part, 0, array, id);
         let none = chip::standby(part, false);
-        return settle(verdict, none, state);
+        return lent::settle(verdict, none, state);
     }
     let d = chip::deliver(part, array, id);
     let verdict = d.verdict;
     let chip = d.chip;
-    settle(verdict, chip, state)
+    lent::settle(verdict, chip, state)
 }
 
 // One event. A refused call answers level 2 and no cycles.
@@ -138,7 +45,7 @@ pub fn step(
     let next = s.chip;
     *level = s.level;
     *cycles = s.cycles as usize;
-    settle(verdict, next, state)
+    lent::settle(verdict, next, state)
 }
 
 // A list of events, the levels into a lent answer buffer; the place is that of refusal 5.
@@ -165,6 +72,6 @@ pub fn run(
     let verdict = r.verdict;
     let next = r.chip;
     *cycles = r.cycles;
-    *at = place(verdict);
-    settle(verdict, next, state)
+    *at = lent::place(verdict);
+    lent::settle(verdict, next, state)
 }

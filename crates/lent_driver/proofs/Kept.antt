@@ -11,8 +11,8 @@ use borrow.Author.Tests.{eq-eqb, ne-eqb, eqb-true}
 use Rattle.parts.specs.declared.Verdict.{Verdict}
 use Rattle.parts.specs.declared.Verdict.the-variants.{Fine, Refused as Judged}
 use Rattle.parts.proofs.Laws.{branch}
-use Rattle.lent_chip.specs.Chips.{answerOf}
-use Rattle.lent_chip.proofs.Kept.{fine}
+use Rattle.lent.specs.Answers.{answerOf}
+use Rattle.lent.proofs.Laws.{fine}
 use Rattle.driver.specs.declared.Request.{Request}
 use Rattle.driver.specs.declared.Driver.{Driver}
 use Rattle.driver.specs.declared.Asked.{Asked}

@@ -9,7 +9,7 @@ use Rattle.parts.specs.declared.Verdict.{Verdict}
 use Rattle.parts.specs.declared.Verdict.the-variants.{Fine, Refused as Judged}
 use Rattle.parts.specs.Table.{factsOf, enableRightOf}
 use Rattle.parts.specs.Refusals.{numberOf, givenOf}
-use Rattle.lent_chip.specs.Chips.{answerOf}
+use Rattle.lent.specs.Answers.{answerOf}
 use Rattle.driver.specs.declared.Place.{Place}
 use Rattle.driver.specs.declared.Place.the-variants.{Array, Ident}
 use Rattle.driver.specs.declared.Request.{Request}

@@ -7,7 +7,7 @@ use Rattle.parts.specs.declared.Verdict.{Verdict}
 use Rattle.parts.specs.declared.Verdict.the-variants.{Fine, Refused}
 use Rattle.state.specs.declared.Chip.{Chip}
 use Rattle.chip.specs.Memory.{Mem}
-use Rattle.lent_chip.specs.Chips.{keptOf}
+use Rattle.lent.specs.Answers.{keptOf}
 use Rattle.image.specs.Calls.{loadBy, loadMem}
 
 pub load-verdict : (l : List ℕ) (v : Verdict) → loadBy l v .verdict ≡ v

@@ -8,7 +8,7 @@ use lib.Dec.{eqb, ltb}
 use Rattle.parts.specs.declared.Verdict.{Verdict}
 use Rattle.chip.specs.Memory.{Mem}
 use Rattle.pack_chip.specs.Layout.{packedLength, unpackedOf}
-use Rattle.lent_chip.specs.Chips.{answerOf, keptOf, unheldOf}
+use Rattle.lent.specs.Answers.{answerOf, keptOf, unheldOf}
 use Rattle.image.specs.Layout.{partIn}
 use Rattle.image.specs.Calls.{saving, loadVerdictOf, loadBy, loadMem}
 

@@ -21,7 +21,7 @@ pub fn save(
     let s = image::save(part, chip, array, id, out);
     let verdict = s.verdict;
     *written = s.length;
-    lent_chip::number(verdict)
+    lent::number(verdict)
 }
 
 // Whether the image is looked at.
@@ -63,11 +63,11 @@ pub fn load(
     *part = own;
     let looked = looks(state.len(), image.len());
     if !looked {
-        let verdict = lent_chip::unheld(own, enable, array, id);
-        return lent_chip::number(verdict);
+        let verdict = lent::unheld(own, enable, array, id);
+        return lent::number(verdict);
     }
     let l = image::load(image, enable, array, id);
     let verdict = l.verdict;
     let chip = l.chip;
-    lent_chip::settle(verdict, chip, state)
+    lent::settle(verdict, chip, state)
 }

@@ -2,7 +2,8 @@ use mathlib.Core.Path.{refl, sym, ap}
 use Rattle.chip.specs.Memory.{Mem, mem}
 use denote.Ref.{now}
 use Rattle.lent_chip.specs.Chips.{deliverVerdict}
-use Rattle.lent_chip.proofs.Laws.{unheld-refused, delivers-nothing}
+use Rattle.lent.proofs.Laws.{unheld-refused}
+use Rattle.lent_chip.proofs.Laws.{delivers-nothing}
 use borrow.Author.Tests.{eq-eqb, ne-eqb}
 use borrow.Author.Needs.{needs}
 use Rattle.lent_chip.proofs.deliver.Statement.{statement}

@@ -5,7 +5,7 @@ use borrow.Author.Tests.{not-true, not-false}
 use denote.Ref.{now}
 use Rattle.chip.specs.Memory.{Mem, mem}
 use Rattle.image.specs.Layout.{partIn}
-use Rattle.lent_chip.proofs.Laws.{unheld-refused}
+use Rattle.lent.proofs.Laws.{unheld-refused}
 use Rattle.lent_image.specs.Images.{verdictOf}
 use Rattle.lent_image.proofs.Laws.{load-verdict, loads-nothing}
 use borrow.Author.Needs.{needs}

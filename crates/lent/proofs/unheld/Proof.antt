@@ -1,7 +1,7 @@
-use Rattle.lent_chip.specs.Chips.{unheldOf}
+use Rattle.lent.specs.Answers.{unheldOf}
 use borrow.Author.Needs.{needs}
-use Rattle.lent_chip.proofs.unheld.Statement.{statement}
-use Rattle.lent_chip.proofs.unheld.Tie as tie
+use Rattle.lent.proofs.unheld.Statement.{statement}
+use Rattle.lent.proofs.unheld.Tie as tie
 
 facts-of-requires : tie.Need-facts-of-requires
 facts-of-requires c κs = search needs

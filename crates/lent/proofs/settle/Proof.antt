@@ -1,7 +1,7 @@
 use mathlib.Core.Path.{refl}
 use borrow.Author.Needs.{needs}
-use Rattle.lent_chip.proofs.settle.Statement.{statement}
-use Rattle.lent_chip.proofs.settle.Tie as tie
+use Rattle.lent.proofs.settle.Statement.{statement}
+use Rattle.lent.proofs.settle.Tie as tie
 
 enum-told : tie.Need-enum-told
 enum-told c = search needs
