@@ -88,13 +88,11 @@ static void chip_sees(int scl, int sda)
 /* ---- the wires: open drain, so a wire is high where nobody pulls it low */
 
 static int scl = 1, sda = 1; /* what the master lets go */
-static unsigned long clocks;
 
 static int wire_sda(void) { return sda && !pulls; }
 
 static void set_scl(int level)
 {
-    clocks += level && !scl;
     scl = level;
     chip_sees(scl, wire_sda());
 }
@@ -106,6 +104,8 @@ static void set_sda(int level)
 }
 
 /* ---- the master's side */
+
+static unsigned long clocks;
 
 static void start(void)
 {
@@ -131,6 +131,7 @@ static int clock_pulse(int level)
     set_scl(1);
     read = wire_sda();
     set_scl(0);
+    clocks++;
     return read;
 }
 
@@ -153,8 +154,8 @@ static unsigned char drive(unsigned char what, unsigned long address, unsigned c
         else
             break;
     }
-    printf("%s %lu bytes at %04lXh: %s %u, %lu bytes, %lu polls, %lu cycles, %lu pulses of SCL\n", what == SAPWOODLE_WRITE ? "write" : "read ",
-        n, address, answer ? "refused" : "answer", answer, bytes, polls, cycles, clocks);
+    printf("%s %lu bytes at %04lXh: %s, bytes %lu, polls %lu, cycles %lu, clocks %lu\n", what == SAPWOODLE_WRITE ? "write" : "read", n,
+        address, answer ? "refused" : "done", bytes, polls, cycles, clocks);
     return answer;
 }
 
@@ -177,7 +178,8 @@ static unsigned long one_byte(int late)
         clock_pulse(1);
     stop();
     event(SAPWOODLE_ENDS);
-    printf("5Ah at 0005h, Stop %s: %lu cycles, the byte is %02Xh\n", cycles ? "in place" : "one clock late", cycles, array[5]);
+    printf("5Ah at 0005h, every byte acknowledged, Stop %s: cycles %lu, the byte is %02Xh\n", cycles ? "in place" : "one clock late",
+        cycles, array[5]);
     return cycles;
 }
 

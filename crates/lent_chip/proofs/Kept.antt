@@ -1,11 +1,10 @@
 -- `stepping`, `running` and `delivering` keep what is promised of them.
 -- Assumes nothing.
-use Prim.Native.Nat.{ℕ, zero, suc, _<_}
+use Prim.Native.Nat.{ℕ}
 use mathlib.Core.Path.{_≡_, refl, ap}
 use mathlib.Core.Bool.{Bool, true, false, not, cond}
 use mathlib.Core.List.{List}
-use native.Mathlib.Omega.{arith}
-use lib.ListN.{length, replicate}
+use lib.ListN.{length}
 use lib.Dec.{eqb}
 use borrow.Author.Tests.{eq-eqb, eqb-true}
 use Rattle.parts.specs.declared.Facts.{Facts}
@@ -17,17 +16,17 @@ use Rattle.parts.specs.Refusals.{givenOf}
 use Rattle.parts.proofs.Laws.{branch}
 use Rattle.state.specs.declared.Chip.{Chip}
 use Rattle.state.specs.Range.{inRangeOf}
-use Rattle.chip.specs.Memory.{Mem, noLatch}
+use Rattle.chip.specs.Memory.{Mem}
 use Rattle.chip.specs.Delivery.{standbyOf}
 use Rattle.chip.specs.Calls.{deliverMem, stepVerdictOf, stepBy, stepMem, runVerdictOf, runBy, runMem, runAnswers}
 use Rattle.pack_chip.specs.Layout.{packedLength, packedOf, packInto, unpackedOf}
-use Rattle.pack_chip.specs.Promises.{AllBelow, Fits}
+use Rattle.pack_chip.specs.Promises.{Fits}
 use Rattle.pack_chip.proofs.Laws.{holds-long}
 use Rattle.pack_chip.proofs.Kept.{packs-back, refuses-others}
 use Rattle.lent.specs.Answers.{answerOf, keptOf}
 use Rattle.lent_chip.specs.Chips.{stepVerdict, runVerdict, deliverVerdict, stepping, running, delivering}
 use Rattle.lent_chip.specs.Promises.{StepKeeps, RunKeeps, DeliverKeeps, StepIsChips, RunIsChips, DeliverHolds, StepRefuses4, RunRefuses4}
-use Rattle.lent.proofs.Laws.{unheld-refused, fine}
+use Rattle.lent.proofs.Laws.{unheld-refused, fine, standby-fits}
 
 -- ---- a refused call changes nothing
 
@@ -87,15 +86,6 @@ pub run-is-chips : RunIsChips running
 run-is-chips part enable c m es a v f h =
     rw (packs-back c f .2, h, run-state part enable c m es v f, run-verdict part enable c es v) refl
 
-all-same : (n k x : ℕ) → x < n → AllBelow n (replicate k x)
-all-same n zero x h = tt
-all-same n (suc k) x h = (h, all-same n k x h)
-
-pub standby-fits : (f : Facts) → Fits (standbyOf f false)
-unfolding standbyOf noLatch
-standby-fits f =
-    record { counter = omega arith; high = omega arith; left = omega arith; shift = omega arith; latches = refl; latch = all-same 65536 64 256 (omega arith) }
-
 deliver-long : (part : ℕ) (s : List ℕ) (m : Mem) → deliverVerdict part s m ≡ Fine → length s ≡ packedLength
 unfolding deliverVerdict
 deliver-long part s m =
@@ -107,7 +97,7 @@ pub deliver-holds : DeliverHolds delivering
 unfolding packInto
 deliver-holds part s m h =
     let v = fine (deliverVerdict part s m) h in
-    let b = packs-back (standbyOf (factsOf part) false) (standby-fits (factsOf part)) in
+    let b = packs-back (standbyOf (factsOf part) false) (standby-fits (factsOf part) false) in
     rw (v, eq-eqb (length s) packedLength (deliver-long part s m v)) (b .1, b .2)
 
 -- ---- bytes that hold no state
