@@ -1,0 +1,25 @@
+use mathlib.Core.Path.{refl}
+use borrow.Author.Needs.{needs}
+use Rattle.lent_image.proofs.save.Statement.{statement}
+use Rattle.lent_image.proofs.save.Tie as tie
+
+unpack-requires : tie.Need-unpack-requires
+unpack-requires c κs = search needs
+
+save-requires : tie.Need-save-requires
+save-requires c κs = search needs
+
+number-requires : tie.Need-number-requires
+number-requires c κs = search needs
+
+same-length : tie.Need-same-length
+same-length c = search needs
+
+returns : tie.Need-returns
+returns c =
+    let u = c .before .before .before .before .before .unpack .ensures in
+    let s = c .before .before .before .save .ensures in
+    (rw (c .number .ensures, s .0, u) refl, (rw (s .1, u) refl, rw (s .0, u) refl))
+
+pub save-spec : {M : Type 1} → statement M
+save-spec = tie.close (tie.spec unpack-requires save-requires number-requires same-length returns)

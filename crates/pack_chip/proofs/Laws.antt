@@ -1,0 +1,80 @@
+-- Laws that the proofs of the code share: numbers of 16 bits stored and read two bytes at a time.
+-- Assumes nothing.
+use Prim.Native.Nat.{ℕ, suc, _+_, _-_, _*_, _/_, _%_, _≤_, _<_}
+use mathlib.Core.Path.{_≡_, _∙_, refl, ap}
+use mathlib.Core.Bool.{Bool, true, false, cond}
+use mathlib.Core.List.{List, [], _∷_, _++_, append-nil}
+use native.Mathlib.Numerals.{add-one, add-two}
+use native.Mathlib.Nat.{zero-add}
+use native.Mathlib.Omega.{arith}
+use lib.ListN.{length, getD, drop, set, length-append, length-drop, drop-of-length-le}
+use lib.Seq.{sets, sets-eq, drop-cons}
+use lib.Dec.{eqb}
+use borrow.Author.Tests.{eq-eqb, eqb-true}
+use Rattle.state.specs.declared.Chip.{Chip}
+use Rattle.pack_chip.specs.Layout.{packedLength, pairsOf, headOf, packedOf, packInto, joinedOf, rowOf, codesRightOf, holdsOf}
+
+-- ---- stored
+
+pub pairs-step : (out k : List ℕ) (i at x : ℕ) → i < length k → x ≡ getD k i 0
+    → sets (set (set out at (x / 256)) (at + 1) (x % 256)) (at + 2) (pairsOf (drop (i + 1) k)) ≡ sets out at (pairsOf (drop i k))
+pairs-step out k i at x h e = rw (add-one, add-one, add-two, drop-cons k i 0 h, ← e)
+
+pub pairs-end : (out k : List ℕ) (i at : ℕ) → length k ≤ i → sets out at (pairsOf (drop i k)) ≡ out
+pairs-end out k i at h = rw (drop-of-length-le k h)
+
+pub pairs-length : (k : List ℕ) → length (pairsOf k) ≡ 2 * length k
+pairs-length [] = refl
+pairs-length (x ∷ k) = let e = pairs-length k in omega (arith, e)
+
+-- ---- read
+
+pub row-step : (s k : List ℕ) (i at : ℕ) → at + 1 < length s
+    → sets (set k i (joinedOf (getD s at 0) (getD s (at + 1) 0))) (i + 1) (rowOf (drop (at + 2) s)) ≡ sets k i (rowOf (drop at s))
+row-step s k i at h =
+    let one : at < length s = omega arith in
+    let two : suc at < length s = omega arith in
+    rw (add-one, add-one, add-two, drop-cons s at 0 one, drop-cons s (suc at) 0 two)
+
+pub row-end : (s k : List ℕ) (i at : ℕ) → length s ≤ at → sets k i (rowOf (drop at s)) ≡ k
+row-end s k i at h = rw (drop-of-length-le s h)
+
+pub row-length : (l : List ℕ) → length (rowOf l) ≡ length l / 2
+row-length [] = refl
+row-length (x ∷ []) = refl
+row-length (x ∷ y ∷ l) = let e = row-length l in omega (arith, e)
+
+-- a list stored over the whole of another
+pub sets-whole : (k s : List ℕ) → length k ≡ length s → sets k 0 s ≡ s
+sets-whole k s e = let short : length k ≤ length s = omega arith in sets-eq s k 0 (omega arith) ∙ rw (zero-add, drop-of-length-le k short) (append-nil s)
+
+pub row-first : (k s : List ℕ) → length k ≡ 64 → length s ≡ 137 → sets k 0 (rowOf (drop 9 s)) ≡ rowOf (drop 9 s)
+row-first k s e h =
+    let n : length (drop 9 s) ≡ 128 = simp length-drop (omega arith) in
+    sets-whole k (rowOf (drop 9 s)) (rw (e, row-length, n) refl)
+
+-- ---- packed and unpacked
+
+pub both : (a b : Bool) → cond a b false ≡ true → (a ≡ true) × (b ≡ true)
+both true b h = (refl, h)
+both false b h = (h, cc)
+
+pub holds-long : (l : List ℕ) → holdsOf l ≡ true → length l ≡ packedLength
+unfolding holdsOf
+holds-long l h =
+    eqb-true (length l) packedLength
+    (both (eqb (length l) packedLength) (codesRightOf (getD l 2 0) (getD l 3 0) (getD l 4 0) (getD l 5 0) (getD l 6 0)) h .0)
+
+-- the head, then the latches
+pub packed : (out : List ℕ) (c : Chip) → length out ≡ packedLength → length (c .latch) ≡ 64
+    → sets (sets out 0 (headOf (c .line))) 9 (pairsOf (c .latch)) ≡ packInto out c
+unfolding packInto packedOf
+packed out c e k =
+    let h = headOf (c .line) in
+    let p = pairsOf (c .latch) in
+    let n : length p ≡ 128 = pairs-length (c .latch) ∙ omega (arith, k) in
+    let one : sets out 0 h ≡ h ++ drop 9 out = sets-eq h out 0 (omega arith) in
+    let m : length (h ++ drop 9 out) ≡ 137 = length-append h (drop 9 out) ∙ simp length-drop (omega arith) in
+    let rest : drop (9 + length p) (h ++ drop 9 out) ≡ [] = drop-of-length-le (h ++ drop 9 out) {i = 9 + length p} (omega arith) in
+    let two : sets (h ++ drop 9 out) 9 p ≡ h ++ p ++ drop (9 + length p) (h ++ drop 9 out) = sets-eq p (h ++ drop 9 out) 9 (omega arith) in
+    rw (eq-eqb (length out) packedLength e, one, two, rest) (ap (λ (l : List ℕ). h ++ l) (append-nil p))

@@ -1,0 +1,171 @@
+-- The state of a chip as 137 bytes, for callers that hold bytes only: the counter, high byte first; the codes of pin, inhibited,
+-- locked and phase; the first address byte while the last is awaited; the bits left and those received; then 64 latches of two
+-- bytes, high byte first.
+-- Assumes nothing.
+use Prim.Native.Nat.{ℕ, _+_, _*_, _/_, _%_}
+use mathlib.Core.Bool.{Bool, true, false, cond}
+use mathlib.Core.List.{List, [], _∷_, _++_}
+use lib.ListN.{length, getD, drop, replicate}
+use lib.Dec.{eqb, ltb}
+use Rattle.line.specs.declared.Pin.{Pin}
+use Rattle.line.specs.declared.Pin.the-variants.{Absent, Low, High, Floating}
+use Rattle.line.specs.declared.Target.{Target}
+use Rattle.line.specs.declared.Target.the-variants.{Array, Ident}
+use Rattle.line.specs.declared.Recv.{Recv}
+use Rattle.line.specs.declared.Recv.the-variants.{Select, AddressHigh, AddressLow, Fill, LockByte, LockTaken}
+use Rattle.line.specs.declared.Cycle.{Cycle}
+use Rattle.line.specs.declared.Cycle.the-variants.{Writing, Locking}
+use Rattle.line.specs.declared.Phase.{Phase}
+use Rattle.line.specs.declared.Phase.the-variants.{Idle, Receive, Send, Busy}
+use Rattle.line.specs.declared.Core.{Core}
+use Rattle.line.specs.declared.Line.{Line}
+use Rattle.state.specs.declared.Chip.{Chip}
+
+-- ---- the codes
+
+abbrev pub flagOf : Bool → ℕ
+flagOf false = 0
+flagOf true = 1
+
+abbrev pub pinCodeOf : Pin → ℕ
+pinCodeOf Absent = 0
+pinCodeOf Low = 1
+pinCodeOf High = 2
+pinCodeOf Floating = 3
+
+abbrev pub eitherOf : Target → ℕ → ℕ → ℕ
+eitherOf Array a i = a
+eitherOf Ident a i = i
+
+-- what is received: 1 select, 2 3 first address byte, 4 5 last address byte, 6 7 array data, 8 9 identification data (the odd one
+-- after an acknowledged byte), 10 lock data, 11 12 after it (12 where its bit 1 was set)
+abbrev pub recvCodeOf : Recv → ℕ
+recvCodeOf Select = 1
+recvCodeOf (AddressHigh t) = eitherOf t 2 3
+recvCodeOf (AddressLow t high) = eitherOf t 4 5
+recvCodeOf (Fill t acked) = cond acked (eitherOf t 7 9) (eitherOf t 6 8)
+recvCodeOf LockByte = 10
+recvCodeOf (LockTaken on) = cond on 12 11
+
+abbrev pub cycleCodeOf : Cycle → ℕ
+cycleCodeOf (Writing t) = eitherOf t 15 16
+cycleCodeOf Locking = 17
+
+-- 0 standby or released, 13 14 sending, 15 to 17 in a cycle
+abbrev pub phaseCodeOf : Phase → ℕ
+phaseCodeOf Idle = 0
+phaseCodeOf (Receive r) = recvCodeOf r
+phaseCodeOf (Send t) = eitherOf t 13 14
+phaseCodeOf (Busy y) = cycleCodeOf y
+
+-- the first address byte; 0 where none is kept
+abbrev pub recvHighOf : Recv → ℕ
+recvHighOf Select = 0
+recvHighOf (AddressHigh t) = 0
+recvHighOf (AddressLow t high) = high
+recvHighOf (Fill t acked) = 0
+recvHighOf LockByte = 0
+recvHighOf (LockTaken on) = 0
+
+abbrev pub phaseHighOf : Phase → ℕ
+phaseHighOf Idle = 0
+phaseHighOf (Receive r) = recvHighOf r
+phaseHighOf (Send t) = 0
+phaseHighOf (Busy y) = 0
+
+-- ---- packed
+
+abbrev pub packedLength : ℕ
+packedLength = 137
+
+-- numbers of 16 bits, each as two bytes
+abbrev pub pairsOf : List ℕ → List ℕ
+pairsOf [] = []
+pairsOf (x ∷ xs) = x / 256 ∷ x % 256 ∷ pairsOf xs
+
+abbrev pub headOf : Line → List ℕ
+headOf l =
+    l .core .counter / 256
+    ∷ l .core .counter % 256
+    ∷ pinCodeOf (l .core .pin)
+    ∷ flagOf (l .core .inhibited)
+    ∷ flagOf (l .core .locked)
+    ∷ phaseCodeOf (l .phase)
+    ∷ phaseHighOf (l .phase)
+    ∷ l .left
+    ∷ l .shift
+    ∷ []
+
+unfoldable pub packedOf : Chip → List ℕ
+packedOf c = headOf (c .line) ++ pairsOf (c .latch)
+
+-- into a lent buffer: one of another length stays as it was
+unfoldable pub packInto : List ℕ → Chip → List ℕ
+packInto out c = cond (eqb (length out) packedLength) (packedOf c) out
+
+-- ---- unpacked
+
+unfoldable pub pinIn : ℕ → Pin
+pinIn n = cond (eqb n 0) Absent (cond (eqb n 1) Low (cond (eqb n 2) High Floating))
+
+unfoldable pub recvIn : ℕ → ℕ → Recv
+recvIn n high =
+    cond (eqb n 2) (AddressHigh Array)
+    (cond (eqb n 3) (AddressHigh Ident)
+    (cond (eqb n 4) (AddressLow Array high)
+    (cond (eqb n 5) (AddressLow Ident high)
+    (cond (eqb n 6) (Fill Array false)
+    (cond (eqb n 7) (Fill Array true)
+    (cond (eqb n 8) (Fill Ident false)
+    (cond (eqb n 9) (Fill Ident true)
+    (cond (eqb n 10) LockByte
+    (cond (eqb n 11) (LockTaken false)
+    (cond (eqb n 12) (LockTaken true) Select))))))))))
+
+unfoldable pub phaseIn : ℕ → ℕ → Phase
+phaseIn n high =
+    cond (eqb n 0) Idle
+    (cond (eqb n 13) (Send Array)
+    (cond (eqb n 14) (Send Ident)
+    (cond (eqb n 15) (Busy (Writing Array))
+    (cond (eqb n 16) (Busy (Writing Ident))
+    (cond (eqb n 17) (Busy Locking) (Receive (recvIn n high)))))))
+
+-- two bytes as a number of 16 bits, and a row of them
+abbrev pub joinedOf : ℕ → ℕ → ℕ
+joinedOf high low = high * 256 + low
+
+abbrev pub rowOf : List ℕ → List ℕ
+rowOf [] = []
+rowOf (x ∷ []) = []
+rowOf (x ∷ y ∷ xs) = joinedOf x y ∷ rowOf xs
+
+abbrev pub lineIn : List ℕ → Line
+lineIn l =
+    record {
+      core = record { counter = joinedOf (getD l 0 0) (getD l 1 0); pin = pinIn (getD l 2 0); inhibited = eqb (getD l 3 0) 1; locked = eqb (getD l 4 0) 1 };
+      phase = phaseIn (getD l 5 0) (getD l 6 0);
+      left = getD l 7 0;
+      shift = getD l 8 0;
+    }
+
+-- only a phase that awaits the last address byte keeps the first
+unfoldable pub phaseRightOf : ℕ → ℕ → Bool
+phaseRightOf n high = cond (ltb n 18) (cond (eqb n 4) true (cond (eqb n 5) true (eqb high 0))) false
+
+unfoldable pub codesRightOf : ℕ → ℕ → ℕ → ℕ → ℕ → Bool
+codesRightOf pin inhibited locked code high =
+    cond (ltb pin 4) (cond (ltb inhibited 2) (cond (ltb locked 2) (phaseRightOf code high) false) false) false
+
+-- bytes that hold a state: the length, and every code one of those above
+unfoldable pub holdsOf : List ℕ → Bool
+holdsOf l =
+    cond (eqb (length l) packedLength) (codesRightOf (getD l 2 0) (getD l 3 0) (getD l 4 0) (getD l 5 0) (getD l 6 0)) false
+
+-- what bytes that hold none stand for: a counter beyond every array, so that refusal 4 has its place in the order
+abbrev pub noChip : Chip
+noChip =
+    record { line = record { core = record { counter = 65535; pin = Absent; inhibited = false; locked = false }; phase = Idle; left = 8; shift = 0 }; latch = replicate 64 256 }
+
+unfoldable pub unpackedOf : List ℕ → Chip
+unpackedOf l = cond (holdsOf l) (record { line = lineIn l; latch = rowOf (drop 9 l) }) noChip

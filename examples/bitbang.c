@@ -1,0 +1,200 @@
+/* A driver and a chip on two wires, as on a bench: one side sets SCL and SDA and reads SDA, the other watches the wires and pulls SDA.
+ * Neither knows of the other but by the wires, so either can be replaced by the reader's own.
+ *
+ * It writes a page and reads it back through the wires, then shows what a late Stop does. examples/run builds and runs it. */
+#include "../include/sapwoodle.h"
+
+/* The toolchain has the C library, but no headers of it. */
+int printf(const char *format, ...);
+int memcmp(const void *a, const void *b, unsigned long n);
+void *memcpy(void *to, const void *from, unsigned long n);
+void exit(int status);
+
+#define PART 2 /* M24C64 */
+#define ENABLE 0
+#define ARRAY 8192
+#define PAGE 32
+#define POLLS_BUSY 3 /* the chip stays busy until its third poll */
+
+static void must(int holds, const char *what)
+{
+    if (!holds) {
+        printf("wrong: %s\n", what);
+        exit(1);
+    }
+}
+
+/* ---- the chip's side of the wires */
+
+static unsigned char state[SAPWOODLE_STATE_LENGTH];
+static unsigned char array[ARRAY];
+static unsigned char id[1]; /* this part has no identification page: of length 0 */
+static unsigned long cycles;
+static int pulls; /* the chip pulls SDA low */
+
+static unsigned char event(unsigned char code)
+{
+    unsigned char level;
+    unsigned long begun;
+    must(sapwoodle_step(PART, ENABLE, state, sizeof state, array, sizeof array, id, 0, code, &level, &begun) == 0, "an event refused");
+    cycles += begun;
+    return level;
+}
+
+/* The level of the clock to come: a step of a copy. A clock stores nothing, so the array needs no copy. */
+static unsigned char next_level(void)
+{
+    unsigned char copy[SAPWOODLE_STATE_LENGTH], level;
+    unsigned long begun;
+    memcpy(copy, state, sizeof copy);
+    must(sapwoodle_step(PART, ENABLE, copy, sizeof copy, array, sizeof array, id, 0, SAPWOODLE_CLOCK_1, &level, &begun) == 0, "a look ahead refused");
+    return level;
+}
+
+/* A write cycle ends while the bus is quiet, before the Start of a poll. */
+static void start_seen(void)
+{
+    static int polls;
+    int busy = state[5] >= 15;
+    polls = busy ? polls + 1 : 0;
+    if (busy && polls == POLLS_BUSY)
+        event(SAPWOODLE_ENDS);
+    event(SAPWOODLE_START);
+}
+
+/* Both wires after any change. SDA that moves while SCL is high is a Start or a Stop; any other pulse of SCL is a clock, with the
+ * level that SDA had when SCL rose. The chip moves SDA only while SCL is low. */
+static void chip_sees(int scl, int sda)
+{
+    static int scl_was = 1, sda_was = 1, level_at_rise, is_clock;
+    if (scl && scl_was && sda != sda_was) {
+        if (sda)
+            event(SAPWOODLE_STOP);
+        else
+            start_seen();
+        is_clock = 0;
+    } else if (scl && !scl_was) {
+        level_at_rise = sda;
+        is_clock = 1;
+    } else if (!scl && scl_was) {
+        if (is_clock)
+            must(event(level_at_rise ? SAPWOODLE_CLOCK_1 : SAPWOODLE_CLOCK_0) == !pulls, "the level that was on the wire");
+        pulls = !next_level();
+    }
+    scl_was = scl;
+    sda_was = sda;
+}
+
+/* ---- the wires: open drain, so a wire is high where nobody pulls it low */
+
+static int scl = 1, sda = 1; /* what the master lets go */
+
+static int wire_sda(void) { return sda && !pulls; }
+
+static void set_scl(int level)
+{
+    scl = level;
+    chip_sees(scl, wire_sda());
+}
+
+static void set_sda(int level)
+{
+    sda = level;
+    chip_sees(scl, wire_sda());
+}
+
+/* ---- the master's side */
+
+static unsigned long clocks;
+
+static void start(void)
+{
+    if (!scl) {
+        set_sda(1);
+        set_scl(1);
+    }
+    set_sda(0);
+    set_scl(0);
+}
+
+static void stop(void)
+{
+    set_sda(0);
+    set_scl(1);
+    set_sda(1);
+}
+
+static int clock_pulse(int level)
+{
+    int read;
+    set_sda(level);
+    set_scl(1);
+    read = wire_sda();
+    set_scl(0);
+    clocks++;
+    return read;
+}
+
+/* A driver, event after event, until it has no more to send. */
+static unsigned char drive(unsigned char what, unsigned long address, unsigned char *data, unsigned long n)
+{
+    unsigned char driver[SAPWOODLE_DRIVER_LENGTH], code, answer, level = 1;
+    unsigned long polls, bytes;
+    clocks = 0;
+    cycles = 0;
+    must(sapwoodle_driver_begin(PART, ENABLE, what, address, n, 10, driver, sizeof driver) == 0, "a request refused");
+    for (;;) {
+        answer = sapwoodle_driver_next(driver, sizeof driver, level, data, n, &code, &polls, &bytes);
+        if (code == SAPWOODLE_START)
+            start();
+        else if (code == SAPWOODLE_STOP)
+            stop();
+        else if (code != SAPWOODLE_NO_EVENT)
+            level = (unsigned char)clock_pulse(code);
+        else
+            break;
+    }
+    printf("%s %lu bytes at %04lXh: %s, bytes %lu, polls %lu, cycles %lu, clocks %lu\n", what == SAPWOODLE_WRITE ? "write" : "read", n,
+        address, answer ? "refused" : "done", bytes, polls, cycles, clocks);
+    return answer;
+}
+
+/* A byte by hand; answers the acknowledge. */
+static int send(unsigned char byte)
+{
+    int i;
+    for (i = 7; i >= 0; i--)
+        clock_pulse(byte >> i & 1);
+    return clock_pulse(1);
+}
+
+/* 5Ah at 0005h, by hand: every byte is acknowledged. Then the Stop, late by so many clocks. */
+static unsigned long one_byte(int late)
+{
+    cycles = 0;
+    start();
+    must(send(0xA0) == 0 && send(0x00) == 0 && send(0x05) == 0 && send(0x5A) == 0, "a byte not acknowledged");
+    while (late--)
+        clock_pulse(1);
+    stop();
+    event(SAPWOODLE_ENDS);
+    printf("5Ah at 0005h, every byte acknowledged, Stop %s: cycles %lu, the byte is %02Xh\n", cycles ? "in place" : "one clock late",
+        cycles, array[5]);
+    return cycles;
+}
+
+int main(void)
+{
+    unsigned char page[PAGE], back[PAGE] = { 0 };
+    int i;
+    for (i = 0; i < PAGE; i++)
+        page[i] = (unsigned char)(7 * i);
+    must(sapwoodle_deliver(PART, state, sizeof state, array, sizeof array, id, 0) == 0, "a delivery refused");
+
+    must(drive(SAPWOODLE_WRITE, 0x0040, page, PAGE) == 0 && cycles == 1, "one cycle for the page");
+    must(drive(SAPWOODLE_READ, 0x0040, back, PAGE) == 0 && memcmp(page, back, PAGE) == 0, "what was read is what was written");
+
+    must(one_byte(1) == 0 && array[5] == 0xFF, "a late Stop begins no cycle");
+    must(one_byte(0) == 1 && array[5] == 0x5A, "a Stop in place begins one");
+    return 0;
+}

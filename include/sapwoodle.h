@@ -1,0 +1,204 @@
+/* Sapwoodle: the M24C serial EEPROM as a library. Static, for C on x86-64 Linux:
+ *
+ *     rt staticlib sapwoodle          proves it and writes target/staticlib/libsapwoodle.a
+ *
+ * It has no state of its own, allocates nothing, calls nothing but memcpy and memset, and every function ends.
+ *
+ * Every function takes any numbers and any bytes. Bytes are lent as a pointer and a length; no two buffers of a call may overlap,
+ * and the pointers for results must point to a variable each. A call answers 0, or the number of its refusal:
+ *
+ *      1  part above 5                                   8  budget or d outside its limits
+ *      2  enable wrong for the part                      9  select or address byte not acknowledged
+ *      3  array or identification buffer not exactly    10  data byte not acknowledged
+ *         the part's length (0 without such a page)     11  polls used up
+ *      4  state or driver: another length, bytes that   12  image length, mark, version or lock byte wrong
+ *         hold none, or one that is out of range        13  more than 32,768 events
+ *      5  event above 8, or a pin event without a pin
+ *      6  answer or output buffer too short
+ *      7  address plus length beyond the array or page; no such page
+ *
+ * Where several of 1 to 8, 12 and 13 apply, the first of 1 2 3 4 13 5 6 7 8 12 is answered. A call refused with one of these changes
+ * no lent byte; its results are the ones said below for a refused call.
+ *
+ * unsigned char has 8 bits here, unsigned long 64: uint8_t, size_t and uint64_t fit. */
+#ifndef SAPWOODLE_H
+#define SAPWOODLE_H
+
+#ifdef __cplusplus
+extern "C" {
+#endif
+
+/* ---- the parts
+ *
+ *     part                array   page   identification page   Write Control   enable
+ *     0 M24C16-DFCU       2,048     16                    16   no              0
+ *     1 M24C16-DRE        2,048     16                    16   yes             0
+ *     2 M24C64            8,192     32                     0   yes             0 to 7
+ *     3 M24C64-D          8,192     32                    32   yes             0 to 7
+ *     4 M24256-B         32,768     64                     0   yes             0 to 7
+ *     5 M24256-D         32,768     64                    64   yes             0 to 7
+ *
+ * What a chip stores stands in two buffers that the caller lends to each call: the array, and the identification page (`id`). */
+#define SAPWOODLE_ARRAY_MOST 32768
+#define SAPWOODLE_ID_MOST 64
+
+/* ---- events, and the levels that answer them */
+enum {
+    SAPWOODLE_CLOCK_0 = 0, /* a clock with the master's level 0 */
+    SAPWOODLE_CLOCK_1 = 1,
+    SAPWOODLE_START = 2,
+    SAPWOODLE_STOP = 3,
+    SAPWOODLE_ENDS = 4, /* the internal write cycle ends */
+    SAPWOODLE_PIN_LOW = 5, /* Write Control */
+    SAPWOODLE_PIN_HIGH = 6,
+    SAPWOODLE_PIN_FLOATING = 7,
+    SAPWOODLE_RESET = 8,
+    SAPWOODLE_NO_LEVEL = 2 /* the chip answers a clock with 0, it pulls low, or 1, it releases; any other event with this */
+};
+
+/* ---- the state of a chip: 137 bytes. Every state has exactly one form, and the caller may keep, copy and compare it.
+ *
+ *     0, 1   the counter, high byte first
+ *     2      Write Control: 0 no pin, 1 low, 2 high, 3 floating
+ *     3      1 where this transfer is inhibited, else 0
+ *     4      1 where the identification page is locked, else 0
+ *     5      what the chip is doing
+ *              0      standby, or released until the next Start
+ *              1      receives a select code
+ *              2, 3   the first of two address bytes, for the array, for the identification page
+ *              4, 5   the last address byte, likewise
+ *              6, 7   array data; 7 once a byte was acknowledged
+ *              8, 9   identification data, likewise
+ *              10     a lock byte
+ *              11, 12 a lock byte was acknowledged; 12 where its bit 1 was set
+ *              13, 14 sends from the array, from the identification page
+ *              15, 16 in a write cycle of the array, of the identification page
+ *              17     in a locking cycle
+ *     6      the address byte before the last, in 4 and 5; else 0
+ *     7      bits of a byte still to come before the acknowledge, 0 to 8
+ *     8      the bits received of it
+ *     9      64 latches, one for each place of a page, of two bytes each, high byte first: a byte that is latched, or 256 and more
+ *            for none
+ *
+ * Bytes of another form, and states that no chip of the part can be in, are refused with 4. */
+#define SAPWOODLE_STATE_LENGTH 137
+
+/* A part as delivered: every byte FFh (but for the identification code of part 1), counter 0, unlocked, standby, pin floating.
+ * Refused with 1, 3, 4. */
+unsigned char sapwoodle_deliver(unsigned char part,
+    unsigned char *state, unsigned long state_length,
+    unsigned char *array, unsigned long array_length,
+    unsigned char *id, unsigned long id_length);
+
+/* One event. `level` gets the chip's answer, `cycles` the write cycles that the event began, 0 or 1; of a refused call no level and 0.
+ * Refused with 1 to 5. */
+unsigned char sapwoodle_step(unsigned char part, unsigned char enable,
+    unsigned char *state, unsigned long state_length,
+    unsigned char *array, unsigned long array_length,
+    unsigned char *id, unsigned long id_length,
+    unsigned char event,
+    unsigned char *level, unsigned long *cycles);
+
+/* Events, one byte each. `answers` gets a level for each, and keeps its further bytes; `cycles` the cycles begun, and `place` where the
+ * first wrong event stands if the answer is 5. Of any other refused call both are 0. Refused with 1 to 6, 13. */
+unsigned char sapwoodle_run(unsigned char part, unsigned char enable,
+    unsigned char *state, unsigned long state_length,
+    unsigned char *array, unsigned long array_length,
+    unsigned char *id, unsigned long id_length,
+    const unsigned char *events, unsigned long events_length,
+    unsigned char *answers, unsigned long answers_length,
+    unsigned long *cycles, unsigned long *place);
+
+/* ---- the image: what a chip stores and its lock as one string of bytes
+ *
+ *     0  'E' 'P' 'R'     3  00h 01h     5  part     6  lock, 0 or 1     7  the array, then the identification page */
+#define SAPWOODLE_IMAGE_MOST (7 + SAPWOODLE_ARRAY_MOST + SAPWOODLE_ID_MOST)
+
+/* The bytes as they stand, without what is latched or under way. `written` gets the length of the image, of a refused call 0; further
+ * bytes of `out` keep their values. Refused with 1, 3, 4, 6. */
+unsigned char sapwoodle_save(unsigned char part,
+    const unsigned char *state, unsigned long state_length,
+    const unsigned char *array, unsigned long array_length,
+    const unsigned char *id, unsigned long id_length,
+    unsigned char *out, unsigned long out_length,
+    unsigned long *written);
+
+/* A chip in standby as after reset, its pin floating. `part` gets the image's part byte, refused or not; 0 where it has none.
+ * Refused with 1, 2, 3, 4, 12; an image too short to hold its part byte is 12 at once. */
+unsigned char sapwoodle_load(const unsigned char *image, unsigned long image_length, unsigned char enable,
+    unsigned char *state, unsigned long state_length,
+    unsigned char *array, unsigned long array_length,
+    unsigned char *id, unsigned long id_length,
+    unsigned char *part);
+
+/* ---- the driver: it is asked for one event at a time, and told the level of the last clock */
+enum {
+    SAPWOODLE_WRITE = 0, /* what a request asks for; another number is refused with 7 */
+    SAPWOODLE_READ = 1,
+    SAPWOODLE_WRITE_ID = 2, /* the identification page */
+    SAPWOODLE_READ_ID = 3,
+    SAPWOODLE_NO_EVENT = 255 /* the driver has finished */
+};
+
+/* Its state: 35 bytes. Every state has exactly one form, and the caller may keep and copy it.
+ *
+ *     0, 1   part and enable of the request
+ *     2      1 for the identification page, 0 for the array
+ *     3      1 for a read, 0 for a write
+ *     4      what it is doing: 0 before a Start, or done; 1 to 7 inside a byte; 8 to 14 after the ninth clock of it (select, first
+ *            of two address bytes, last address byte, data, select of a poll, second select of a read, byte read); 15 after the Stop of
+ *            a page; 16 to 18 refused, with 9, 10, 11
+ *     5      clocks sent of the byte, in 1 to 7; else 0
+ *     6      bits told of a byte that is read
+ *     7      seven numbers of four bytes each, high byte first: address, length and budget of the request, bytes sent or got, bytes seen
+ *            to be done, polls for this page, polls in all */
+#define SAPWOODLE_DRIVER_LENGTH 35
+
+/* A driver for a request: `length` bytes at an address of the array, or at a location of the identification page. `budget` is the
+ * polls allowed for a page, 1 to 1,000; a read needs none. Refused with 1, 2, 4, 7, 8. */
+unsigned char sapwoodle_driver_begin(unsigned char part, unsigned char enable, unsigned char what,
+    unsigned long address, unsigned long length, unsigned long budget,
+    unsigned char *driver, unsigned long driver_length);
+
+/* One step. `level` is that of the last clock, 0 or 1 (more counts as 1); only that of an acknowledge and of a bit that is read matters.
+ * `data` is the same buffer at each step, of exactly the length asked for: the bytes to write, or where the bytes read go.
+ *
+ * `event` gets a clock, a Start or a Stop to send; or SAPWOODLE_NO_EVENT, and then the answer is 0, done, or the refusal that ended the
+ * driver, `polls` the polls spent and `bytes` the leading bytes that were seen to be written, or were read. With an event both are 0.
+ * A finished driver answers the same again. Refused with 9, 10, 11 after its Stop was sent, and with 4. */
+unsigned char sapwoodle_driver_next(unsigned char *driver, unsigned long driver_length,
+    unsigned char level,
+    unsigned char *data, unsigned long data_length,
+    unsigned char *event, unsigned long *polls, unsigned long *bytes);
+
+/* ---- driver and chip together, to the end
+ *
+ * `chip_enable` is the chip's own enable, `enable` the one that the driver selects. Each write cycle ends just before its poll number `d`,
+ * 1 to 65,535. `data` has the bytes to write, exactly `length`; or room for the bytes read, and keeps its further bytes.
+ * `polls` and `bytes` as above, `cycles` the write cycles begun, `clocks` the clocks sent; of a call refused with 1 to 8 all 0.
+ * Refused with 1 to 4, 6, 7, 8 before anything changes; with 9 to 11 by the driver, and then the chip is as the driver left it. */
+unsigned char sapwoodle_bench_run(unsigned char part, unsigned char enable, unsigned char what,
+    unsigned long address, unsigned long length, unsigned long budget,
+    unsigned char chip_enable, unsigned long d,
+    unsigned char *state, unsigned long state_length,
+    unsigned char *array, unsigned long array_length,
+    unsigned char *id, unsigned long id_length,
+    unsigned char *data, unsigned long data_length,
+    unsigned long *polls, unsigned long *bytes, unsigned long *cycles, unsigned long *clocks);
+
+/* ---- the trace program: a typed trace in, what the program prints out, `refused N` too. Answers the number of bytes written, at most
+ * 32,800; 0 where `out` is too short for them, and then it is as before. */
+unsigned long sapwoodle_trace(const unsigned char *text, unsigned long text_length,
+    unsigned char *out, unsigned long out_length);
+
+/* ---- lengths: of the array and the identification page of a part, 0 for a number that is no part; and the two above */
+unsigned long sapwoodle_array_length(unsigned char part);
+unsigned long sapwoodle_id_length(unsigned char part);
+unsigned long sapwoodle_state_length(void);
+unsigned long sapwoodle_driver_length(void);
+
+#ifdef __cplusplus
+}
+#endif
+
+#endif
