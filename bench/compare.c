@@ -1,0 +1,213 @@
+// The product and the plain C model in one process: first the same events to both, every level, every stored byte and the
+// cycles compared; then the events per second of each. Prints a line for each workload, and ends with 1 where they differ.
+#include "product.h"
+
+typedef long time_type;
+struct timespec {
+    time_type seconds;
+    long nanoseconds;
+};
+int clock_gettime(int, struct timespec *);
+int printf(const char *, ...);
+int memcmp(const void *, const void *, size_t);
+
+enum { ROOM = 32768, REPEATS = 40 };
+
+static uint8_t events[ROOM];
+
+struct world {
+    struct model chip;
+    uint8_t array[32768];
+    uint8_t id[64];
+    uint8_t answers[ROOM];
+    size_t cycles;
+};
+static struct world plain, product;
+
+// ---- events
+
+static uint64_t seed = 1;
+
+static unsigned random_below(unsigned n) {
+    seed ^= seed << 13;
+    seed ^= seed >> 7;
+    seed ^= seed << 17;
+    return (unsigned)((seed >> 20) % n);
+}
+
+struct list {
+    size_t n;
+    size_t end;
+};
+
+static void put(struct list *l, uint8_t event) {
+    if (l->n < l->end) events[l->n++] = event;
+}
+
+static void put_byte(struct list *l, unsigned byte, uint8_t ninth) {
+    for (int k = 7; k >= 0; k--) put(l, byte >> k & 1);
+    put(l, ninth);
+}
+
+static void put_address(struct list *l, unsigned part, unsigned enable, unsigned address) {
+    put(l, 2);
+    put_byte(l, 0xA0 | (part < 2 ? address >> 8 & 7 : enable) << 1, 1);
+    if (part >= 2) put_byte(l, address >> 8, 1);
+    put_byte(l, address & 0xFF, 1);
+}
+
+static unsigned page_of(unsigned part) { return part < 2 ? 16 : part < 4 ? 32 : 64; }
+
+// Whole pages written, one after the other.
+static size_t page_writes(unsigned part) {
+    struct list l = {0, ROOM};
+    unsigned page = page_of(part);
+    for (unsigned address = 0; l.n + 9 * (page + 3) + 3 <= ROOM; address += page) {
+        put_address(&l, part, 0, address);
+        for (unsigned i = 0; i < page; i++) put_byte(&l, random_below(256), 1);
+        put(&l, 3);
+        put(&l, 4);
+    }
+    return l.n;
+}
+
+// One long read.
+static size_t long_read(unsigned part) {
+    struct list l = {0, ROOM};
+    put_address(&l, part, 0, 0);
+    put(&l, 2);
+    put_byte(&l, 0xA1, 1);
+    while (l.n + 10 <= ROOM) put_byte(&l, 0xFF, l.n + 19 > ROOM);
+    put(&l, 3);
+    return l.n;
+}
+
+// A byte written, a hundred polls in its cycle and one after it.
+static size_t polling(unsigned part) {
+    struct list l = {0, ROOM};
+    for (unsigned address = 0; l.n + 1100 <= ROOM; address++) {
+        put_address(&l, part, 0, address);
+        put_byte(&l, random_below(256), 1);
+        put(&l, 3);
+        for (int poll = 0; poll <= 100; poll++) {
+            if (poll == 100) put(&l, 4);
+            put(&l, 2);
+            put_byte(&l, 0xA0, 1);
+        }
+        put(&l, 3);
+    }
+    return l.n;
+}
+
+// Transfers of every kind, cut and disturbed at random: what the comparison runs on.
+static size_t disturbed(unsigned part, unsigned enable, unsigned often) {
+    static const uint8_t loose[] = {0, 1, 2, 3, 4, 8, 5, 6, 7};
+    unsigned kinds = model_has_pin(part) ? 9 : 6;
+    struct list l = {0, ROOM};
+    while (l.n < ROOM) {
+        unsigned read = random_below(3) == 0, ident = random_below(3) == 0, bytes = random_below(2 * page_of(part) + 2);
+        unsigned code = (ident ? 0xB0 : 0xA0) | (random_below(8) ? enable : random_below(8)) << 1;
+        size_t begin = l.n;
+        if (random_below(4)) {
+            put(&l, 2);
+            put_byte(&l, code, 1);
+            if (part >= 2) put_byte(&l, random_below(256), 1);
+            put_byte(&l, random_below(256), 1);
+        }
+        if (read) {
+            put(&l, 2);
+            put_byte(&l, code | 1, 1);
+        }
+        for (unsigned i = 0; i < bytes; i++) put_byte(&l, read ? 0xFF : random_below(256), read ? i + 1 == bytes : 1);
+        if (random_below(4)) put(&l, 3);
+        if (random_below(3)) put(&l, 4);
+        for (size_t i = begin; i < l.n; i++)
+            if (random_below(often) == 0) events[i] = loose[random_below(kinds)];
+    }
+    return l.n;
+}
+
+// ---- runs
+
+static void fresh(unsigned part) {
+    model_deliver(part, &plain.chip, plain.array, plain.id);
+    product_deliver((uint8_t)part, product.array, product.id);
+}
+
+static void run_plain(unsigned part, unsigned enable, size_t n) {
+    plain.cycles = model_run(part, enable, &plain.chip, plain.array, plain.id, events, n, plain.answers);
+}
+
+static void run_product(unsigned part, unsigned enable, size_t n) {
+    product.cycles = product_run((uint8_t)part, (uint8_t)enable, product.array, product.id, events, n, product.answers);
+}
+
+static int same(unsigned part, unsigned enable, size_t n, const char *what) {
+    fresh(part);
+    run_plain(part, enable, n);
+    run_product(part, enable, n);
+    for (size_t i = 0; i < n; i++)
+        if (plain.answers[i] != product.answers[i]) {
+            printf("differ %s part %u enable %u at %zu: plain %u product %u\n", what, part, enable, i, plain.answers[i],
+                   product.answers[i]);
+            return 0;
+        }
+    if (plain.cycles == product.cycles && memcmp(plain.array, product.array, model_size(part)) == 0 &&
+        memcmp(plain.id, product.id, model_id_size(part)) == 0)
+        return 1;
+    printf("differ %s part %u enable %u: stored bytes or cycles\n", what, part, enable);
+    return 0;
+}
+
+static double seconds_of(void (*run)(unsigned, unsigned, size_t), unsigned part, size_t n, int rounds) {
+    struct timespec a, b;
+    clock_gettime(1, &a);
+    for (int k = 0; k < rounds; k++) {
+        plain.chip = (struct model){0};
+        run(part, 0, n);
+    }
+    clock_gettime(1, &b);
+    return (double)(b.seconds - a.seconds) + 1e-9 * (double)(b.nanoseconds - a.nanoseconds);
+}
+
+static void measure(const char *name, unsigned part, size_t n) {
+    int rounds = 1;
+    while (seconds_of(run_plain, part, n, rounds) < 0.003) rounds *= 2;
+    double best_plain = 1e9, best_product = 1e9;
+    for (int k = 0; k < REPEATS; k++) {
+        double a = seconds_of(run_plain, part, n, rounds), b = seconds_of(run_product, part, n, rounds);
+        if (a < best_plain) best_plain = a;
+        if (b < best_product) best_product = b;
+    }
+    double all = (double)n * rounds;
+    printf("workload=%s part=%u events=%zu plain_per_second=%.0f product_per_second=%.0f ratio=%.2f\n", name, part, n,
+           all / best_plain, all / best_product, best_product / best_plain);
+}
+
+int main(int argc, char **argv) {
+    unsigned part = argc > 1 ? (unsigned)(argv[1][0] - '0') : 5;
+    static size_t (*const make[3])(unsigned) = {page_writes, long_read, polling};
+    static const char *const name[3] = {"page_writes", "long_read", "polling"};
+    size_t compared = 0;
+    for (unsigned p = 0; p < 6; p++) {
+        for (int w = 0; w < 3; w++) {
+            size_t n = make[w](p);
+            if (!same(p, 0, n, name[w])) return 1;
+            compared += n;
+        }
+        for (unsigned k = 0; k < 40; k++) {
+            unsigned enable = p < 2 ? 0 : random_below(8);
+            size_t n = disturbed(p, enable, k % 4 == 0 ? 1000000 : 1u << (k % 12));
+            if (!same(p, enable, n, "disturbed")) return 1;
+            compared += n;
+        }
+    }
+    printf("compared events=%zu parts=6 same=yes\n", compared);
+    if (part > 5) return 1;
+    for (int w = 0; w < 3; w++) {
+        size_t n = make[w](part);
+        fresh(part);
+        measure(name[w], part, n);
+    }
+    return 0;
+}
