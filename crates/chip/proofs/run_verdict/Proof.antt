@@ -1,14 +1,13 @@
 use Rattle.chip.specs.Calls.{runVerdictOf}
-use native.Mathlib.Omega.{arith}
 use borrow.Author.Needs.{needs}
 use Rattle.chip.proofs.run_verdict.Statement.{statement}
 use Rattle.chip.proofs.run_verdict.Tie as tie
 use Rattle.chip.proofs.run_verdict.Reads as reads
 use Rattle.chip.proofs.run_verdict.Lts as lts
 use Rattle.chip.proofs.buffers_right.Reads as buffers-right-reads
+use Rattle.chip.proofs.first_bad.Reads as first-bad-reads
 use Rattle.chip.proofs.is_bad.Reads as is-bad-reads
 use Rattle.chip.proofs.place_of.Reads as place-of-reads
-use Rattle.chip.proofs.scanned.Reads as scanned-reads
 use Rattle.parts.proofs.enable_right.Reads as enable-right-reads
 use Rattle.parts.proofs.facts_of.Reads as facts-of-reads
 use Rattle.parts.proofs.given.Reads as given-reads
@@ -26,8 +25,8 @@ buffers-right-requires c κs = search needs
 in-range-requires : tie.Need-in-range-requires
 in-range-requires c κs = search needs
 
-scanned-requires : tie.Need-scanned-requires
-scanned-requires c κs = search needs
+first-bad-requires : tie.Need-first-bad-requires
+first-bad-requires c κs = search needs
 
 is-bad-requires : tie.Need-is-bad-requires
 is-bad-requires c κs = search needs
@@ -40,7 +39,7 @@ given-requires c κs = search needs
 
 returns : tie.Need-returns
 unfolding runVerdictOf
-returns c = rw (c .given .ensures, c .before .place-of .ensures, c .before .before .is-bad .ensures, c .before .before .before .scanned .ensures, c .before .before .before .before .in-range .ensures, c .before .before .before .before .before .buffers-right .ensures, c .before .before .before .before .before .before .enable-right .ensures, c .before .before .before .before .before .before .before .facts-of .ensures .0)
+returns c = rw (c .given .ensures, c .before .place-of .ensures, c .before .before .is-bad .ensures, c .before .before .before .first-bad .ensures, c .before .before .before .before .in-range .ensures, c .before .before .before .before .before .buffers-right .ensures, c .before .before .before .before .before .before .enable-right .ensures, c .before .before .before .before .before .before .before .facts-of .ensures .0)
 
 pub run-verdict-spec : {M : Type 1} → statement M
 run-verdict-spec =
@@ -50,7 +49,7 @@ run-verdict-spec =
     enable-right-requires
     buffers-right-requires
     in-range-requires
-    scanned-requires
+    first-bad-requires
     is-bad-requires
     place-of-requires
     given-requires
