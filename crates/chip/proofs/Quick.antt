@@ -1,17 +1,16 @@
 -- Events that leave latches and memory alone and begin no cycle: what the definitions say of them. The quick ways of the code
 -- rest on this.
 -- Assumes nothing.
-use Prim.Native.Nat.{ℕ, zero, suc, _+_, _-_, _*_, _%_, _≤_, _<_}
+use Prim.Native.Nat.{ℕ, zero, suc, _+_, _-_, _*_, _/_, _%_, _≤_, _<_}
 use mathlib.Core.Path.{_≡_, sym, refl, subst}
-use mathlib.Core.Bool.{Bool, true, false}
+use mathlib.Core.Bool.{Bool, true, false, _&&_}
 use mathlib.Core.List.{List, [], _∷_}
 use native.Mathlib.Omega.{arith}
 use lib.ListN.{length, getD, drop, set, drop-of-length-le}
 use lib.Seq.{drop-cons}
 use native.Mathlib.Numerals.{add-one}
 use lib.Dec.{eqb, ltb}
-use borrow.Author.Tests.{eqb-true, ltb-true, ltb-false, lt-ltb, le-ltb, ne-eqb}
-use Rattle.parts.proofs.Laws.{branch}
+use borrow.Author.Tests.{ltb-true, le-ltb}
 use Rattle.parts.specs.declared.Facts.{Facts}
 use Rattle.parts.specs.declared.Event.{Event}
 use Rattle.parts.specs.declared.Event.the-variants.{Clock, Start, Stop}
@@ -24,13 +23,14 @@ use Rattle.line.specs.declared.Phase.the-variants.{Idle, Receive, Send, Busy}
 use Rattle.line.specs.declared.Act.the-variants.{Keep}
 use Rattle.line.specs.declared.Core.{Core}
 use Rattle.line.specs.declared.Line.{Line}
-use Rattle.line.specs.Rules.{bitNumber, sentOf, sendLevelOf, clockedOf, clockActOf, clockLevelOf, startedOf, startActOf, stoppedOf, stopActOf, stopBegunOf, nextOf, actOf, levelOf, begunOf}
+use Rattle.line.specs.Rules.{bitNumber, sentOf, clockedOf, clockActOf, clockLevelOf, startedOf, startActOf, stoppedOf, stopActOf, stopBegunOf, nextOf, actOf, levelOf, begunOf}
 use Rattle.line.proofs.Laws.{received-bit}
 use Rattle.state.specs.declared.Chip.{Chip}
 use Rattle.chip.specs.declared.Scan.the-variants.{Clean}
 use Rattle.chip.specs.Calls.{scanOf}
 use Rattle.chip.specs.Memory.{Mem, chip, isEnd, storeOf, stateOf, answerOf, shownOf, seenOf}
-use Rattle.chip.specs.Onward.{Leads, Coasts, ignoresOf, ignoredOf, goesOnOf, largerOf, highestOf}
+use Rattle.chip.specs.declared.Sent.{Sent}
+use Rattle.chip.specs.Onward.{Leads, Coasts, taking, sending, sentOn, ignoresOf, allLowOf}
 use Rattle.chip.proofs.Turns.{leads-on, leads-then, leads-none}
 
 -- an event that takes the line to another one and answers a level, and no more
@@ -60,7 +60,7 @@ module _ (f : Facts) (m : Mem) (l : Line) where
   unfolding nextOf actOf levelOf begunOf stoppedOf stopActOf stopBegunOf
   busy-stop y h = record { next = λ en. rw h refl; act = λ en. rw h refl; level = λ en. refl; begun = rw h refl; stays = refl }
 
-  ignored-in : (q : Phase) (e : ℕ) → l .phase ≡ q → e < ignoresOf q → Passes f m l (eventOf e) l (ignoredOf e)
+  ignored-in : (q : Phase) (e : ℕ) → l .phase ≡ q → e < ignoresOf q → Passes f m l (eventOf e) l (1 + e / 2)
   unfolding eventOf
   ignored-in Idle zero h k = idle-clock false h
   ignored-in Idle (suc zero) h k = idle-clock true h
@@ -73,7 +73,7 @@ module _ (f : Facts) (m : Mem) (l : Line) where
   ignored-in (Busy y) (suc (suc (suc zero))) h k = busy-stop y h
   ignored-in (Busy y) (suc (suc (suc (suc e)))) h k = absurd (omega arith)
 
-  pub passes-ignored : (e : ℕ) → e < ignoresOf (l .phase) → Passes f m l (eventOf e) l (ignoredOf e)
+  pub passes-ignored : (e : ℕ) → e < ignoresOf (l .phase) → Passes f m l (eventOf e) l (1 + e / 2)
   passes-ignored e h = ignored-in (l .phase) e refl h
 
 -- ---- codes of clocks
@@ -91,9 +91,6 @@ clock-bit (suc (suc e)) h = absurd (omega arith)
 
 -- ---- a bit that comes in
 
-abbrev taking : Core → Recv → ℕ → ℕ → Line
-taking c r n x = record { core = c; phase = Receive r; left = n; shift = x }
-
 bit-in : (f : Facts) (m : Mem) (c : Core) (r : Recv) (n x : ℕ) (v : Bool) → 0 < n → Passes f m (taking c r n x) (Clock v) (taking c r (n - 1) (x % 128 * 2 + bitNumber v)) 1
 unfolding nextOf actOf levelOf begunOf clockedOf clockActOf clockLevelOf
 bit-in f m c r n x v h =
@@ -105,58 +102,29 @@ bit-in f m c r n x v h =
       stays = refl;
     }
 
-code-in : (f : Facts) (m : Mem) (c : Core) (r : Recv) (n x e : ℕ) → 0 < n → e < 2 → Passes f m (taking c r n x) (eventOf e) (taking c r (n - 1) (x % 128 * 2 + e)) 1
-code-in f m c r n x e h k =
-    rw (clock-code e k) (rw (clock-bit e k) at (bit-in f m c r n x (eqb e 1) h))
-
-pub passes-in : (f : Facts) (m : Mem) (l : Line) (r : Recv) (e : ℕ) → l .phase ≡ Receive r → 0 < l .left → e < 2
-    → Passes f m l (eventOf e) (taking (l .core) r (l .left - 1) (l .shift % 128 * 2 + e)) 1
-passes-in f m l r e p h k =
-    subst (λ (q : Phase). Passes f m (record { core = l .core; phase = q; left = l .left; shift = l .shift }) (eventOf e) (taking (l .core) r (l .left - 1) (l .shift % 128 * 2 + e)) 1)
-    (sym p)
-    (code-in f m (l .core) r (l .left) (l .shift) e h k)
+pub passes-in : (f : Facts) (m : Mem) (c : Core) (r : Recv) (n x e : ℕ) → 0 < n → e < 2 → Passes f m (taking c r n x) (eventOf e) (taking c r (n - 1) (x % 128 * 2 + e)) 1
+passes-in f m c r n x e h k = rw (clock-code e k) (rw (clock-bit e k) at (bit-in f m c r n x (eqb e 1) h))
 
 -- ---- a bit that goes out
 
-abbrev sending : Core → Target → ℕ → ℕ → Line
-sending c t n x = record { core = c; phase = Send t; left = n; shift = x }
-
--- only the ninth clock reads the master's level
-sent-any : (f : Facts) (l : Line) (v : Bool) (t : Target) (n : ℕ) → goesOnOf n (bitNumber v) ≡ true → sentOf f l v t n ≡ sentOf f l false t n
-unfolding sentOf goesOnOf
-sent-any f l false t n h = refl
-sent-any f l true t zero h = cc
-sent-any f l true t (suc k) h = refl
-
--- a read that goes on stays a read
-pub sent-phase : (f : Facts) (l : Line) (t : Target) (n : ℕ) → sentOf f l false t n .phase ≡ Send t
+-- only the ninth clock reads the master's level, and a read that goes on stays a read
+sent-on : (f : Facts) (l : Line) (v : Bool) (t : Target) (n : ℕ) → bitNumber v ≤ n
+    → sentOf f l v t n ≡ sending (sentOf f l false t n .core) t (sentOf f l false t n .left) (sentOf f l false t n .shift)
 unfolding sentOf
-sent-phase f l t zero = refl
-sent-phase f l t (suc k) = refl
+sent-on f l false t zero h = refl
+sent-on f l false t (suc k) h = refl
+sent-on f l true t zero h = absurd (omega arith)
+sent-on f l true t (suc k) h = refl
 
-goes-clock : (n e : ℕ) → goesOnOf n e ≡ true → e < 2
-unfolding goesOnOf
-goes-clock zero e h = let z : e ≡ 0 = eqb-true e 0 h in omega arith
-goes-clock (suc n) e h = ltb-true e 2 (rw (ne-eqb (suc n) 0 (λ z. omega arith)) at h)
+module _ (f : Facts) (m : Mem) (c : Core) (t : Target) (n x : ℕ) (s : Sent) (q : s ≡ sentOn f c t n x (shownOf f (c .counter) m t)) where
+  bit-out : (v : Bool) → bitNumber v ≤ n → Passes f m (sending c t n x) (Clock v) (sending (s .core) t (s .left) (s .shift)) (s .level)
+  unfolding nextOf actOf levelOf begunOf clockedOf clockActOf clockLevelOf seenOf sentOn
+  bit-out v h =
+      rw q
+      (record { next = λ en. sent-on f (sending c t n x) v t n h; act = λ en. refl; level = λ en. refl; begun = refl; stays = refl })
 
-bit-out : (f : Facts) (m : Mem) (c : Core) (t : Target) (n x : ℕ) (v : Bool) → goesOnOf n (bitNumber v) ≡ true
-    → Passes f m (sending c t n x) (Clock v) (sentOf f (sending c t n x) false t n) (sendLevelOf (shownOf f (c .counter) m t) n)
-unfolding nextOf actOf levelOf begunOf clockedOf clockActOf clockLevelOf seenOf
-bit-out f m c t n x v h =
-    record { next = λ en. sent-any f (sending c t n x) v t n h; act = λ en. refl; level = λ en. refl; begun = refl; stays = refl }
-
-code-out : (f : Facts) (m : Mem) (c : Core) (t : Target) (n x e : ℕ) → goesOnOf n e ≡ true
-    → Passes f m (sending c t n x) (eventOf e) (sentOf f (sending c t n x) false t n) (sendLevelOf (shownOf f (c .counter) m t) n)
-code-out f m c t n x e h =
-    let k : e < 2 = goes-clock n e h in
-    rw (clock-code e k) (bit-out f m c t n x (eqb e 1) (rw (clock-bit e k) h))
-
-pub passes-out : (f : Facts) (m : Mem) (l : Line) (t : Target) (e : ℕ) → l .phase ≡ Send t → goesOnOf (l .left) e ≡ true
-    → Passes f m l (eventOf e) (sentOf f l false t (l .left)) (sendLevelOf (shownOf f (l .core .counter) m t) (l .left))
-passes-out f m l t e p h =
-    subst (λ (q : Phase). Passes f m (record { core = l .core; phase = q; left = l .left; shift = l .shift }) (eventOf e) (sentOf f (record { core = l .core; phase = q; left = l .left; shift = l .shift }) false t (l .left)) (sendLevelOf (shownOf f (l .core .counter) m t) (l .left)))
-    (sym p)
-    (code-out f m (l .core) t (l .left) (l .shift) e h)
+  pub passes-out : (e : ℕ) → e < 2 → e ≤ n → Passes f m (sending c t n x) (eventOf e) (sending (s .core) t (s .left) (s .shift)) (s .level)
+  passes-out e k h = rw (clock-code e k) (bit-out (eqb e 1) (rw (clock-bit e k) h))
 
 -- ---- such an event in a run
 
@@ -171,40 +139,47 @@ module _ (f : Facts) (m : Mem) (es : List ℕ) (l : Line) (a : List ℕ) (i : �
       leads-then f en es (chip l k) m a i (chip l′ k) (chip l″ k) m m a′ (set a′ i′ x) i′ (i′ + 1) 0 0 (g en k)
       (leads-on f en es (chip l′ k) m a′ i′ h j (chip l″ k) m x 0 (rw (p .next en, p .act en) refl) (rw (p .stays) refl) (sym (p .level en)) (sym (p .begun)))
 
-  pub coast-then : (l′ : Line) (a′ : List ℕ) (i′ : ℕ) → Coasts f m es l a i l′ a′ i′ → (en : ℕ) (k : List ℕ) (c″ : Chip) (m″ : Mem) (a″ : List ℕ) (i″ n : ℕ)
-      → Leads f en es (chip l′ k) m a′ i′ c″ m″ a″ i″ n
-      → Leads f en es (chip l k) m a i c″ m″ a″ i″ n
-  coast-then l′ a′ i′ g en k c″ m″ a″ i″ n h =
-      let none : 0 + n ≡ n = omega arith in
-      subst (λ (z : ℕ). Leads f en es (chip l k) m a i c″ m″ a″ i″ z) none (leads-then f en es (chip l k) m a i (chip l′ k) c″ m m″ a′ a″ i′ i″ 0 n (g en k) h)
+-- a stretch keeps the phase
+pub coast-in : (f : Facts) (m : Mem) (es : List ℕ) (l : Line) (q : Phase) (a : List ℕ) (i : ℕ) (c : Core) (n x : ℕ) (a′ : List ℕ) (i′ : ℕ) → l .phase ≡ q
+    → Coasts f m es (record { core = l .core; phase = q; left = l .left; shift = l .shift }) a i (record { core = c; phase = q; left = n; shift = x }) a′ i′
+    → Coasts f m es l a i (record { core = c; phase = l .phase; left = n; shift = x }) a′ i′
+coast-in f m es l q a i c n x a′ i′ h g =
+    subst (λ (z : Phase). Coasts f m es (record { core = l .core; phase = z; left = l .left; shift = l .shift }) a i (record { core = c; phase = z; left = n; shift = x }) a′ i′) (sym h) g
+
+-- a run that has come to the start of a stretch comes to its end
+pub coasted : (f : Facts) (en : ℕ) (es : List ℕ) (c₀ : Chip) (m₀ : Mem) (a₀ : List ℕ) (i₀ : ℕ) (l l′ : Line) (k : List ℕ) (m : Mem) (a a′ : List ℕ) (i i′ n : ℕ)
+    → Leads f en es c₀ m₀ a₀ i₀ (chip l k) m a i n
+    → Coasts f m es l a i l′ a′ i′
+    → Leads f en es c₀ m₀ a₀ i₀ (chip l′ k) m a′ i′ n
+coasted f en es c₀ m₀ a₀ i₀ l l′ k m a a′ i i′ n x y =
+    let same : n + 0 ≡ n = omega arith in
+    subst (λ (z : ℕ). Leads f en es c₀ m₀ a₀ i₀ (chip l′ k) m a′ i′ z) same
+    (leads-then f en es c₀ m₀ a₀ i₀ (chip l k) (chip l′ k) m m a a′ i i′ n 0 x (y en k))
 
 -- ---- where every part takes each event
 
-larger-both : (a b : ℕ) → (a ≤ largerOf a b) × (b ≤ largerOf a b)
-larger-both a b =
-    branch (λ (z : ℕ). (a ≤ z) × (b ≤ z)) (ltb a b) (λ t. (omega (arith, ltb-true a b t), omega arith)) (λ t. (omega arith, omega (arith, ltb-false a b t)))
+low-before : (low : Bool) (es : List ℕ) → allLowOf low es ≡ true → low ≡ true
+unfolding allLowOf
+low-before low [] h = h
+low-before true (e ∷ es) h = refl
+low-before false (e ∷ es) h = low-before false es h
 
-highest-more : (top : ℕ) (es : List ℕ) → top ≤ highestOf top es
-unfolding highestOf
-highest-more top [] = omega arith
-highest-more top (e ∷ es) = omega (arith, larger-both top e .0, highest-more (largerOf top e) es)
-
-low-right : (pin : Bool) (e : ℕ) → e < 5 → eventRightOf pin e ≡ true
+low-right : (pin : Bool) (e : ℕ) → ltb e 5 ≡ true → eventRightOf pin e ≡ true
 unfolding eventRightOf
-low-right true e h = rw (le-ltb 8 e (omega arith)) refl
-low-right false e h = rw (le-ltb 8 e (omega arith), lt-ltb e 5 h) refl
+low-right true e h = rw (le-ltb 8 e (omega (arith, ltb-true e 5 h))) refl
+low-right false e h = rw (le-ltb 8 e (omega (arith, ltb-true e 5 h)), h) refl
 
-pub scan-clear : (pin : Bool) (k top : ℕ) (es : List ℕ) → highestOf top es < 5 → Clean ≡ scanOf pin k es
-unfolding highestOf
-scan-clear pin k top [] h = refl
-scan-clear pin k top (e ∷ es) h =
-    let small : e < 5 = omega (arith, larger-both top e .1, highest-more (largerOf top e) es) in
-    rw (low-right pin e small) (scan-clear pin (suc k) (largerOf top e) es h)
+pub scan-clear : (pin : Bool) (k : ℕ) (es : List ℕ) → allLowOf true es ≡ true → Clean ≡ scanOf pin k es
+unfolding allLowOf
+scan-clear pin k [] h = refl
+scan-clear pin k (e ∷ es) h =
+    let small : ltb e 5 ≡ true = low-before (ltb e 5) es h in
+    rw (low-right pin e small) (scan-clear pin (suc k) es (rw small at h))
 
-pub highest-step : (top i : ℕ) (es : List ℕ) → i < length es → highestOf (largerOf top (getD es i 0)) (drop (i + 1) es) ≡ highestOf top (drop i es)
-unfolding highestOf
-highest-step top i es h = rw (add-one, drop-cons es i 0) refl
+pub low-step : (low : Bool) (i : ℕ) (es : List ℕ) → i < length es → allLowOf (low && ltb (getD es i 0) 5) (drop (i + 1) es) ≡ allLowOf low (drop i es)
+unfolding allLowOf
+low-step low i es h = rw (add-one, drop-cons es i 0) refl
 
-pub highest-end : (top i : ℕ) (es : List ℕ) → length es ≤ i → highestOf top (drop i es) ≡ top
-unfolding highestOf
-highest-end top i es h = rw (drop-of-length-le es h) refl
+pub low-end : (low : Bool) (i : ℕ) (es : List ℕ) → length es ≤ i → allLowOf low (drop i es) ≡ low
+unfolding allLowOf
+low-end low i es h = rw (drop-of-length-le es h) refl

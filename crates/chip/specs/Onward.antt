@@ -3,15 +3,20 @@
 -- Assumes nothing.
 use Prim.Native.Nat.{ℕ, _+_, _≤_}
 use mathlib.Core.Path.{_≡_}
-use mathlib.Core.Bool.{Bool, cond}
+use mathlib.Core.Bool.{Bool, false, _&&_}
 use mathlib.Core.List.{List, [], _∷_, _++_}
 use lib.ListN.{length, take, drop}
-use lib.Dec.{eqb, ltb}
+use lib.Dec.{ltb}
 use Rattle.parts.specs.declared.Facts.{Facts}
 use Rattle.line.specs.declared.Phase.{Phase}
 use Rattle.line.specs.declared.Phase.the-variants.{Idle, Receive, Send, Busy}
+use Rattle.line.specs.declared.Target.{Target}
+use Rattle.line.specs.declared.Recv.{Recv}
+use Rattle.line.specs.declared.Core.{Core}
 use Rattle.line.specs.declared.Line.{Line}
+use Rattle.line.specs.Rules.{sentOf, sendLevelOf}
 use Rattle.state.specs.declared.Chip.{Chip}
+use Rattle.chip.specs.declared.Sent.{Sent}
 use Rattle.chip.specs.Memory.{Mem, chip}
 use Rattle.chip.specs.Runs.{afterOf, memoryOf, levelsOf, cyclesOf}
 
@@ -29,6 +34,19 @@ pub record Leads (f : Facts) (en : ℕ) (es : List ℕ) (c : Chip) (m : Mem) (a 
 abbrev pub Coasts : Facts → Mem → List ℕ → Line → List ℕ → ℕ → Line → List ℕ → ℕ → Type 0
 Coasts f m es l a i l′ a′ i′ = (en : ℕ) (k : List ℕ) → Leads f en es (chip l k) m a i (chip l′ k) m a′ i′ 0
 
+-- a byte comes in
+abbrev pub taking : Core → Recv → ℕ → ℕ → Line
+taking c r n x = record { core = c; phase = Receive r; left = n; shift = x }
+
+-- a byte goes out
+abbrev pub sending : Core → Target → ℕ → ℕ → Line
+sending c t n x = record { core = c; phase = Send t; left = n; shift = x }
+
+-- a clock of a read that goes on (rule 8)
+unfoldable pub sentOn : Facts → Core → Target → ℕ → ℕ → ℕ → Sent
+sentOn f c t n x b =
+    record { core = sentOf f (sending c t n x) false t n .core; left = sentOf f (sending c t n x) false t n .left; shift = sentOf f (sending c t n x) false t n .shift; level = sendLevelOf b n }
+
 -- the codes below this are ignored: clocks where the chip waits for a Start (rule 1), Start and Stop too in a cycle (rule 7)
 abbrev pub ignoresOf : Phase → ℕ
 ignoresOf Idle = 2
@@ -36,18 +54,7 @@ ignoresOf (Receive r) = 0
 ignoresOf (Send t) = 0
 ignoresOf (Busy y) = 4
 
--- an ignored clock is released
-abbrev pub ignoredOf : ℕ → ℕ
-ignoredOf e = cond (ltb e 2) 1 2
-
--- a read goes on with this clock: any bit, and 0 at the ninth (rule 8)
-unfoldable pub goesOnOf : ℕ → ℕ → Bool
-goesOnOf left e = cond (eqb left 0) (eqb e 0) (ltb e 2)
-
--- the highest code of a list
-abbrev pub largerOf : ℕ → ℕ → ℕ
-largerOf a b = cond (ltb a b) b a
-
-unfoldable pub highestOf : ℕ → List ℕ → ℕ
-highestOf top [] = top
-highestOf top (e ∷ es) = highestOf (largerOf top e) es
+-- every part takes the codes below 5
+unfoldable pub allLowOf : Bool → List ℕ → Bool
+allLowOf low [] = low
+allLowOf low (e ∷ es) = allLowOf (low && ltb e 5) es

@@ -4,14 +4,15 @@ ghost use Prim.Native.Nat.{_+_, _<_, _≤_};
 ghost use lib.ListN.{length, set, take, drop, getD, replicate};
 ghost use Rattle.parts.specs.Table.{factsOf, idSizeOf};
 ghost use Rattle.chip.specs.Runs.{afterOf, memoryOf, levelsOf, cyclesOf};
-ghost use Rattle.chip.specs.Onward.{Leads, Coasts, ignoresOf, ignoredOf, goesOnOf, largerOf, highestOf};
+ghost use Rattle.chip.specs.Onward.{Coasts, taking, sending, sentOn, ignoresOf, allLowOf};
 ghost use Rattle.chip.specs.Delivery.{pinAtFirstOf, standbyOf, codedOf, deliveredOf};
 ghost use Rattle.chip.specs.Calls.{deliverVerdictOf, deliverMem, stepVerdictOf, stepBy, stepMem, scanOf, isBad, placeOf, runVerdictOf, runBy, runMem, runAnswers};
-ghost use mathlib.Core.Bool.{cond, false};
+ghost use mathlib.Core.Bool.{cond, true, false};
 ghost use mathlib.Core.List.{_++_};
 ghost use lib.Dec.{eqb};
 ghost use Rattle.line.specs.Rules.{moveOf, actOf};
 ghost use Rattle.parts.specs.declared.Facts.{Facts};
+ghost use Rattle.line.specs.declared.Recv.{Recv};
 ghost use Rattle.chip.specs.Memory.{Mem, noLatch, latchOf, oneOf, enteredOf, pageStartOf, mem, committedOf, cycleStoredOf, storedOf, isEnd, storeOf, shownOf, seenOf, chip};
 use line::Act;
 use line::Core;
@@ -20,7 +21,6 @@ use line::Line;
 use line::Move;
 use line::Phase;
 use line::Pin;
-use line::Recv;
 use line::Target;
 use parts::Event;
 use parts::Faults;
@@ -298,28 +298,28 @@ fn step_verdict(part: u8, enable: u8, chip: Chip, n: usize, d: usize, code: u8) 
     })
 }
 
-fn larger(a: u8, b: u8) -> u8
-    ensures { λ r. ⌜ r ≡ largerOf a b ⌝ }
+// Whether every part takes each of the events.
+fn all_low(events: &[u8]) -> bool
+    ensures { λ r. ⌜ r ≡ allLowOf true (now (events .entry)) ⌝ }
 {
-    if a < b { b } else { a }
-}
-
-fn highest(events: &[u8]) -> u8
-    ensures { λ r. ⌜ r ≡ highestOf 0 (now (events .entry)) ⌝ }
-{
-    let mut top = 0;
+    let mut low = true;
     let mut i = 0;
     while i < events.len() {
-        top = larger(top, events[i]);
+        low = low & (events[i] < 5);
         i += 1;
     }
-    top
+    low
 }
 
 // Where the first event stands that the part does not take.
 fn first_bad(pin: bool, events: &[u8]) -> Scan
     ensures { λ r. ⌜ r ≡ scanOf pin 0 (now (events .entry)) ⌝ }
 {
+    // The usual case, without a way out in each turn.
+    let low = all_low(events);
+    if low {
+        return Scan::Clean;
+    }
     let mut i = 0;
     while i < events.len() {
         let taken = parts::event_right(pin, events[i]);
@@ -329,17 +329,6 @@ fn first_bad(pin: bool, events: &[u8]) -> Scan
         i += 1;
     }
     Scan::Clean
-}
-
-// The same; where every part takes each of the events, without a test for each.
-fn scanned(pin: bool, events: &[u8]) -> Scan
-    ensures { λ r. ⌜ r ≡ scanOf pin 0 (now (events .entry)) ⌝ }
-{
-    let top = highest(events);
-    if top < 5 {
-        return Scan::Clean;
-    }
-    first_bad(pin, events)
 }
 
 fn is_bad(scan: Scan) -> bool
@@ -377,7 +366,7 @@ fn run_verdict(
     let enabled = parts::enable_right(f, enable);
     let lent = parts::buffers_right(f, n, d);
     let ranged = state::in_range(part, chip);
-    let found = scanned(pin, events);
+    let found = first_bad(pin, events);
     let bad = is_bad(found);
     let place = place_of(found);
     parts::given(Faults {
@@ -526,115 +515,159 @@ pub fn step(part: u8, enable: u8, chip: Chip, array: &mut [u8], id: &mut [u8], c
 
 // ---- a list of events
 
-// Where a stretch of events ended.
+// Where a stretch of events ended. Of the line only this has moved.
 struct Stretch {
-    line: Line,
+    core: Core,
+    left: u8,
+    shift: u8,
     at: usize,
 }
 
-fn ignores(phase: Phase) -> u8
-    ensures { λ r. ⌜ r ≡ ignoresOf phase ⌝ }
-{
-    match phase {
-        Phase::Idle => 2,
-        Phase::Receive(_) => 0,
-        Phase::Send(_) => 0,
-        Phase::Busy(_) => 4,
-    }
-}
-
-fn ignored(code: u8) -> u8
-    ensures { λ r. ⌜ r ≡ ignoredOf code ⌝ }
-{
-    if code < 2 { 1 } else { 2 }
-}
-
-// Events that the chip ignores.
-fn hold(line: Line, events: &[u8], answers: &mut [u8], from: usize) -> Stretch
+// Events that the chip ignores: those of the codes below a limit.
+fn hold(limit: u8, events: &[u8], answers: &mut [u8], from: usize) -> usize
     requires { ⌜ (from ≤ length (now events)) × (length (now events) ≤ length (now answers)) ⌝ }
-    ensures { λ r. ⌜ ((f : Facts) (m : Mem) → Coasts f m (now (events .entry)) line (now (answers .entry)) from (r .line) (now (answers .exit)) (r .at)) ⌝ }
+    ensures { λ r. ⌜ ((f : Facts) (m : Mem) (l : Line) → limit ≤ ignoresOf (l .phase) → Coasts f m (now (events .entry)) l (now (answers .entry)) from l (now (answers .exit)) r) ⌝ }
 {
-    let phase = line.phase;
-    let limit = ignores(phase);
     let mut i = from;
     while i < events.len() {
         let code = events[i];
         if limit <= code {
-            return Stretch { line: line, at: i };
+            return i;
         }
-        answers[i] = ignored(code);
+        answers[i] = 1 + code / 2;
         i += 1;
     }
-    Stretch { line: line, at: i }
+    i
 }
 
 // Bits of a byte that comes in, before its acknowledge.
-fn bits_in(line: Line, recv: Recv, events: &[u8], answers: &mut [u8], from: usize) -> Stretch
-    requires { ⌜ (from ≤ length (now events)) × (length (now events) ≤ length (now answers)) × (line .phase ≡ Phase.Receive recv) ⌝ }
-    ensures { λ r. ⌜ ((f : Facts) (m : Mem) → Coasts f m (now (events .entry)) line (now (answers .entry)) from (r .line) (now (answers .exit)) (r .at)) ⌝ }
+fn bits_in(
+    core: Core,
+    left: u8,
+    shift: u8,
+    events: &[u8],
+    answers: &mut [u8],
+    from: usize,
+) -> Stretch
+    requires { ⌜ (from ≤ length (now events)) × (length (now events) ≤ length (now answers)) ⌝ }
+    ensures { λ r. ⌜ ((f : Facts) (m : Mem) (v : Recv) → Coasts f m (now (events .entry)) (taking core v left shift) (now (answers .entry)) from (taking (r .core) v (r .left) (r .shift)) (now (answers .exit)) (r .at)) ⌝ }
 {
-    let mut l = line;
+    let mut n = left;
+    let mut x = shift;
     let mut i = from;
     while i < events.len() {
         let code = events[i];
         if 1 < code {
-            return Stretch { line: l, at: i };
+            return Stretch {
+                core: core,
+                left: n,
+                shift: x,
+                at: i,
+            };
         }
-        let left = l.left;
-        if left == 0 {
-            return Stretch { line: l, at: i };
+        if n == 0 {
+            return Stretch {
+                core: core,
+                left: n,
+                shift: x,
+                at: i,
+            };
         }
         answers[i] = 1;
-        l = Line {
-            phase: Phase::Receive(recv),
-            left: left - 1,
-            shift: l.shift % 128 * 2 + code,
-            ..l
-        };
+        x = x % 128 * 2 + code;
+        n -= 1;
         i += 1;
     }
-    Stretch { line: l, at: i }
+    Stretch {
+        core: core,
+        left: n,
+        shift: x,
+        at: i,
+    }
 }
 
-fn goes_on(left: u8, code: u8) -> bool
-    ensures { λ r. ⌜ r ≡ goesOnOf left code ⌝ }
+struct Sent {
+    core: Core,
+    left: u8,
+    shift: u8,
+    level: u8,
+}
+
+// A clock of a read that goes on.
+fn send_on(part: u8, core: Core, target: Target, left: u8, shift: u8, byte: u8) -> Sent
+    ensures { λ r. ⌜ r ≡ sentOn (factsOf part) core target left shift byte ⌝ }
 {
-    if left == 0 {
-        return code == 0;
+    let line = Line {
+        core: core,
+        phase: Phase::Send(target),
+        left: left,
+        shift: shift,
+    };
+    let m = line::send(part, line, target, byte, false);
+    let next = m.line;
+    let kept = next.core;
+    Sent {
+        core: kept,
+        left: next.left,
+        shift: next.shift,
+        level: m.level,
     }
-    code < 2
 }
 
 // Bits that go out, byte after byte, until the master ends the read.
 fn bits_out(
     part: u8,
-    line: Line,
+    core: Core,
     target: Target,
+    left: u8,
+    shift: u8,
     array: &[u8],
     id: &[u8],
     events: &[u8],
     answers: &mut [u8],
     from: usize,
 ) -> Stretch
-    requires { ⌜ (from ≤ length (now events)) × (length (now events) ≤ length (now answers)) × (line .phase ≡ Phase.Send target) ⌝ }
-    ensures { λ r. ⌜ Coasts (factsOf part) (mem (now (array .entry)) (now (id .entry))) (now (events .entry)) line (now (answers .entry)) from (r .line) (now (answers .exit)) (r .at) ⌝ }
+    requires { ⌜ (from ≤ length (now events)) × (length (now events) ≤ length (now answers)) ⌝ }
+    ensures { λ r. ⌜ Coasts (factsOf part) (mem (now (array .entry)) (now (id .entry))) (now (events .entry)) (sending core target left shift) (now (answers .entry)) from (sending (r .core) target (r .left) (r .shift)) (now (answers .exit)) (r .at) ⌝ }
 {
-    let mut l = line;
+    let mut c = core;
+    let mut n = left;
+    let mut x = shift;
     let mut i = from;
     while i < events.len() {
-        let on = goes_on(l.left, events[i]);
-        if !on {
-            return Stretch { line: l, at: i };
+        let code = events[i];
+        if 1 < code {
+            return Stretch {
+                core: c,
+                left: n,
+                shift: x,
+                at: i,
+            };
         }
-        let core = l.core;
-        let byte = shown(part, core.counter, target, array, id);
-        let m = line::send(part, l, target, byte, false);
-        let next = m.line;
-        answers[i] = m.level;
-        l = next;
+        // A 1 at the ninth clock ends the read.
+        if n < code {
+            return Stretch {
+                core: c,
+                left: n,
+                shift: x,
+                at: i,
+            };
+        }
+        let byte = shown(part, c.counter, target, array, id);
+        let s = send_on(part, c, target, n, x, byte);
+        answers[i] = s.level;
+        let kept = s.core;
+        c = kept;
+        n = s.left;
+        x = s.shift;
         i += 1;
     }
-    Stretch { line: l, at: i }
+    Stretch {
+        core: c,
+        left: n,
+        shift: x,
+        at: i,
+    }
 }
 
 // As far as events only move bits, or are ignored.
@@ -648,57 +681,33 @@ fn coast(
     from: usize,
 ) -> Stretch
     requires { ⌜ (from ≤ length (now events)) × (length (now events) ≤ length (now answers)) ⌝ }
-    ensures { λ r. ⌜ Coasts (factsOf part) (mem (now (array .entry)) (now (id .entry))) (now (events .entry)) line (now (answers .entry)) from (r .line) (now (answers .exit)) (r .at) ⌝ }
+    ensures { λ r. ⌜ Coasts (factsOf part) (mem (now (array .entry)) (now (id .entry))) (now (events .entry)) line (now (answers .entry)) from record { core = r .core; phase = line .phase; left = r .left; shift = r .shift } (now (answers .exit)) (r .at) ⌝ }
 {
     let phase = line.phase;
+    let core = line.core;
+    let left = line.left;
+    let shift = line.shift;
     match phase {
-        Phase::Idle => hold(line, events, answers, from),
-        Phase::Receive(r) => bits_in(line, r, events, answers, from),
-        Phase::Send(t) => bits_out(part, line, t, array, id, events, answers, from),
-        Phase::Busy(_) => hold(line, events, answers, from),
-    }
-}
-
-struct Turned {
-    line: Line,
-    at: usize,
-    cycles: usize,
-}
-
-// A stretch, and one event of any kind.
-fn turn(
-    part: u8,
-    enable: u8,
-    line: Line,
-    latch: &mut [u16; 64],
-    array: &mut [u8],
-    id: &mut [u8],
-    events: &[u8],
-    answers: &mut [u8],
-    from: usize,
-) -> Turned
-    requires { ⌜ (from < length (now events)) × (length (now events) ≤ length (now answers)) × (length (now latch) ≡ 64) ⌝ }
-    ensures leads { λ r. ⌜ Leads (factsOf part) enable (now (events .entry)) (chip line (now (latch .entry))) (mem (now (array .entry)) (now (id .entry))) (now (answers .entry)) from (chip (r .line) (now (latch .exit))) (mem (now (array .exit)) (now (id .exit))) (now (answers .exit)) (r .at) (r .cycles) ⌝ }
-    ensures range { λ r. ⌜ (from < r .at) × (r .cycles ≤ 1) × (length (now (latch .exit)) ≡ 64) ⌝ }
-{
-    let s = coast(part, line, array, id, events, answers, from);
-    let here = s.line;
-    let at = s.at;
-    if at < events.len() {
-        let event = parts::event_of(events[at]);
-        let m = stir(part, enable, here, latch, array, id, event);
-        let next = m.line;
-        answers[at] = m.level;
-        return Turned {
-            line: next,
-            at: at + 1,
-            cycles: m.cycles as usize,
-        };
-    }
-    Turned {
-        line: here,
-        at: at,
-        cycles: 0,
+        Phase::Idle => {
+            let at = hold(2, events, answers, from);
+            Stretch {
+                core: core,
+                left: left,
+                shift: shift,
+                at: at,
+            }
+        }
+        Phase::Receive(_) => bits_in(core, left, shift, events, answers, from),
+        Phase::Send(t) => bits_out(part, core, t, left, shift, array, id, events, answers, from),
+        Phase::Busy(_) => {
+            let at = hold(4, events, answers, from);
+            Stretch {
+                core: core,
+                left: left,
+                shift: shift,
+                at: at,
+            }
+        }
     }
 }
 
@@ -727,11 +736,20 @@ fn run_all(
     let mut cycles: usize = 0;
     let mut i = 0;
     while i < events.len() {
-        let t = turn(part, enable, at, latch, array, id, events, answers, i);
-        let next = t.line;
-        cycles += t.cycles;
-        at = next;
-        i = t.at;
+        let event = parts::event_of(events[i]);
+        let m = stir(part, enable, at, latch, array, id, event);
+        let next = m.line;
+        answers[i] = m.level;
+        cycles += m.cycles as usize;
+        let s = coast(part, next, array, id, events, answers, i + 1);
+        let kept = s.core;
+        at = Line {
+            core: kept,
+            left: s.left,
+            shift: s.shift,
+            ..next
+        };
+        i = s.at;
     }
     Went {
         line: at,

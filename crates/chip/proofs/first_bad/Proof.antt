@@ -1,20 +1,28 @@
-use denote.Ref.{now}
-use borrow.Author.Tests.{not-true, not-false}
-use Prim.Native.Nat.{_-_, _≤_}
-use mathlib.Core.Path.{_≡_, refl, sym, _∙_}
-use lib.ListN.{length, drop}
-use Rattle.chip.specs.Calls.{scanOf}
+use Rattle.chip.proofs.Quick.{scan-clear}
 use Rattle.chip.proofs.Laws.{scan-step, scan-stop, scan-end}
-use borrow.Author.Needs.{needs}
+use Rattle.chip.specs.Calls.{scanOf}
+use lib.ListN.{length, drop}
+use mathlib.Core.Path.{_≡_, refl, sym, _∙_}
+use Prim.Native.Nat.{_-_, _≤_}
+use borrow.Author.Tests.{not-true, not-false}
+use denote.Ref.{now}
 use native.Mathlib.Omega.{arith}
+use borrow.Author.Needs.{needs}
 use Rattle.chip.proofs.first_bad.Statement.{statement}
 use Rattle.chip.proofs.first_bad.Tie as tie
 
 abbrev Inv-loop : tie.InvT-loop
-Inv-loop pin events i₀ i = (i ≤ length events) × (scanOf pin i (drop i events) ≡ scanOf pin 0 events)
+Inv-loop pin events low i₀ i =
+    (i ≤ length events) × (scanOf pin i (drop i events) ≡ scanOf pin 0 events)
 
 abbrev μ-loop : tie.MeasureT-loop
-μ-loop pin events i₀ i = length events - i
+μ-loop pin events low i₀ i = length events - i
+
+all-low-requires : tie.Need-all-low-requires Inv-loop μ-loop
+all-low-requires c κs = search needs
+
+returns : tie.Need-returns Inv-loop μ-loop
+returns c = scan-clear (c .before .before .before .args .pin) 0 (now (c .before .before .before .args .events)) (sym (c .before .all-low .ensures) ∙ c .if1 .taken)
 
 loop-holds : tie.Need-loop-holds Inv-loop μ-loop
 loop-holds c = (omega arith, refl)
@@ -25,8 +33,11 @@ shared-slice-read-event-right c = search needs
 event-right-requires : tie.Need-event-right-requires Inv-loop μ-loop
 event-right-requires c κs = search needs
 
-returns : tie.Need-returns Inv-loop μ-loop
-returns c = scan-stop (c .before .before .before .before .before .before .args .pin) (now (c .before .before .before .before .before .before .args .events)) (c .before .before .before .before .loop .i) (omega arith) (sym (c .before .event-right .ensures) ∙ not-true (c .before .event-right .result) (c .if1 .taken)) ∙ c .before .before .before .before .loop .inv .1
+returns-2 : tie.Need-returns-2 Inv-loop μ-loop
+returns-2 c =
+    let l = c .before .before .before .before .loop in
+    let r = c .before .event-right in
+    scan-stop (c .before .before .before .before .before .before .before .before .args .pin) (now (c .before .before .before .before .before .before .before .before .args .events)) (l .i) (omega arith) (sym (r .ensures) ∙ not-true (r .result) (c .if2 .taken)) ∙ l .inv .1
 
 add-i : tie.Need-add-i Inv-loop μ-loop
 add-i c = search needs
@@ -35,10 +46,13 @@ loop-less : tie.Need-loop-less Inv-loop μ-loop
 loop-less c = search needs
 
 loop-again : tie.Need-loop-again Inv-loop μ-loop
-loop-again c = (omega arith, scan-step (c .before .before .before .before .before .before .args .pin) (now (c .before .before .before .before .before .before .args .events)) (c .before .before .before .before .loop .i) (omega arith) (sym (c .before .event-right .ensures) ∙ not-false (c .before .event-right .result) (c .if1 .left)) ∙ c .before .before .before .before .loop .inv .1)
+loop-again c =
+    let l = c .before .before .before .before .loop in
+    let r = c .before .event-right in
+    (omega arith, scan-step (c .before .before .before .before .before .before .before .before .args .pin) (now (c .before .before .before .before .before .before .before .before .args .events)) (l .i) (omega arith) (sym (r .ensures) ∙ not-false (r .result) (c .if2 .left)) ∙ l .inv .1)
 
-returns-2 : tie.Need-returns-2 Inv-loop μ-loop
-returns-2 c = scan-end (c .before .before .before .args .pin) (now (c .before .before .before .args .events)) (c .before .loop .i) (omega arith) ∙ c .before .loop .inv .1
+returns-3 : tie.Need-returns-3 Inv-loop μ-loop
+returns-3 c = scan-end (c .before .before .before .before .before .args .pin) (now (c .before .before .before .before .before .args .events)) (c .before .loop .i) (omega arith) ∙ c .before .loop .inv .1
 
 pub first-bad-spec : {M : Type 1} → statement M
 first-bad-spec =
@@ -46,11 +60,13 @@ first-bad-spec =
     (tie.spec
     Inv-loop
     μ-loop
+    all-low-requires
+    returns
     loop-holds
     shared-slice-read-event-right
     event-right-requires
-    returns
+    returns-2
     add-i
     loop-less
     loop-again
-    returns-2)
+    returns-3)

@@ -1,6 +1,7 @@
 use Rattle.chip.proofs.Quick.{coast-none, coast-on, passes-ignored}
-use Rattle.chip.specs.Onward.{Coasts}
+use Rattle.chip.specs.Onward.{Coasts, ignoresOf}
 use Rattle.chip.specs.Memory.{Mem}
+use Rattle.line.specs.declared.Line.{Line}
 use Rattle.parts.specs.declared.Facts.{Facts}
 use denote.Ref.{now}
 use lib.ListN.{length, length-set}
@@ -12,19 +13,16 @@ use Rattle.chip.proofs.hold.Statement.{statement}
 use Rattle.chip.proofs.hold.Tie as tie
 
 abbrev Inv-loop : tie.InvT-loop
-Inv-loop line events answers₀ from limit i₀ answers i =
+Inv-loop limit events answers₀ from i₀ answers i =
     (i ≤ length events)
     × (length answers ≡ length answers₀)
-    × ((f : Facts) (m : Mem) → Coasts f m events line answers₀ from line answers i)
+    × ((f : Facts) (m : Mem) (l : Line) → limit ≤ ignoresOf (l .phase) → Coasts f m events l answers₀ from l answers i)
 
 abbrev μ-loop : tie.MeasureT-loop
-μ-loop line events answers₀ from limit i₀ answers i = length events - i
-
-ignores-requires : tie.Need-ignores-requires Inv-loop μ-loop
-ignores-requires c κs = search needs
+μ-loop limit events answers₀ from i₀ answers i = length events - i
 
 loop-holds : tie.Need-loop-holds Inv-loop μ-loop
-loop-holds c = (omega arith, refl, λ f m. coast-none f m _ _ _ _ (omega arith))
+loop-holds c = (omega arith, refl, λ f m l h. coast-none f m _ _ _ _ (omega arith))
 
 shared-slice-read-code : tie.Need-shared-slice-read-code Inv-loop μ-loop
 shared-slice-read-code c = search needs
@@ -35,8 +33,8 @@ same-length c = search needs
 returns : tie.Need-returns Inv-loop μ-loop
 returns c = c .before .before .before .loop .inv .2
 
-ignored-requires : tie.Need-ignored-requires Inv-loop μ-loop
-ignored-requires c κs = search needs
+add-answers : tie.Need-add-answers Inv-loop μ-loop
+add-answers c = search needs
 
 slice-write-answers : tie.Need-slice-write-answers Inv-loop μ-loop
 slice-write-answers c = search needs
@@ -49,14 +47,13 @@ loop-less c = search needs
 
 loop-again : tie.Need-loop-again Inv-loop μ-loop
 loop-again c =
-    let l = c .before .before .before .before .loop in
-    let a = c .before .before .before .before .before .before .before .before .args in (
+    let w = c .before .before .before .loop in
+    let a = c .before .before .before .before .args in (
       omega arith,
-      simp length-set (l .inv .1),
-      λ f m.
-          rw (c .ignored .ensures)
-          (coast-on f m (now (a .events)) (a .line) _ (a .from) (a .line) (a .line) (l .answers) (l .i) _ (l .inv .2 f m) (omega arith) (omega arith)
-          (passes-ignored f m (a .line) _ (omega (arith, c .before .before .before .before .before .ignores .ensures)))),
+      simp length-set (w .inv .1),
+      λ f m l h.
+          coast-on f m (now (a .events)) l _ (a .from) l l (w .answers) (w .i) _ (w .inv .2 f m l h) (omega arith) (omega arith)
+          (passes-ignored f m l _ (omega (arith, h))),
     )
 
 same-length-2 : tie.Need-same-length-2 Inv-loop μ-loop
@@ -71,12 +68,11 @@ hold-spec =
     (tie.spec
     Inv-loop
     μ-loop
-    ignores-requires
     loop-holds
     shared-slice-read-code
     same-length
     returns
-    ignored-requires
+    add-answers
     slice-write-answers
     add-i
     loop-less

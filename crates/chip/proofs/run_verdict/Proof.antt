@@ -15,8 +15,8 @@ buffers-right-requires c κs = search needs
 in-range-requires : tie.Need-in-range-requires
 in-range-requires c κs = search needs
 
-scanned-requires : tie.Need-scanned-requires
-scanned-requires c κs = search needs
+first-bad-requires : tie.Need-first-bad-requires
+first-bad-requires c κs = search needs
 
 is-bad-requires : tie.Need-is-bad-requires
 is-bad-requires c κs = search needs
@@ -29,7 +29,7 @@ given-requires c κs = search needs
 
 returns : tie.Need-returns
 unfolding runVerdictOf
-returns c = rw (c .given .ensures, c .before .place-of .ensures, c .before .before .is-bad .ensures, c .before .before .before .scanned .ensures, c .before .before .before .before .in-range .ensures, c .before .before .before .before .before .buffers-right .ensures, c .before .before .before .before .before .before .enable-right .ensures, c .before .before .before .before .before .before .before .facts-of .ensures .0)
+returns c = rw (c .given .ensures, c .before .place-of .ensures, c .before .before .is-bad .ensures, c .before .before .before .first-bad .ensures, c .before .before .before .before .in-range .ensures, c .before .before .before .before .before .buffers-right .ensures, c .before .before .before .before .before .before .enable-right .ensures, c .before .before .before .before .before .before .before .facts-of .ensures .0)
 
 pub run-verdict-spec : {M : Type 1} → statement M
 run-verdict-spec =
@@ -39,7 +39,7 @@ run-verdict-spec =
     enable-right-requires
     buffers-right-requires
     in-range-requires
-    scanned-requires
+    first-bad-requires
     is-bad-requires
     place-of-requires
     given-requires
