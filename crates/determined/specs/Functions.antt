@@ -32,6 +32,35 @@ use Rattle.bench.proofs.record as bench-record
 use Rattle.bench.proofs.run as bench-run
 use Rattle.pack_driver.proofs.pack as driver-pack
 use Rattle.pack_driver.proofs.unpack as driver-unpack
+use Rattle.pack_chip.proofs.pack as chip-pack
+use Rattle.pack_chip.proofs.holds as chip-holds
+use Rattle.pack_chip.proofs.unpack as chip-unpack
+use Rattle.lent.proofs.place as lent-place
+use Rattle.lent.proofs.number as lent-number
+use Rattle.lent.proofs.settle as lent-settle
+use Rattle.lent.proofs.unheld as lent-unheld
+use Rattle.lent_chip.proofs.deliver as lent-chip-deliver
+use Rattle.lent_chip.proofs.step as lent-chip-step
+use Rattle.lent_chip.proofs.run as lent-chip-run
+use Rattle.lent_image.proofs.save as lent-image-save
+use Rattle.lent_image.proofs.load as lent-image-load
+use Rattle.lent_driver.proofs.request as lent-driver-request
+use Rattle.lent_driver.proofs.begin as lent-driver-begin
+use Rattle.lent_driver.proofs.next as lent-driver-next
+use Rattle.lent_bench.proofs.run as lent-bench-run
+use Rattle.sapwoodle.proofs.sapwoodle_array_length as sapwoodle-array-length
+use Rattle.sapwoodle.proofs.sapwoodle_id_length as sapwoodle-id-length
+use Rattle.sapwoodle.proofs.sapwoodle_state_length as sapwoodle-state-length
+use Rattle.sapwoodle.proofs.sapwoodle_driver_length as sapwoodle-driver-length
+use Rattle.sapwoodle.proofs.sapwoodle_deliver as sapwoodle-deliver
+use Rattle.sapwoodle.proofs.sapwoodle_step as sapwoodle-step
+use Rattle.sapwoodle.proofs.sapwoodle_run as sapwoodle-run
+use Rattle.sapwoodle.proofs.sapwoodle_save as sapwoodle-save
+use Rattle.sapwoodle.proofs.sapwoodle_load as sapwoodle-load
+use Rattle.sapwoodle.proofs.sapwoodle_driver_begin as sapwoodle-driver-begin
+use Rattle.sapwoodle.proofs.sapwoodle_driver_next as sapwoodle-driver-next
+use Rattle.sapwoodle.proofs.sapwoodle_bench_run as sapwoodle-bench-run
+use Rattle.sapwoodle.proofs.sapwoodle_trace as sapwoodle-trace
 use Rattle.determined.specs.Determined.{Determined, DeterminedAs, part}
 
 -- ---- parts
@@ -148,3 +177,104 @@ DriverPackDetermined = Determined driver-pack.ended driver-pack.Reads.Asked driv
 
 abbrev pub DriverUnpackDetermined : Type 0
 DriverUnpackDetermined = Determined driver-unpack.ended driver-unpack.Reads.Asked driver-unpack.Reads.Learnt
+
+-- ---- pack_chip
+
+abbrev pub ChipPackDetermined : Type 0
+ChipPackDetermined = Determined chip-pack.ended chip-pack.Reads.Asked chip-pack.Reads.Learnt
+
+abbrev pub ChipHoldsDetermined : Type 0
+ChipHoldsDetermined = Determined chip-holds.ended chip-holds.Reads.Asked chip-holds.Reads.Learnt
+
+abbrev pub ChipUnpackDetermined : Type 0
+ChipUnpackDetermined = Determined chip-unpack.ended chip-unpack.Reads.Asked chip-unpack.Reads.Learnt
+
+-- ---- lent
+
+abbrev pub LentPlaceDetermined : Type 0
+LentPlaceDetermined = Determined lent-place.ended lent-place.Reads.Asked lent-place.Reads.Learnt
+
+abbrev pub LentNumberDetermined : Type 0
+LentNumberDetermined = Determined lent-number.ended lent-number.Reads.Asked lent-number.Reads.Learnt
+
+abbrev pub LentSettleDetermined : Type 0
+LentSettleDetermined = Determined lent-settle.ended lent-settle.Reads.Asked lent-settle.Reads.Learnt
+
+abbrev pub LentUnheldDetermined : Type 0
+LentUnheldDetermined = Determined lent-unheld.ended lent-unheld.Reads.Asked lent-unheld.Reads.Learnt
+
+-- ---- lent_chip
+
+abbrev pub LentChipDeliverDetermined : Type 0
+LentChipDeliverDetermined = Determined lent-chip-deliver.ended lent-chip-deliver.Reads.Asked lent-chip-deliver.Reads.Learnt
+
+abbrev pub LentChipStepDetermined : Type 0
+LentChipStepDetermined = Determined lent-chip-step.ended lent-chip-step.Reads.Asked lent-chip-step.Reads.Learnt
+
+abbrev pub LentChipRunDetermined : Type 0
+LentChipRunDetermined = Determined lent-chip-run.ended lent-chip-run.Reads.Asked lent-chip-run.Reads.Learnt
+
+-- ---- lent_image
+
+abbrev pub LentImageSaveDetermined : Type 0
+LentImageSaveDetermined = Determined lent-image-save.ended lent-image-save.Reads.Asked lent-image-save.Reads.Learnt
+
+abbrev pub LentImageLoadDetermined : Type 0
+LentImageLoadDetermined = Determined lent-image-load.ended lent-image-load.Reads.Asked lent-image-load.Reads.Learnt
+
+-- ---- lent_driver
+
+abbrev pub LentDriverRequestDetermined : Type 0
+LentDriverRequestDetermined = Determined lent-driver-request.ended lent-driver-request.Reads.Asked lent-driver-request.Reads.Learnt
+
+abbrev pub LentDriverBeginDetermined : Type 0
+LentDriverBeginDetermined = Determined lent-driver-begin.ended lent-driver-begin.Reads.Asked lent-driver-begin.Reads.Learnt
+
+abbrev pub LentDriverNextDetermined : Type 0
+LentDriverNextDetermined = Determined lent-driver-next.ended lent-driver-next.Reads.Asked lent-driver-next.Reads.Learnt
+
+-- ---- lent_bench
+
+abbrev pub LentBenchRunDetermined : Type 0
+LentBenchRunDetermined = Determined lent-bench-run.ended lent-bench-run.Reads.Asked lent-bench-run.Reads.Learnt
+
+-- ---- sapwoodle
+
+abbrev pub SapwoodleArrayLengthDetermined : Type 0
+SapwoodleArrayLengthDetermined = Determined sapwoodle-array-length.ended sapwoodle-array-length.Reads.Asked sapwoodle-array-length.Reads.Learnt
+
+abbrev pub SapwoodleIdLengthDetermined : Type 0
+SapwoodleIdLengthDetermined = Determined sapwoodle-id-length.ended sapwoodle-id-length.Reads.Asked sapwoodle-id-length.Reads.Learnt
+
+abbrev pub SapwoodleStateLengthDetermined : Type 0
+SapwoodleStateLengthDetermined = Determined sapwoodle-state-length.ended sapwoodle-state-length.Reads.Asked sapwoodle-state-length.Reads.Learnt
+
+abbrev pub SapwoodleDriverLengthDetermined : Type 0
+SapwoodleDriverLengthDetermined = Determined sapwoodle-driver-length.ended sapwoodle-driver-length.Reads.Asked sapwoodle-driver-length.Reads.Learnt
+
+abbrev pub SapwoodleDeliverDetermined : Type 0
+SapwoodleDeliverDetermined = Determined sapwoodle-deliver.ended sapwoodle-deliver.Reads.Asked sapwoodle-deliver.Reads.Learnt
+
+abbrev pub SapwoodleStepDetermined : Type 0
+SapwoodleStepDetermined = Determined sapwoodle-step.ended sapwoodle-step.Reads.Asked sapwoodle-step.Reads.Learnt
+
+abbrev pub SapwoodleRunDetermined : Type 0
+SapwoodleRunDetermined = Determined sapwoodle-run.ended sapwoodle-run.Reads.Asked sapwoodle-run.Reads.Learnt
+
+abbrev pub SapwoodleSaveDetermined : Type 0
+SapwoodleSaveDetermined = Determined sapwoodle-save.ended sapwoodle-save.Reads.Asked sapwoodle-save.Reads.Learnt
+
+abbrev pub SapwoodleLoadDetermined : Type 0
+SapwoodleLoadDetermined = Determined sapwoodle-load.ended sapwoodle-load.Reads.Asked sapwoodle-load.Reads.Learnt
+
+abbrev pub SapwoodleDriverBeginDetermined : Type 0
+SapwoodleDriverBeginDetermined = Determined sapwoodle-driver-begin.ended sapwoodle-driver-begin.Reads.Asked sapwoodle-driver-begin.Reads.Learnt
+
+abbrev pub SapwoodleDriverNextDetermined : Type 0
+SapwoodleDriverNextDetermined = Determined sapwoodle-driver-next.ended sapwoodle-driver-next.Reads.Asked sapwoodle-driver-next.Reads.Learnt
+
+abbrev pub SapwoodleBenchRunDetermined : Type 0
+SapwoodleBenchRunDetermined = Determined sapwoodle-bench-run.ended sapwoodle-bench-run.Reads.Asked sapwoodle-bench-run.Reads.Learnt
+
+abbrev pub SapwoodleTraceDetermined : Type 0
+SapwoodleTraceDetermined = Determined sapwoodle-trace.ended sapwoodle-trace.Reads.Asked sapwoodle-trace.Reads.Learnt
