@@ -43,7 +43,7 @@ pub fn number(verdict: Verdict) -> u8
 {
     match verdict {
         Verdict::Fine => 0,
-        Verdict::Refused(r) => parts::number(r),
+        Verdict::Refused(refusal) => parts::number(refusal),
     }
 }
 

@@ -18,13 +18,14 @@ use Rattle.state.specs.declared.Chip.{Chip}
 use Rattle.state.specs.Range.{inRangeOf}
 use Rattle.chip.specs.Memory.{Mem}
 use Rattle.chip.specs.Delivery.{standbyOf}
-use Rattle.chip.specs.Calls.{deliverMem, stepVerdictOf, stepBy, stepMem, runVerdictOf, runBy, runMem, runAnswers}
+use Rattle.chip.specs.Calls.{stepVerdictOf, stepBy, stepMem, runVerdictOf, runBy, runMem, runAnswers}
 use Rattle.pack_chip.specs.Layout.{packedLength, packedOf, packInto, unpackedOf}
 use Rattle.pack_chip.specs.Promises.{Fits}
 use Rattle.pack_chip.proofs.Laws.{holds-long}
 use Rattle.pack_chip.proofs.Kept.{packs-back, refuses-others}
 use Rattle.lent.specs.Answers.{answerOf, keptOf}
 use Rattle.lent_chip.specs.Chips.{stepVerdict, runVerdict, deliverVerdict, stepping, running, delivering}
+use Rattle.lent_chip.proofs.Laws.{delivers-nothing}
 use Rattle.lent_chip.specs.Promises.{StepKeeps, RunKeeps, DeliverKeeps, StepIsChips, RunIsChips, DeliverHolds, StepRefuses4, RunRefuses4}
 use Rattle.lent.proofs.Laws.{unheld-refused, fine, standby-fits}
 
@@ -46,12 +47,8 @@ run-keeps-by part enable c s m es a (Refused r) h = (refl, refl, refl)
 pub run-keeps : RunKeeps running
 run-keeps part enable s m es a h = run-keeps-by part enable (unpackedOf s) s m es a (runVerdict part enable s m es a) h
 
-deliver-keeps-by : (part : ℕ) (c : Chip) (s : List ℕ) (m : Mem) (v : Verdict) → (answerOf v ≡ 0 → ⊥) → (keptOf v c s ≡ s) × (deliverMem part m v ≡ m)
-deliver-keeps-by part c s m Fine h = absurd (h refl)
-deliver-keeps-by part c s m (Refused r) h = (refl, refl)
-
 pub deliver-keeps : DeliverKeeps delivering
-deliver-keeps part s m h = deliver-keeps-by part (standbyOf (factsOf part) false) s m (deliverVerdict part s m) h
+deliver-keeps part s m h = delivers-nothing part _ s m (deliverVerdict part s m) (λ e. h (rw e refl))
 
 -- ---- on the bytes of a state
 

@@ -12,8 +12,7 @@ pub fn deliver(part: u8, state: &mut [u8], array: &mut [u8], id: &mut [u8]) -> u
 {
     if state.len() != 137 {
         let verdict = lent::unheld(part, 0, array, id);
-        let none = chip::standby(part, false);
-        return lent::settle(verdict, none, state);
+        return lent::number(verdict);
     }
     let d = chip::deliver(part, array, id);
     let verdict = d.verdict;
