@@ -163,7 +163,7 @@ fn run(bytes: bool) {
 fn usage(fd: i32) {
     io::write_all(
         fd,
-        b"usage: sapwoodle [trace]        runs the trace on standard input\n       sapwoodle trace --bytes  tells it byte by byte first\n       sapwoodle write PART ENABLE ADDRESS HEXBYTES  the driver against the model\n       sapwoodle read PART ENABLE ADDRESS LENGTH\n       sapwoodle bench PART [--enable N]             what a board cannot try, as tables\n       sapwoodle help           prints this\n       sapwoodle version        prints the version\n",
+        b"usage: sapwoodle [trace]        runs the trace on standard input\n       sapwoodle trace --bytes  tells it byte by byte first\n       sapwoodle write PART ENABLE ADDRESS HEXBYTES  the driver against the model\n       sapwoodle read PART ENABLE ADDRESS LENGTH\n       sapwoodle bench [PART [--enable N]]           what a board cannot try, as tables\n       sapwoodle help           prints this\n       sapwoodle version        prints the version\n",
     );
     io::write_all(
         fd,
@@ -199,17 +199,21 @@ fn choose_trace() {
 }
 
 fn choose_station(word: &[u8]) {
+    let count = os::arg_count();
     let writes = check::same(word, b"write");
     if writes {
-        return station::write_command();
+        station::write_command(2, count);
+        return;
     }
     let reads = check::same(word, b"read");
     if reads {
-        return station::read_command();
+        station::read_command(2, count);
+        return;
     }
     let benched = check::same(word, b"bench");
     if benched {
-        return station::bench_command();
+        station::bench_command(2, count);
+        return;
     }
     unknown(word);
 }

@@ -1,165 +1,64 @@
-// One write or read at a bench, as the words of the command line ask for it: driver and model together, on a chip as
-// delivered or on a stored one.
-mod events;
+// One write or read at a bench, as the words of a command line ask for it: driver and model together, on a chip as delivered or
+// on a stored one.
+mod files;
 mod show;
 mod words;
 
+ghost use mathlib.Core.Path.{_≡_};
+ghost use lib.ListN.{length};
+use bench::Report;
 use driver::Place;
 use driver::Request;
-use events::Plan;
+use files::First;
+use files::TOLD;
 use parts::ArrayAddress;
 use parts::IdLocation;
-use parts::Verdict;
 use state::Chip;
 use words::Job;
 
-// The chip before the run. `number`: the refusal, 0 for none, TOLD where standard error has the reason.
-struct First {
-    number: u8,
-    chip: Chip,
-}
-
-const TOLD: u8 = 255;
-
-fn number(verdict: Verdict) -> u8 {
-    match verdict {
-        Verdict::Fine => 0,
-        Verdict::Refused(r) => parts::number(r),
-    }
-}
+// The events of a run that are kept: more than writing or reading the whole of the largest array takes, where no page is polled
+// more than a dozen times.
+const TAPE: usize = 393216;
 
 // ---- the chip before the run
-
-fn told() -> First {
-    First {
-        number: TOLD,
-        chip: chip::standby(0, false),
-    }
-}
 
 fn delivered(part: u8, array: &mut [u8], id: &mut [u8]) -> First {
     let d = chip::deliver(part, array, id);
     let verdict = d.verdict;
     let chip = d.chip;
     First {
-        number: number(verdict),
+        number: files::number(verdict),
         chip,
     }
-}
-
-// An image of another part is not what was meant, even where the buffers would hold it.
-fn load(job: Job, bytes: &[u8], array: &mut [u8], id: &mut [u8]) -> First {
-    let loaded = image::load(bytes, job.enable, array, id);
-    let verdict = loaded.verdict;
-    let chip = loaded.chip;
-    let n = number(verdict);
-    if loaded.part != job.part {
-        if n != 12 {
-            io::write_all(
-                libc::STDERR_FILENO,
-                b"sapwoodle: the image is of another part than the one named\n",
-            );
-            return told();
-        }
-    }
-    First { number: n, chip }
-}
-
-fn fetch_from(job: Job, fd: i32, bytes: &mut [u8], array: &mut [u8], id: &mut [u8]) -> First {
-    let got = words::read_all(fd, bytes);
-    let n = got.n;
-    libc::close(fd);
-    if got.ok {
-        if n <= bytes.len() {
-            return load(job, &bytes[0..n], array, id);
-        }
-    }
-    io::write_all(
-        libc::STDERR_FILENO,
-        b"sapwoodle: the file of --image cannot be read\n",
-    );
-    told()
-}
-
-// One byte more than the longest image, so that a longer file is seen to be too long.
-fn fetch(job: Job, name: &[u8], array: &mut [u8], id: &mut [u8]) -> First {
-    let mut bytes = [0u8; 32840];
-    let fd = os::open_read(name);
-    if fd < 0 {
-        os::fail(b"sapwoodle: the file of --image");
-        return told();
-    }
-    fetch_from(job, fd, &mut bytes, array, id)
-}
-
-fn fetched(job: Job, array: &mut [u8], id: &mut [u8]) -> First {
-    let mut name = io::buffer();
-    let n = os::arg(job.image, &mut name);
-    fetch(job, &name[..n], array, id)
 }
 
 fn at_first(job: Job, array: &mut [u8], id: &mut [u8]) -> First {
     if job.image == 0 {
         return delivered(job.part, array, id);
     }
-    fetched(job, array, id)
+    files::fetched(job, array, id)
 }
 
-fn pinned(job: Job, first: First, array: &mut [u8], id: &mut [u8]) -> First {
-    if first.number != 0 {
-        return first;
-    }
-    if job.pin == 0 {
-        return first;
-    }
-    let before = first.chip;
-    let s = chip::step(job.part, job.enable, before, array, id, job.pin);
+fn pinned(job: Job, chip: Chip, array: &mut [u8], id: &mut [u8]) -> First {
+    let s = chip::step(job.part, job.own, chip, array, id, job.pin);
     let verdict = s.verdict;
     let chip = s.chip;
     First {
-        number: number(verdict),
+        number: files::number(verdict),
         chip,
     }
 }
 
 fn prepared(job: Job, array: &mut [u8], id: &mut [u8]) -> First {
     let found = at_first(job, array, id);
-    pinned(job, found, array, id)
-}
-
-// ---- the chip after the run
-
-fn store_as(name: &[u8], bytes: &[u8]) {
-    let fd = os::open_overwrite(name);
-    if fd < 0 {
-        return os::fail(b"sapwoodle: the file of --save");
+    if found.number != 0 {
+        return found;
     }
-    let whole = io::write_all(fd, bytes);
-    if !whole {
-        os::fail(b"sapwoodle: the file of --save is not whole");
+    if job.pin == 0 {
+        return found;
     }
-    libc::close(fd);
-}
-
-fn store(word: usize, bytes: &[u8]) {
-    let mut name = io::buffer();
-    let n = os::arg(word, &mut name);
-    store_as(&name[..n], bytes);
-}
-
-fn save_in(job: Job, chip: Chip, array: &[u8], id: &[u8], out: &mut [u8]) {
-    let saved = image::save(job.part, chip, array, id, out);
-    let n = saved.length;
-    if 0 < n {
-        if n <= out.len() {
-            store(job.save, &out[0..n]);
-        }
-    }
-}
-
-fn save(job: Job, chip: Chip, array: &[u8], id: &[u8]) {
-    let mut out = [0u8; 32839];
-    save_in(job, chip, array, id, &mut out);
+    let chip = found.chip;
+    pinned(job, chip, array, id)
 }
 
 // ---- the run
@@ -187,142 +86,193 @@ fn request(job: Job) -> Request {
     }
 }
 
-// ---- the events, played on the chip as it was before the run
-
-fn play(job: Job, levels: bool, array: &mut [u8], id: &mut [u8], data: &mut [u8]) {
-    let first = prepared(job, array, id);
-    let chip = first.chip;
-    let plan = Plan {
-        part: job.part,
-        enable: job.enable,
-        ends: job.ends,
-        levels,
-    };
-    if first.number == 0 {
-        events::play(plan, request(job), chip, array, id, data);
+fn tell_cut(sent: usize) {
+    if TAPE < sent {
+        io::write_all(
+            libc::STDERR_FILENO,
+            b"sapwoodle: only the first 393216 events are shown\n",
+        );
     }
 }
 
-fn play_fit(job: Job, levels: bool, array: &mut [u8], id: &mut [u8], data: &mut [u8]) {
-    let f = parts::facts_of(job.part);
-    let m = f.size;
-    let n = parts::id_size(f);
-    if m <= array.len() {
-        if n <= id.len() {
-            play(job, levels, &mut array[0..m], &mut id[0..n], data);
-        }
+fn tell_tape(ok: bool, shown: bool, sent: usize, events: &mut [u8], levels: &mut [u8]) -> bool {
+    if !shown {
+        return ok;
     }
+    tell_cut(sent);
+    let told = show::tape(ok, false, sent, events);
+    show::tape(told, true, sent, levels)
 }
 
-fn play_line(job: Job, levels: bool, data: &mut [u8]) {
-    let mut array = [0u8; 32768];
-    let mut id = [0u8; 64];
-    let n = job.length;
-    if n <= data.len() {
-        play_fit(job, levels, &mut array, &mut id, &mut data[0..n]);
-    }
-}
-
-fn play_lines(job: Job, data: &mut [u8]) {
-    if job.events {
-        play_line(job, false, data);
-        play_line(job, true, data);
-    }
-}
-
-// ---- the report
-
-fn dump(job: Job, data: &[u8]) {
+fn dump(ok: bool, job: Job, data: &[u8]) -> bool {
     let n = job.length;
     if job.reads {
         if n <= data.len() {
-            show::dump(job.at, &data[0..n]);
+            return show::dump(ok, job.at, &data[0..n]);
         }
     }
+    ok
 }
 
-fn run(job: Job, chip: Chip, array: &mut [u8], id: &mut [u8], data: &mut [u8]) {
-    let report = bench::run(request(job), job.enable, job.ends, chip, array, id, data);
+// A run that is not done leaves no file.
+fn saved(job: Job, report: Report, array: &[u8], id: &[u8]) -> bool {
     let verdict = report.verdict;
     let last = report.chip;
-    let n = number(verdict);
-    show::head(n);
-    show::bytes(report.bytes, job.length);
-    show::count(b"polls ", report.polls);
-    show::count(b"cycles ", report.cycles);
-    show::count(b"clocks ", report.clocks);
-    play_lines(job, data);
-    if n != 0 {
-        return;
+    if files::number(verdict) == 0 {
+        return files::save(job, last, array, id);
     }
-    dump(job, data);
-    if job.save != 0 {
-        save(job, last, array, id);
-    }
+    true
 }
 
-fn begin(job: Job, array: &mut [u8], id: &mut [u8], data: &mut [u8]) {
+fn tell_report(asked: usize, report: Report) -> bool {
+    let verdict = report.verdict;
+    show::figures(
+        show::head(files::number(verdict)),
+        report.bytes,
+        asked,
+        report.polls,
+        report.cycles,
+        report.clocks,
+    )
+}
+
+// Of a read that is done.
+fn tell_bytes(ok: bool, job: Job, report: Report, data: &[u8]) -> bool {
+    let verdict = report.verdict;
+    if files::number(verdict) == 0 {
+        return dump(ok, job, data);
+    }
+    ok
+}
+
+fn blank() -> [u8; 393216]
+    ensures { λ r. ⌜ 393216 ≡ length r ⌝ }
+{
+    [0; 393216]
+}
+
+// The file stands before the report is told.
+fn run(job: Job, chip: Chip, array: &mut [u8], id: &mut [u8], data: &mut [u8]) -> bool {
+    let mut events = blank();
+    let mut levels = blank();
+    let run = bench::record(
+        request(job),
+        job.own,
+        job.ends,
+        chip,
+        array,
+        id,
+        data,
+        &mut events,
+        &mut levels,
+    );
+    let report = run.report;
+    if !saved(job, report, array, id) {
+        return false;
+    }
+    let told = tell_report(job.length, report);
+    let taped = tell_tape(told, job.events, run.sent, &mut events, &mut levels);
+    tell_bytes(taped, job, report, data)
+}
+
+fn begin(job: Job, array: &mut [u8], id: &mut [u8], data: &mut [u8]) -> bool {
     let first = prepared(job, array, id);
     let chip = first.chip;
     if first.number == TOLD {
-        return;
+        return false;
     }
     if first.number != 0 {
         return show::head(first.number);
     }
-    run(job, chip, array, id, data);
+    run(job, chip, array, id, data)
 }
 
 // The buffers hold the largest part: a smaller one is lent as much as it has.
-fn fit(job: Job, array: &mut [u8], id: &mut [u8], data: &mut [u8]) {
+fn fit(job: Job, array: &mut [u8], id: &mut [u8], data: &mut [u8]) -> bool {
     let f = parts::facts_of(job.part);
     let m = f.size;
     let n = parts::id_size(f);
     if m <= array.len() {
         if n <= id.len() {
-            begin(job, &mut array[0..m], &mut id[0..n], data);
+            return begin(job, &mut array[0..m], &mut id[0..n], data);
         }
     }
+    false
 }
 
-fn lend(job: Job, data: &mut [u8]) {
+// 1 and 2 are given before a file is looked at.
+fn refusal(job: Job) -> u8 {
+    let f = parts::facts_of(job.part);
+    if !f.known {
+        return 1;
+    }
+    if parts::enable_right(f, job.enable) {
+        if parts::enable_right(f, job.own) {
+            return 0;
+        }
+    }
+    2
+}
+
+// False where nothing, or not all, could be answered: standard error has the reason.
+fn lend(job: Job, data: &mut [u8]) -> bool {
+    let number = refusal(job);
+    if number != 0 {
+        return show::head(number);
+    }
     let mut array = [0u8; 32768];
     let mut id = [0u8; 64];
-    fit(job, &mut array, &mut id, data);
+    fit(job, &mut array, &mut id, data)
 }
 
-fn write_in(job: Job, data: &mut [u8]) {
-    let got = words::data(data);
+fn write_in(job: Job, data: &mut [u8]) -> bool {
+    let got = words::data(data, job.bytes);
     let n = got.n;
     if got.ok {
         if n <= data.len() {
-            lend(Job { length: n, ..job }, &mut data[0..n]);
+            return lend(Job { length: n, ..job }, &mut data[0..n]);
         }
     }
+    false
 }
 
+// ---- commands: `next` is the first word behind the command's, and the words end before `end`
+
 // `write PART ENABLE ADDRESS HEXBYTES ..`
-pub fn write_command() {
-    let job = words::asked(false);
+pub fn write_command(next: usize, end: usize) -> bool {
+    let job = words::asked(words::plain(false, next, end));
     if job.ok {
         let mut data = [0u8; 32769];
-        write_in(job, &mut data);
+        return write_in(job, &mut data);
     }
+    false
 }
 
 // `read PART ENABLE ADDRESS LENGTH ..`
-pub fn read_command() {
-    let job = words::asked(true);
+pub fn read_command(next: usize, end: usize) -> bool {
+    let job = words::asked(words::plain(true, next, end));
     if job.ok {
         let mut data = [0u8; 32769];
-        lend(job, &mut data);
+        return lend(job, &mut data);
     }
+    false
 }
 
-// `bench PART [--enable N]`
-pub fn bench_command() {
-    let job = words::bench_asked();
-    if job.ok {
-        tables::print_all(job.part, job.enable);
+fn told(done: bool) -> bool {
+    if !done {
+        os::fail(b"sapwoodle: standard output");
     }
+    done
+}
+
+// `bench PART [--enable N]`, or `bench` for every part.
+pub fn bench_command(next: usize, end: usize) -> bool {
+    if end <= next {
+        return told(tables::print_every());
+    }
+    let job = words::bench_asked(words::plain(false, next, end));
+    if job.ok {
+        return told(tables::print_all(job.part, job.enable));
+    }
+    false
 }

@@ -1,61 +1,150 @@
-// What a run is answered with: plain lines on standard output that other tools can read.
+// What a run is answered with: plain lines on standard output that other tools can read. Each function is told whether the lines
+// before it were written, and says so of its own: what standard output does not take is said once, and nothing follows.
 ghost use Prim.Native.Nat.{_<_};
 use libc::STDOUT_FILENO;
 
-pub fn say(text: &[u8]) {
-    io::write_all(STDOUT_FILENO, text);
+pub fn say(ok: bool, text: &[u8]) -> bool {
+    if !ok {
+        return false;
+    }
+    let done = io::write_all(STDOUT_FILENO, text);
+    if !done {
+        os::fail(b"sapwoodle: standard output");
+    }
+    done
 }
 
-fn number(n: usize) {
-    io::print_decimal(STDOUT_FILENO, n as u64);
+fn number(ok: bool, n: usize) -> bool {
+    let mut text = [0u8; 20];
+    let k = io::decimal(n as u64, &mut text);
+    say(ok, &text[..k])
+}
+
+pub fn count(ok: bool, name: &[u8], n: usize) -> bool {
+    let named = say(ok, name);
+    let told = number(named, n);
+    say(told, b"\n")
+}
+
+fn bytes(ok: bool, n: usize, asked: usize) -> bool {
+    let named = say(ok, b"bytes ");
+    let told = number(named, n);
+    count(told, b" of ", asked)
+}
+
+// Refused before anything changed: by the request or by what it is run on.
+fn reason_before(n: u8) -> bool {
+    match n {
+        1 => say(true, b"there is no such part\n"),
+        2 => say(true, b"this part is never at this enable\n"),
+        5 => say(true, b"this part has no Write Control pin\n"),
+        7 => say(
+            true,
+            b"the bytes do not all lie in the array or the page, or there is no such page\n",
+        ),
+        8 => say(
+            true,
+            b"the budget goes from 1 to 1000, --ends-at from 1 to 65535\n",
+        ),
+        12 => say(true, b"the file is no image of its part\n"),
+        _ => true,
+    }
+}
+
+// What a number usually means at a bench.
+fn reason(n: u8) -> bool {
+    match n {
+        9 => say(
+            true,
+            b"nobody answered at this enable, or the chip is busy\n",
+        ),
+        10 => say(
+            true,
+            b"Write Control is high, or the identification page is locked\n",
+        ),
+        11 => say(
+            true,
+            b"the chip stayed busy longer than the budget of polls\n",
+        ),
+        _ => reason_before(n),
+    }
 }
 
 fn wide(n: u8) -> usize {
     n as usize
 }
 
-pub fn count(name: &[u8], n: usize) {
-    say(name);
-    number(n);
-    say(b"\n");
-}
-
-pub fn bytes(n: usize, asked: usize) {
-    say(b"bytes ");
-    number(n);
-    count(b" of ", asked);
-}
-
-// Refused before anything changed: by the request or by what it is run on.
-fn reason_before(n: u8) {
-    match n {
-        1 => say(b"there is no such part\n"),
-        2 => say(b"this part is never at this enable\n"),
-        5 => say(b"this part has no Write Control pin\n"),
-        7 => say(b"the bytes do not all lie in the array or the page, or there is no such page\n"),
-        8 => say(b"the budget goes from 1 to 1000, --ends-at from 1 to 65535\n"),
-        12 => say(b"the file is no image of its part\n"),
-        _ => {}
-    }
-}
-
-// What a number usually means at a bench.
-fn reason(n: u8) {
-    match n {
-        9 => say(b"nobody answered at this enable, or the chip is busy\n"),
-        10 => say(b"Write Control is high, or the identification page is locked\n"),
-        11 => say(b"the chip stayed busy longer than the budget of polls\n"),
-        _ => reason_before(n),
-    }
-}
-
 // The first line, which tells a refusal from a run that is done.
-pub fn head(n: u8) {
+pub fn head(n: u8) -> bool {
     if n == 0 {
-        return say(b"done\n");
+        return say(true, b"done\n");
     }
-    count(b"refused ", wide(n));
-    reason(n);
+    if count(true, b"refused ", wide(n)) {
+        return reason(n);
+    }
+    false
+}
+
+// The figures of a run.
+pub fn figures(
+    ok: bool,
+    done: usize,
+    asked: usize,
+    polls: usize,
+    cycles: usize,
+    clocks: usize,
+) -> bool {
+    let one = bytes(ok, done, asked);
+    let two = count(one, b"polls ", polls);
+    let three = count(two, b"cycles ", cycles);
+    count(three, b"clocks ", clocks)
+}
+
+// ---- the tape
+
+fn letter(code: u8) -> u8 {
+    match code {
+        0 => b'0',
+        1 => b'1',
+        2 => b'S',
+        3 => b'P',
+        _ => b'E',
+    }
+}
+
+fn mark(level: u8) -> u8 {
+    match level {
+        0 => b'0',
+        1 => b'1',
+        _ => b'-',
+    }
+}
+
+fn sign(levels: bool, x: u8) -> u8 {
+    if levels {
+        return mark(x);
+    }
+    letter(x)
+}
+
+// Codes become letters, or levels their marks.
+fn spell(levels: bool, tape: &mut [u8]) {
+    let mut i = 0;
+    while i < tape.len() {
+        tape[i] = sign(levels, tape[i]);
+        i += 1;
+    }
+}
+
+// As much of a tape of `sent` events as was kept, as one line.
+pub fn tape(ok: bool, levels: bool, sent: usize, kept: &mut [u8]) -> bool {
+    spell(levels, kept);
+    if sent < kept.len() {
+        let told = say(ok, &kept[0..sent]);
+        return say(told, b"\n");
+    }
+    let told = say(ok, kept);
+    say(told, b"\n")
 }
 
 // ---- bytes in hexadecimal
@@ -66,40 +155,46 @@ fn hex_digit(n: u8) -> u8
     if n < 10 { 48 + n } else { 87 + n }
 }
 
-fn hex(b: u8) {
+fn hex(ok: bool, b: u8) -> bool {
     let pair = [b' ', hex_digit(b / 16), hex_digit(b % 16)];
-    io::write_all(STDOUT_FILENO, &pair);
+    say(ok, &pair)
 }
 
 // The sum is guarded for the proof alone: what is shown lies in an array.
-fn row(from: usize, i: usize) {
-    if 0 < i {
-        say(b"\n");
-    }
+fn address(ok: bool, from: usize, i: usize) -> bool {
     if from < 65536 {
         if i < 65536 {
             let at = from + i;
-            io::print_hex(STDOUT_FILENO, at as u64, 4);
+            let mut text = [0u8; 16];
+            let k = io::hex(at as u64, 4, &mut text);
+            return say(ok, &text[..k]);
         }
     }
-    say(b":");
-}
-
-fn one(from: usize, i: usize, b: u8) {
-    if i % 16 == 0 {
-        row(from, i);
-    }
-    hex(b);
+    ok
 }
 
 // 16 bytes to a line, behind the address of the first.
-pub fn dump(from: usize, shown: &[u8]) {
+fn row(ok: bool, from: usize, i: usize) -> bool {
+    if i % 16 != 0 {
+        return ok;
+    }
+    if i == 0 {
+        return say(address(ok, from, i), b":");
+    }
+    let ended = say(ok, b"\n");
+    say(address(ended, from, i), b":")
+}
+
+pub fn dump(ok: bool, from: usize, shown: &[u8]) -> bool {
+    let mut told = ok;
     let mut i = 0;
     while i < shown.len() {
-        one(from, i, shown[i]);
+        told = row(told, from, i);
+        told = hex(told, shown[i]);
         i += 1;
     }
-    if 0 < i {
-        say(b"\n");
+    if i == 0 {
+        return told;
     }
+    say(told, b"\n")
 }

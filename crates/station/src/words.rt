@@ -1,4 +1,4 @@
-// The words of the command line, made into a job. What is wrong with a word is said on standard error at once.
+// The words of a command line, made into a job. What is wrong with a word is said on standard error at once.
 ghost use Prim.Native.Nat.{_≤_};
 use libc::STDERR_FILENO;
 use libc::STDIN_FILENO;
@@ -6,10 +6,13 @@ use libc::STDIN_FILENO;
 // `ok` false: a word was wrong, and that was said.
 pub struct Job {
     pub ok: bool,
-    // The word that is looked at next.
+    // The word that is looked at next, and where the words end.
     pub next: usize,
+    pub end: usize,
     pub part: u8,
+    // What the driver selects by, and what the chip answers at.
     pub enable: u8,
+    pub own: u8,
     pub at: usize,
     pub ident: bool,
     pub reads: bool,
@@ -20,9 +23,10 @@ pub struct Job {
     pub pin: u8,
     // Whether the events are printed.
     pub events: bool,
-    // Which words name the files; 0 for none.
+    // Which words name the files and have the bytes; 0 for none.
     pub image: usize,
     pub save: usize,
+    pub bytes: usize,
 }
 
 pub struct Number {
@@ -30,7 +34,41 @@ pub struct Number {
     pub n: usize,
 }
 
-const NO_PART: u8 = 255;
+// What a word is taken for, by number: the four words that are always there, then the options.
+const PART: u8 = 1;
+
+const ENABLE: u8 = 2;
+
+const ADDRESS: u8 = 3;
+
+const LENGTH: u8 = 4;
+
+const BUDGET: u8 = 5;
+
+const ENDS: u8 = 6;
+
+const OWN: u8 = 7;
+
+const PIN: u8 = 8;
+
+const IMAGE: u8 = 9;
+
+const SAVE: u8 = 10;
+
+const IDENT: u8 = 11;
+
+const EVENTS: u8 = 12;
+
+// The name of an option, the bytes of a write, and two more that a word can be wrong as.
+const OPTION: u8 = 13;
+
+const BYTES: u8 = 14;
+
+const LONG: u8 = 15;
+
+const MISSING: u8 = 16;
+
+const NONE: usize = 255;
 
 // ---- complaints
 
@@ -40,13 +78,20 @@ fn tell(text: &[u8]) {
 
 fn usage() {
     tell(
-        b"usage: sapwoodle write PART ENABLE ADDRESS HEXBYTES [option ..]    HEXBYTES - : the bytes from standard input\n",
+        b"usage: sapwoodle write PART ENABLE ADDRESS HEXBYTES [option ..]    HEXBYTES - : the bytes from standard input\n       sapwoodle read PART ENABLE ADDRESS LENGTH [option ..]\n       sapwoodle bench [PART [--enable N]]\noptions: --ident --events --budget N --ends-at D --pin high|low|floating --chip-enable N --image FILE --save FILE\n",
     );
-    tell(b"       sapwoodle bench PART [--enable N]\n");
-    tell(b"       sapwoodle read PART ENABLE ADDRESS LENGTH [option ..]\n");
-    tell(
-        b"options: --ident --events --budget N --ends-at D --pin high|low|floating --image FILE --save FILE\n",
-    );
+}
+
+fn reason(kind: u8) {
+    match kind {
+        PART => tell(b"is no part: a digit, or a name such as M24C64-D\n"),
+        PIN => tell(b"is none of high, low, floating, for --pin\n"),
+        OPTION => tell(b"is no option, or one too many\n"),
+        BYTES => tell(b"is no row of bytes: two hexadecimal digits a byte, or -\n"),
+        LONG => tell(b"is too long\n"),
+        MISSING => tell(b"is missing\n"),
+        _ => tell(b"is no number, decimal or 0x\n"),
+    }
 }
 
 fn quote(word: &[u8]) {
@@ -56,19 +101,19 @@ fn quote(word: &[u8]) {
 }
 
 // A word is named by its number too: it may be missing, or too long to show.
-fn complain(i: usize, why: &[u8]) {
+fn complain(i: usize, kind: u8) {
     let mut word = io::buffer();
     let n = os::arg(i, &mut word);
     tell(b"sapwoodle: word ");
     io::print_decimal(STDERR_FILENO, i as u64);
     quote(&word[..n]);
-    tell(why);
-    tell(b"\n");
+    reason(kind);
     usage();
 }
 
-fn bad(job: Job, i: usize, why: &[u8]) -> Job {
-    complain(i, why);
+// The word that is looked at is wrong.
+fn bad(job: Job, kind: u8) -> Job {
+    complain(job.next, kind);
     Job { ok: false, ..job }
 }
 
@@ -168,15 +213,9 @@ fn number_of(word: &[u8]) -> Number {
     digits(word, false)
 }
 
-fn number_at(i: usize) -> Number {
-    let mut word = io::buffer();
-    let n = os::arg(i, &mut word);
-    number_of(&word[..n])
-}
+// ---- what a word says
 
-// ---- the four words that are always there
-
-fn named(word: &[u8]) -> u8 {
+fn named(word: &[u8]) -> usize {
     if same(word, b"M24C16-DFCU") {
         return 0;
     }
@@ -195,122 +234,22 @@ fn named(word: &[u8]) -> u8 {
     if same(word, b"M24256-D") {
         return 5;
     }
-    NO_PART
+    NONE
 }
 
 // A digit above 5 is taken: the run refuses it with its number.
-fn part_of(word: &[u8]) -> u8 {
+fn part_of(word: &[u8]) -> usize {
     if word.len() == 1 {
         let d = digit(word[0]);
         if d < 10 {
-            return d;
+            return wide(d);
         }
     }
     named(word)
 }
 
-fn part_at(i: usize) -> u8 {
-    let mut word = io::buffer();
-    let n = os::arg(i, &mut word);
-    part_of(&word[..n])
-}
-
-fn take_part(job: Job) -> Job {
-    let part = part_at(2);
-    if part == NO_PART {
-        return bad(job, 2, b"is no part: a digit, or a name such as M24C64-D");
-    }
-    Job { part, ..job }
-}
-
-// No part is at an enable above 7, so that one which does not fit is refused as 255 is.
-fn narrow(n: usize) -> u8 {
-    if n < 255 { n as u8 } else { 255 }
-}
-
-fn take_enable(job: Job, i: usize) -> Job {
-    let enable = number_at(i);
-    if enable.ok {
-        return Job {
-            enable: narrow(enable.n),
-            ..job
-        };
-    }
-    bad(job, i, b"is no enable: a number, decimal or 0x")
-}
-
-fn take_address(job: Job) -> Job {
-    let at = number_at(4);
-    if at.ok {
-        return Job { at: at.n, ..job };
-    }
-    bad(job, 4, b"is no address: a number, decimal or 0x")
-}
-
-// The bytes of a write are taken later, where there is a buffer for them.
-fn take_length(job: Job) -> Job {
-    if !job.reads {
-        return job;
-    }
-    let length = number_at(5);
-    if length.ok {
-        return Job {
-            length: length.n,
-            ..job
-        };
-    }
-    bad(job, 5, b"is no length: a number, decimal or 0x")
-}
-
-fn take_four(job: Job) -> Job {
-    let one = take_part(job);
-    if !one.ok {
-        return one;
-    }
-    let two = take_enable(one, 3);
-    if !two.ok {
-        return two;
-    }
-    let three = take_address(two);
-    if !three.ok {
-        return three;
-    }
-    take_length(three)
-}
-
-// ---- options
-
-// The limit is for the proof alone.
-fn after(i: usize) -> usize {
-    if i < 1000 { i + 1 } else { i }
-}
-
-fn take_budget(job: Job, i: usize) -> Job {
-    let budget = number_at(i);
-    if budget.ok {
-        return Job {
-            budget: budget.n,
-            next: after(i),
-            ..job
-        };
-    }
-    bad(job, i, b"is no number for --budget")
-}
-
-fn take_ends(job: Job, i: usize) -> Job {
-    let ends = number_at(i);
-    if ends.ok {
-        return Job {
-            ends: ends.n,
-            next: after(i),
-            ..job
-        };
-    }
-    bad(job, i, b"is no number for --ends-at")
-}
-
-// The events L, H and F; 0 for another word.
-fn pin_of(word: &[u8]) -> u8 {
+// The events L, H and F.
+fn pin_of(word: &[u8]) -> usize {
     if same(word, b"low") {
         return 5;
     }
@@ -320,131 +259,180 @@ fn pin_of(word: &[u8]) -> u8 {
     if same(word, b"floating") {
         return 7;
     }
-    0
+    NONE
 }
 
-fn pin_at(i: usize) -> u8 {
-    let mut word = io::buffer();
-    let n = os::arg(i, &mut word);
-    pin_of(&word[..n])
-}
-
-fn take_pin(job: Job, i: usize) -> Job {
-    let pin = pin_at(i);
-    if pin == 0 {
-        return bad(job, i, b"is none of high, low, floating, for --pin");
-    }
-    Job {
-        pin,
-        next: after(i),
-        ..job
-    }
-}
-
-fn take_image(job: Job, i: usize) -> Job {
-    if i < os::arg_count() {
-        return Job {
-            image: i,
-            next: after(i),
-            ..job
-        };
-    }
-    bad(job, i, b"is missing: a file for --image")
-}
-
-fn take_save(job: Job, i: usize) -> Job {
-    if i < os::arg_count() {
-        return Job {
-            save: i,
-            next: after(i),
-            ..job
-        };
-    }
-    bad(job, i, b"is missing: a file for --save")
-}
-
-fn option(job: Job, word: &[u8], i: usize) -> Job {
-    let value = after(i);
-    if same(word, b"--ident") {
-        return Job {
-            ident: true,
-            next: value,
-            ..job
-        };
-    }
-    if same(word, b"--events") {
-        return Job {
-            events: true,
-            next: value,
-            ..job
-        };
-    }
-    valued(job, word, i)
-}
-
-fn valued(job: Job, word: &[u8], i: usize) -> Job {
-    let value = after(i);
-    if same(word, b"--budget") {
-        return take_budget(job, value);
-    }
-    if same(word, b"--ends-at") {
-        return take_ends(job, value);
-    }
-    if same(word, b"--pin") {
-        return take_pin(job, value);
-    }
+fn rarer_of(word: &[u8]) -> u8 {
     if same(word, b"--image") {
-        return take_image(job, value);
+        return IMAGE;
     }
     if same(word, b"--save") {
-        return take_save(job, value);
+        return SAVE;
     }
-    bad(job, i, b"is no option")
+    if same(word, b"--ident") {
+        return IDENT;
+    }
+    if same(word, b"--enable") {
+        return ENABLE;
+    }
+    255
 }
 
-fn option_at(job: Job) -> Job {
-    let i = job.next;
+fn option_of(word: &[u8]) -> u8 {
+    if same(word, b"--events") {
+        return EVENTS;
+    }
+    if same(word, b"--budget") {
+        return BUDGET;
+    }
+    if same(word, b"--ends-at") {
+        return ENDS;
+    }
+    if same(word, b"--pin") {
+        return PIN;
+    }
+    if same(word, b"--chip-enable") {
+        return OWN;
+    }
+    rarer_of(word)
+}
+
+fn found(n: usize) -> Number {
+    Number { ok: n != NONE, n }
+}
+
+fn parsed(word: &[u8], kind: u8) -> Number {
+    match kind {
+        PART => found(part_of(word)),
+        PIN => found(pin_of(word)),
+        OPTION => found(wide(option_of(word))),
+        _ => number_of(word),
+    }
+}
+
+fn parsed_at(i: usize, kind: u8) -> Number {
     let mut word = io::buffer();
     let n = os::arg(i, &mut word);
-    option(job, &word[..n], i)
+    parsed(&word[..n], kind)
 }
 
-fn take_one(job: Job) -> Job {
+// ---- what a job is made of
+
+// The limit is for the proof alone.
+fn after(i: usize) -> usize {
+    if i < 1000 { i + 1 } else { i }
+}
+
+// No part is at an enable above 7, so that one which does not fit is refused as 255 is.
+fn narrow(n: usize) -> u8 {
+    if n < 255 { n as u8 } else { 255 }
+}
+
+// The chip is at the driver's enable until an option says otherwise.
+fn set(job: Job, kind: u8, n: usize) -> Job {
+    let small = narrow(n);
+    match kind {
+        PART => Job { part: small, ..job },
+        ENABLE => Job {
+            enable: small,
+            own: small,
+            ..job
+        },
+        ADDRESS => Job { at: n, ..job },
+        LENGTH => Job { length: n, ..job },
+        BUDGET => Job { budget: n, ..job },
+        ENDS => Job { ends: n, ..job },
+        OWN => Job { own: small, ..job },
+        PIN => Job { pin: small, ..job },
+        IMAGE => Job { image: n, ..job },
+        SAVE => Job { save: n, ..job },
+        IDENT => Job { ident: true, ..job },
+        _ => Job {
+            events: true,
+            ..job
+        },
+    }
+}
+
+// The next word, as a number of the kind.
+fn take(job: Job, kind: u8) -> Job {
     if !job.ok {
         return job;
     }
-    if os::arg_count() <= job.next {
+    let value = parsed_at(job.next, kind);
+    if value.ok {
+        let next = after(job.next);
+        return set(Job { next, ..job }, kind, value.n);
+    }
+    bad(job, kind)
+}
+
+// The next word names a file.
+fn take_file(job: Job, kind: u8) -> Job {
+    let word = job.next;
+    if word < job.end {
+        let next = after(word);
+        return set(Job { next, ..job }, kind, word);
+    }
+    bad(job, MISSING)
+}
+
+// `job` stands behind the option's name.
+fn take_value(job: Job, kind: u8) -> Job {
+    if kind < IMAGE {
+        return take(job, kind);
+    }
+    if kind < IDENT {
+        return take_file(job, kind);
+    }
+    set(job, kind, 0)
+}
+
+// `--enable` is an option of bench alone.
+fn take_option(job: Job) -> Job {
+    if !job.ok {
         return job;
     }
-    option_at(job)
+    if job.end <= job.next {
+        return job;
+    }
+    let kind = parsed_at(job.next, OPTION);
+    if kind.ok {
+        if wide(ENABLE) < kind.n {
+            let next = after(job.next);
+            return take_value(Job { next, ..job }, narrow(kind.n));
+        }
+    }
+    bad(job, OPTION)
 }
 
 fn take_some(job: Job) -> Job {
-    let one = take_one(job);
-    let two = take_one(one);
-    let three = take_one(two);
-    take_one(three)
+    let one = take_option(job);
+    let two = take_option(one);
+    let three = take_option(two);
+    take_option(three)
 }
 
-// There are fewer options than eight: more words than that repeat one.
+// There are eight options: more words than that repeat one.
 fn take_options(job: Job) -> Job {
-    let some = take_some(job);
-    let all = take_some(some);
-    if !all.ok {
-        return all;
+    let all = take_some(take_some(job));
+    if all.ok {
+        if all.next < all.end {
+            return bad(all, OPTION);
+        }
     }
-    if os::arg_count() <= all.next {
-        return all;
-    }
-    bad(all, all.next, b"is one option too many")
+    all
 }
 
-fn plain(reads: bool) -> Job {
+// Nothing is asked for yet; the words go from `next` to before `end`.
+pub fn plain(reads: bool, next: usize, end: usize) -> Job {
     Job {
         ok: true,
-        next: 6,
+        next,
+        end,
         part: 0,
         enable: 0,
+        own: 0,
         at: 0,
         ident: false,
         reads,
@@ -455,47 +443,49 @@ fn plain(reads: bool) -> Job {
         events: false,
         image: 0,
         save: 0,
+        bytes: 0,
     }
 }
 
-fn is_enable(i: usize) -> bool {
-    let mut word = io::buffer();
-    let n = os::arg(i, &mut word);
-    same(&word[..n], b"--ENABLE")
-}
-
-// The part and the enable of `bench PART [--enable N]`.
-pub fn bench_asked() -> Job {
-    let first = plain(false);
-    let count = os::arg_count();
-    if count < 3 {
-        return bad(first, count, b"is missing");
-    }
-    let named = take_part(first);
-    if count < 4 {
+// The part and the enable of `PART [--enable N]`.
+pub fn bench_asked(first: Job) -> Job {
+    let named = take(first, PART);
+    if named.end <= named.next {
         return named;
     }
-    if !named.ok {
-        return named;
+    let kind = parsed_at(named.next, OPTION);
+    if kind.n == wide(ENABLE) {
+        let next = after(named.next);
+        return take(Job { next, ..named }, ENABLE);
     }
-    let option = is_enable(3);
-    if option {
-        return take_enable(named, 4);
+    if named.ok {
+        return bad(named, OPTION);
     }
-    bad(named, 3, b"is no option of bench: --enable N")
+    named
 }
 
-pub fn asked(reads: bool) -> Job {
-    let first = plain(reads);
-    let count = os::arg_count();
-    if count < 6 {
-        return bad(first, count, b"is missing");
+// The bytes of a write are taken later, where there is a buffer for them.
+fn take_last(job: Job) -> Job {
+    if job.reads {
+        return take(job, LENGTH);
     }
-    let four = take_four(first);
-    if four.ok {
-        return take_options(four);
+    let word = job.next;
+    Job {
+        bytes: word,
+        next: after(word),
+        ..job
     }
-    four
+}
+
+// The four words that are always there, and options.
+pub fn asked(first: Job) -> Job {
+    let last = after(after(after(first.next)));
+    if first.end <= last {
+        let end = first.end;
+        return bad(Job { next: end, ..first }, MISSING);
+    }
+    let three = take(take(take(first, PART), ENABLE), ADDRESS);
+    take_options(take_last(three))
 }
 
 // ---- the bytes of a write
@@ -546,28 +536,25 @@ fn unhex(word: &[u8], to: &mut [u8]) -> Number {
     Number { ok, n: k }
 }
 
-fn bytes(word: &[u8], to: &mut [u8]) -> Number {
+fn bytes(word: &[u8], to: &mut [u8], i: usize) -> Number {
     if same(word, b"-") {
         return input(to);
     }
     let made = unhex(word, to);
     if !made.ok {
-        complain(
-            5,
-            b"is no row of bytes: two hexadecimal digits a byte, or -",
-        );
+        complain(i, BYTES);
     }
     made
 }
 
-// The bytes of word 5, and how many. A word that the buffer cannot hold has more bytes than any array.
-pub fn data(to: &mut [u8]) -> Number {
+// The bytes of word i, and how many. A word that the buffer cannot hold has more bytes than any array.
+pub fn data(to: &mut [u8], i: usize) -> Number {
     let mut word = io::large_buffer();
-    let n = os::arg(5, &mut word);
+    let n = os::arg(i, &mut word);
     let error = os::errno();
     if error != 0 {
-        complain(5, b"is too long");
+        complain(i, LONG);
         return Number { ok: false, n: 0 };
     }
-    bytes(&word[..n], to)
+    bytes(&word[..n], to, i)
 }

@@ -1,15 +1,51 @@
-// One write or read, as it is typed: the words are those of the file args.
-fn choose(word: &[u8]) {
-    if 0 < word.len() {
-        if word[0] == b'r' {
-            return station::read_command();
-        }
+// Commands as they are typed, one after the other: the words are those of the file args, with `then` between two commands.
+fn is_then(word: &[u8]) -> bool {
+    check::same(word, b"then")
+}
+
+fn then_at(i: usize) -> bool {
+    let mut word = io::buffer();
+    let n = os::arg(i, &mut word);
+    is_then(&word[..n])
+}
+
+// The limit is for the proof alone.
+fn after(i: usize) -> usize {
+    if i < 1000 { i + 1 } else { i }
+}
+
+fn choose(word: &[u8], next: usize, end: usize) {
+    if check::same(word, b"read") {
+        station::read_command(next, end);
+        return;
     }
-    station::write_command();
+    station::write_command(next, end);
+}
+
+// The command from a word on; an empty line stands before it.
+fn command(at: usize, end: usize) {
+    let mut word = io::buffer();
+    let n = os::arg(at, &mut word);
+    io::write_all(libc::STDOUT_FILENO, b"\n");
+    choose(&word[..n], after(at), end);
+}
+
+// Where the command that is under way begins.
+fn ended(first: usize, i: usize) -> usize {
+    if then_at(i) {
+        command(first, i);
+        return after(i);
+    }
+    first
 }
 
 fn main() {
-    let mut word = io::buffer();
-    let n = os::arg(1, &mut word);
-    choose(&word[..n]);
+    let count = os::arg_count();
+    let mut first = 1;
+    let mut i = 1;
+    while i < count {
+        first = ended(first, i);
+        i += 1;
+    }
+    command(first, count);
 }

@@ -18,6 +18,18 @@ struct Script {
     high: usize,
 }
 
+// What a transfer did: whether its first two data bytes were acknowledged, the cycles begun, and what stands at the page's last
+// place, at its first and in the identification page.
+struct Tried {
+    first: bool,
+    second: bool,
+    cycles: usize,
+    last: u8,
+    front: u8,
+    ident: u8,
+    chip: Chip,
+}
+
 const START: u8 = 2;
 
 const STOP: u8 = 3;
@@ -48,37 +60,35 @@ const LOCKS: u8 = 3;
 
 const BUSY: u8 = 4;
 
-const PARTS: u8 = 5;
-
 // ---- numbers and text
 
-fn say(text: &[u8]) {
-    io::write_all(STDOUT_FILENO, text);
+// False where it could not be written.
+fn say(text: &[u8]) -> bool {
+    io::write_all(STDOUT_FILENO, text)
 }
 
 fn tell(n: usize) {
     io::print_decimal(STDOUT_FILENO, n as u64);
 }
 
-// A number at the right end of two columns.
-fn tell_two(n: usize) {
-    if n < 10 {
+fn pad(n: usize, limit: usize) {
+    if n < limit {
         say(b" ");
     }
+}
+
+// A number at the right end of two columns.
+fn tell_two(n: usize) {
+    pad(n, 10);
     tell(n);
 }
 
-// A number at the right end of five columns.
-fn tell_five(n: usize) {
-    if n < 10000 {
-        say(b" ");
-    }
-    if n < 1000 {
-        say(b" ");
-    }
-    if n < 100 {
-        say(b" ");
-    }
+// A number at the right end of five columns, behind two more.
+fn tell_seven(n: usize) {
+    say(b"  ");
+    pad(n, 10000);
+    pad(n, 1000);
+    pad(n, 100);
     tell_two(n);
 }
 
@@ -87,32 +97,23 @@ fn byte(n: usize) -> u8 {
 }
 
 // Document 01 writes hexadecimal digits in capitals.
-fn tell_digit(n: u8) {
-    match n {
-        10 => say(b"A"),
-        11 => say(b"B"),
-        12 => say(b"C"),
-        13 => say(b"D"),
-        14 => say(b"E"),
-        15 => say(b"F"),
-        _ => tell(n as usize),
+fn digit(n: u8) -> u8 {
+    if n < 10 {
+        return 48 + n;
     }
-}
-
-fn tell_pair(x: u8) {
-    tell_digit(x / 16);
-    tell_digit(x % 16);
+    if n < 16 { 55 + n } else { b'?' }
 }
 
 fn tell_byte(x: u8) {
-    tell_pair(x);
-    say(b"h");
+    let text = [digit(x / 16), digit(x % 16), b'h'];
+    say(&text);
 }
 
 fn tell_address(a: usize) {
-    tell_pair(byte(a / 256));
-    tell_pair(byte(a % 256));
-    say(b"h");
+    let high = byte(a / 256);
+    let text = [digit(high / 16), digit(high % 16)];
+    say(&text);
+    tell_byte(byte(a % 256));
 }
 
 fn less(n: usize) -> usize {
@@ -131,7 +132,7 @@ fn at(s: &[u8], i: usize) -> u8 {
 }
 
 // The first n bytes, for a caller whose slice has them.
-fn front(s: &[u8], n: usize) -> &[u8] {
+fn first_of(s: &[u8], n: usize) -> &[u8] {
     if n <= s.len() {
         return &s[0..n];
     }
@@ -220,7 +221,7 @@ fn play(
     let mut events = [0u8; 64];
     fill(&mut events, s);
     let n = events_in(s);
-    chip::run(part, enable, chip, array, id, front(&events, n), levels)
+    chip::run(part, enable, chip, array, id, first_of(&events, n), levels)
 }
 
 // Where the acknowledge of byte j stands in the list; j counts from 0, the select.
@@ -237,6 +238,24 @@ fn acknowledge(s: Script, j: usize) -> usize {
 
 fn acknowledged(s: Script, levels: &[u8], j: usize) -> bool {
     at(levels, acknowledge(s, j)) == 0
+}
+
+// What a transfer does to a chip.
+fn attempt(part: u8, enable: u8, s: Script, chip: Chip, array: &mut [u8], id: &mut [u8]) -> Tried {
+    let f = parts::facts_of(part);
+    let j = more(parts::address_bytes(f));
+    let mut levels = [2u8; 64];
+    let r = play(part, enable, chip, array, id, s, &mut levels);
+    let after = r.chip;
+    Tried {
+        first: acknowledged(s, &levels, j),
+        second: acknowledged(s, &levels, more(j)),
+        cycles: r.cycles,
+        last: at(array, less(f.page)),
+        front: at(array, 0),
+        ident: at(id, 0),
+        chip: after,
+    }
 }
 
 // ---- the transfers
@@ -279,20 +298,59 @@ fn clocks(f: Facts, data: usize) -> usize {
     0
 }
 
-// Two bytes at a page's last place: the second rolls over to the page's first.
-fn page_write(f: Facts, enable: u8) -> [u8; 8] {
+// Two bytes at a page's last place, the second rolling over to the page's first; so many clocks, and the pin rising at a place.
+fn page_write(f: Facts, enable: u8, clocks: usize, high: usize) -> Script {
     let last = byte(less(f.page));
-    transfer(f, select(f, false, enable), 0, last, FIRST, SECOND)
+    let bytes = transfer(f, select(f, false, enable), 0, last, FIRST, SECOND);
+    Script {
+        bytes,
+        clocks,
+        high,
+    }
+}
+
+// The kinds of lock byte: bit 1 clear and set, other bits clear and set.
+fn lock_byte(k: usize) -> u8 {
+    match k % 5 {
+        0 => 0,
+        1 => 1,
+        2 => 2,
+        3 => 3,
+        _ => 0xFF,
+    }
+}
+
+// Rows 5 to 9 send a second byte.
+fn lock_bytes(k: usize) -> usize {
+    if k < 5 { 1 } else { 2 }
 }
 
 // The address bit that chooses the lock is in the first address byte where there are two.
-fn lock_command(f: Facts, enable: u8, first: u8) -> [u8; 8] {
+fn lock_command(f: Facts, enable: u8, k: usize) -> Script {
     let low = if f.wide { 0 } else { 0x80 };
-    transfer(f, select(f, true, enable), 4, low, first, 0)
+    let bytes = transfer(f, select(f, true, enable), 4, low, lock_byte(k), 0);
+    Script {
+        bytes,
+        clocks: clocks(f, lock_bytes(k)),
+        high: NEVER,
+    }
 }
 
-fn id_write(f: Facts, enable: u8) -> [u8; 8] {
-    transfer(f, select(f, true, enable), 0, 0, LATER, 255)
+fn id_write(f: Facts, enable: u8) -> Script {
+    let bytes = transfer(f, select(f, true, enable), 0, 0, LATER, 255);
+    Script {
+        bytes,
+        clocks: clocks(f, 1),
+        high: NEVER,
+    }
+}
+
+fn script_of(f: Facts, enable: u8, table: u8, k: usize) -> Script {
+    match table {
+        STOPS => page_write(f, enable, k, NEVER),
+        RISES => page_write(f, enable, clocks(f, 2), k),
+        _ => lock_command(f, enable, k),
+    }
 }
 
 // ---- what is printed of a transfer
@@ -305,8 +363,8 @@ fn tell_yes(yes: bool) {
     }
 }
 
-fn tell_address_name(f: Facts, j: usize) {
-    if f.wide {
+fn tell_address_name(wide: bool, j: usize) {
+    if wide {
         say(b"address ");
         tell(j);
     } else {
@@ -328,27 +386,33 @@ fn tell_byte_name(f: Facts, j: usize) {
         return;
     }
     if j <= a {
-        tell_address_name(f, j);
+        tell_address_name(f.wide, j);
         return;
     }
     tell_data_name(j - a);
 }
 
-// What the last of k clocks was.
-fn tell_place(f: Facts, k: usize) {
-    if k == 0 {
-        say(b"Start                ");
-        return;
-    }
-    let t = less(k);
-    tell_byte_name(f, t / 9);
-    if t % 9 == 8 {
+fn tell_bit(t: usize) {
+    if t == 8 {
         say(b" acknowledge");
     } else {
         say(b" bit ");
-        tell(more(t % 9));
+        tell(more(t));
         say(b"      ");
     }
+}
+
+// How many clocks, and what the last of them was.
+fn tell_place(f: Facts, k: usize) {
+    tell_two(k);
+    if k == 0 {
+        say(b"  Start                ");
+        return;
+    }
+    say(b"  ");
+    let t = less(k);
+    tell_byte_name(f, t / 9);
+    tell_bit(t % 9);
 }
 
 fn tell_cycle(cycles: usize) {
@@ -359,159 +423,100 @@ fn tell_cycle(cycles: usize) {
     }
 }
 
-fn tell_stored(array: &[u8], a: usize, b: usize) {
+fn tell_stored(a: u8, b: u8) -> bool {
     say(b"   ");
-    tell_byte(at(array, a));
+    tell_byte(a);
     say(b"    ");
-    tell_byte(at(array, b));
+    tell_byte(b);
+    say(b"\n")
 }
 
 // ---- 1: a Stop at each clock
 
-fn stop_row(part: u8, enable: u8, k: usize, chip: Chip, array: &mut [u8], id: &mut [u8]) {
-    let f = parts::facts_of(part);
-    let bytes = page_write(f, enable);
-    let s = Script {
-        bytes,
-        clocks: k,
-        high: NEVER,
-    };
-    let mut levels = [2u8; 64];
-    let r = play(part, enable, chip, array, id, s, &mut levels);
-    tell_two(k);
-    say(b"  ");
+fn stop_line(f: Facts, k: usize, cycles: usize, last: u8, front: u8) -> bool {
     tell_place(f, k);
-    tell_cycle(r.cycles);
-    tell_stored(array, less(f.page), 0);
-    say(b"\n");
+    tell_cycle(cycles);
+    tell_stored(last, front)
 }
 
 // ---- 2: Write Control rises
 
 // Place 0 is before the Start, place k + 1 after clock k, the last one after the Stop.
-fn tell_rise(f: Facts, place: usize, clocks: usize) {
+fn tell_rise(f: Facts, place: usize) {
     if place == 0 {
         say(b"    before the Start     ");
         return;
     }
     let k = less(place);
-    if clocks < k {
+    if clocks(f, 2) < k {
         say(b"    after the Stop       ");
         return;
     }
-    tell_two(k);
-    say(b"  ");
     tell_place(f, k);
 }
 
-fn tell_both(f: Facts, s: Script, levels: &[u8]) {
-    let a = parts::address_bytes(f);
+fn tell_both(first: bool, second: bool) {
     say(b"   ");
-    tell_yes(acknowledged(s, levels, more(a)));
+    tell_yes(first);
     say(b"     ");
-    tell_yes(acknowledged(s, levels, more(more(a))));
+    tell_yes(second);
     say(b"  ");
-}
-
-fn rise_row(part: u8, enable: u8, k: usize, chip: Chip, array: &mut [u8], id: &mut [u8]) {
-    let f = parts::facts_of(part);
-    let bytes = page_write(f, enable);
-    let s = Script {
-        bytes,
-        clocks: clocks(f, 2),
-        high: k,
-    };
-    let mut levels = [2u8; 64];
-    let r = play(part, enable, chip, array, id, s, &mut levels);
-    tell_rise(f, k, clocks(f, 2));
-    tell_both(f, s, &levels);
-    tell_cycle(r.cycles);
-    tell_stored(array, less(f.page), 0);
-    say(b"\n");
 }
 
 // ---- 3: the lock command
 
-// The kinds of lock byte: bit 1 clear and set, other bits clear and set.
-fn lock_byte(k: usize) -> u8 {
-    match k % 5 {
-        0 => 0,
-        1 => 1,
-        2 => 2,
-        3 => 3,
-        _ => 0xFF,
-    }
-}
-
-// Rows 5 to 9 send a second byte.
-fn lock_bytes(k: usize) -> usize {
-    if k < 5 { 1 } else { 2 }
-}
-
-fn tell_second(s: Script, levels: &[u8], j: usize, k: usize) {
+fn tell_second(second: bool, k: usize) {
     if k < 5 {
         say(b" -       ");
         return;
     }
     say(b" 00h ");
-    tell_yes(acknowledged(s, levels, j));
+    tell_yes(second);
     say(b" ");
 }
 
-fn tell_locked(chip: Chip) {
-    let line = chip.line;
-    let core = line.core;
+fn lock_line(k: usize, first: bool, second: bool, cycles: usize, locked: bool) {
+    tell_byte(lock_byte(k));
+    say(b" ");
+    tell_yes(first);
+    say(b"  ");
+    tell_second(second, k);
+    tell_cycle(cycles);
     say(b"   ");
-    tell_yes(core.locked);
+    tell_yes(locked);
 }
 
 // An identification write after the lock command: whether its byte is acknowledged, and what is then stored.
-fn tell_later(part: u8, enable: u8, chip: Chip, array: &mut [u8], id: &mut [u8]) {
-    let f = parts::facts_of(part);
-    let bytes = id_write(f, enable);
-    let s = Script {
-        bytes,
-        clocks: clocks(f, 1),
-        high: NEVER,
-    };
-    let mut levels = [2u8; 64];
-    let r = play(part, enable, chip, array, id, s, &mut levels);
+fn later_line(first: bool, cycles: usize, ident: u8) -> bool {
     say(b"      ");
-    tell_yes(acknowledged(s, &levels, more(parts::address_bytes(f))));
-    tell_cycle(r.cycles);
+    tell_yes(first);
+    tell_cycle(cycles);
     say(b"   ");
-    tell_byte(at(id, 0));
-    say(b"\n");
+    tell_byte(ident);
+    say(b"\n")
 }
 
-fn lock_row(part: u8, enable: u8, k: usize, chip: Chip, array: &mut [u8], id: &mut [u8]) {
-    let f = parts::facts_of(part);
-    let first = lock_byte(k);
-    let bytes = lock_command(f, enable, first);
-    let s = Script {
-        bytes,
-        clocks: clocks(f, lock_bytes(k)),
-        high: NEVER,
-    };
-    let mut levels = [2u8; 64];
-    let r = play(part, enable, chip, array, id, s, &mut levels);
-    let j = more(parts::address_bytes(f));
-    tell_byte(first);
-    say(b" ");
-    tell_yes(acknowledged(s, &levels, j));
-    say(b"  ");
-    tell_second(s, &levels, more(j), k);
-    tell_cycle(r.cycles);
-    let after = r.chip;
-    tell_locked(after);
-    tell_later(part, enable, after, array, id);
+fn is_locked(chip: Chip) -> bool {
+    let line = chip.line;
+    let core = line.core;
+    core.locked
+}
+
+fn lock_row(part: u8, enable: u8, k: usize, tried: Tried, array: &mut [u8], id: &mut [u8]) -> bool {
+    let after = tried.chip;
+    lock_line(k, tried.first, tried.second, tried.cycles, is_locked(after));
+    let s = id_write(parts::facts_of(part), enable);
+    let later = attempt(part, enable, s, after, array, id);
+    later_line(later.first, later.cycles, later.ident)
 }
 
 // ---- 4: a chip that stays busy
 
 fn tell_verdict(verdict: Verdict) {
     match verdict {
-        Verdict::Fine => say(b"done      "),
+        Verdict::Fine => {
+            say(b"done      ");
+        }
         Verdict::Refused(r) => {
             say(b"refused ");
             tell_two(parts::number(r) as usize);
@@ -519,19 +524,19 @@ fn tell_verdict(verdict: Verdict) {
     }
 }
 
-fn tell_report(r: Report) {
+fn busy_line(d: usize, r: Report, last: u8, next: u8) -> bool {
     let verdict = r.verdict;
+    tell_two(d);
+    say(b"     ");
     tell_verdict(verdict);
-    say(b"  ");
-    tell_five(r.polls);
-    say(b"  ");
-    tell_five(r.bytes);
-    say(b"  ");
-    tell_five(r.cycles);
+    tell_seven(r.polls);
+    tell_seven(r.bytes);
+    tell_seven(r.cycles);
+    tell_stored(last, next)
 }
 
 // Row k: each cycle ends just before poll k + 1 of its page. The write meets two pages.
-fn busy_row(part: u8, enable: u8, k: usize, chip: Chip, array: &mut [u8], id: &mut [u8]) {
+fn busy_row(part: u8, enable: u8, k: usize, chip: Chip, array: &mut [u8], id: &mut [u8]) -> bool {
     let f = parts::facts_of(part);
     let last = less(f.page);
     let request = Request {
@@ -543,72 +548,23 @@ fn busy_row(part: u8, enable: u8, k: usize, chip: Chip, array: &mut [u8], id: &m
         budget: BUDGET,
     };
     let mut data = [FIRST, SECOND];
-    let d = more(k);
-    let r = bench::run(request, enable, d, chip, array, id, &mut data);
-    tell_two(d);
-    say(b"     ");
-    tell_report(r);
-    tell_stored(array, last, f.page);
-    say(b"\n");
-}
-
-// ---- the part table
-
-fn tell_name(part: u8) {
-    match part {
-        0 => say(b"M24C16-DFCU"),
-        1 => say(b"M24C16-DRE"),
-        2 => say(b"M24C64"),
-        3 => say(b"M24C64-D"),
-        4 => say(b"M24256-B"),
-        5 => say(b"M24256-D"),
-        _ => say(b"unknown"),
-    }
-}
-
-// What fills a name's column.
-fn tell_gap(part: u8) {
-    match part {
-        0 => say(b""),
-        1 => say(b" "),
-        2 => say(b"     "),
-        _ => say(b"   "),
-    }
-}
-
-fn tell_enables(enables: u8) {
-    if enables == 1 {
-        say(b"0 only");
-    } else {
-        say(b"0..");
-        tell(less(enables as usize));
-    }
-}
-
-fn part_row(part: u8) {
-    let f = parts::facts_of(part);
-    tell(part as usize);
-    say(b"     ");
-    tell_name(part);
-    tell_gap(part);
-    say(b"  ");
-    tell_five(f.size);
-    say(b"    ");
-    tell_two(f.page);
-    say(b"  ");
-    tell(parts::address_bytes(f));
-    say(b"              ");
-    tell_yes(f.ident);
-    say(b"      ");
-    tell_yes(f.pin);
-    say(b"     ");
-    tell_enables(f.enables);
-    say(b"\n");
+    let r = bench::run(request, enable, more(k), chip, array, id, &mut data);
+    busy_line(more(k), r, at(array, last), at(array, f.page))
 }
 
 // ---- rows
 
-fn chip_row(
+fn line(f: Facts, table: u8, k: usize, tried: Tried) -> bool {
+    if table == RISES {
+        tell_rise(f, k);
+        tell_both(tried.first, tried.second);
+        tell_cycle(tried.cycles);
+        return tell_stored(tried.last, tried.front);
+    }
+    stop_line(f, k, tried.cycles, tried.last, tried.front)
+}
+
+fn tried_row(
     part: u8,
     enable: u8,
     table: u8,
@@ -616,50 +572,61 @@ fn chip_row(
     chip: Chip,
     array: &mut [u8],
     id: &mut [u8],
-) {
-    match table {
-        STOPS => stop_row(part, enable, k, chip, array, id),
-        RISES => rise_row(part, enable, k, chip, array, id),
-        LOCKS => lock_row(part, enable, k, chip, array, id),
-        _ => busy_row(part, enable, k, chip, array, id),
+) -> bool {
+    let f = parts::facts_of(part);
+    let s = script_of(f, enable, table, k);
+    let tried = attempt(part, enable, s, chip, array, id);
+    if table == LOCKS {
+        return lock_row(part, enable, k, tried, array, id);
     }
+    line(f, table, k, tried)
 }
 
 // Each row starts from delivery.
-fn delivered_row(part: u8, enable: u8, table: u8, k: usize, array: &mut [u8], id: &mut [u8]) {
+fn delivered_row(
+    part: u8,
+    enable: u8,
+    table: u8,
+    k: usize,
+    array: &mut [u8],
+    id: &mut [u8],
+) -> bool {
     let d = chip::deliver(part, array, id);
     let chip = d.chip;
-    chip_row(part, enable, table, k, chip, array, id);
+    if table == BUSY {
+        return busy_row(part, enable, k, chip, array, id);
+    }
+    tried_row(part, enable, table, k, chip, array, id)
 }
 
 // The two buffers, cut to the part's lengths.
-fn lent_row(part: u8, enable: u8, table: u8, k: usize, array: &mut [u8], id: &mut [u8]) {
+fn lent_row(part: u8, enable: u8, table: u8, k: usize, array: &mut [u8], id: &mut [u8]) -> bool {
     let f = parts::facts_of(part);
     let m = f.size;
     let n = parts::id_size(f);
     if m <= array.len() {
         if n <= id.len() {
-            delivered_row(part, enable, table, k, &mut array[0..m], &mut id[0..n]);
+            return delivered_row(part, enable, table, k, &mut array[0..m], &mut id[0..n]);
         }
     }
+    false
 }
 
-fn row(part: u8, enable: u8, table: u8, k: usize) {
-    if table == PARTS {
-        part_row(byte(k));
-        return;
-    }
+fn row(part: u8, enable: u8, table: u8, k: usize) -> bool {
     let mut array = [0u8; 32768];
     let mut id = [0u8; 64];
-    lent_row(part, enable, table, k, &mut array, &mut id);
+    lent_row(part, enable, table, k, &mut array, &mut id)
 }
 
-fn rows(part: u8, enable: u8, table: u8, n: usize) {
+fn rows(part: u8, enable: u8, table: u8, n: usize) -> bool {
     let mut k = 0;
     while k < n {
-        row(part, enable, table, k);
+        if !row(part, enable, table, k) {
+            return false;
+        }
         k += 1;
     }
+    true
 }
 
 // ---- tables
@@ -673,44 +640,54 @@ fn tell_places(a: usize, b: usize) {
 }
 
 // The last row's Stop comes one clock after the last acknowledge.
-fn stops(part: u8, enable: u8, f: Facts) {
+fn stops(part: u8, enable: u8, f: Facts) -> bool {
     say(b"\nA Stop after each clock of a page write, 11h and 22h at ");
     tell_address(less(f.page));
-    say(b"; stored is what E leaves\n");
-    say(b"clocks, the last            cycle  ");
+    say(b"; stored is what E leaves\nclocks, the last            cycle  ");
     tell_places(less(f.page), 0);
-    rows(part, enable, STOPS, more(more(clocks(f, 2))));
+    rows(part, enable, STOPS, more(more(clocks(f, 2))))
 }
 
-fn rises(part: u8, enable: u8, f: Facts) {
+fn rises(part: u8, enable: u8, f: Facts) -> bool {
     say(b"\nWrite Control rises in that write\n");
     if f.pin {
         say(b"rises after                 data 1  data 2  cycle  ");
         tell_places(less(f.page), 0);
-        rows(part, enable, RISES, more(more(more(clocks(f, 2)))));
-    } else {
-        say(b"This part has no Write Control pin.\n");
+        return rows(part, enable, RISES, more(more(more(clocks(f, 2)))));
     }
+    say(b"This part has no Write Control pin.\n")
 }
 
-fn locks(part: u8, enable: u8, f: Facts) {
+fn locks(part: u8, enable: u8, ident: bool) -> bool {
     say(b"\nThe lock command, and an identification write of 55h at 00h after it\n");
-    if f.ident {
+    if ident {
         say(b"byte ack  2nd ack    cycle    locked   ack   cycle    at 00h\n");
-        rows(part, enable, LOCKS, 10);
-    } else {
-        say(b"This part has no identification page to lock.\n");
+        return rows(part, enable, LOCKS, 10);
     }
+    say(b"This part has no identification page to lock.\n")
 }
 
-fn busy(part: u8, enable: u8, f: Facts) {
+fn busy(part: u8, enable: u8, page: usize) -> bool {
     say(
         b"\nA cycle that ends just before poll number d, budget 4: the driver writes 11h and 22h at ",
     );
-    tell_address(less(f.page));
+    tell_address(less(page));
     say(b"\n d     answer      polls  bytes cycles ");
-    tell_places(less(f.page), f.page);
-    rows(part, enable, BUSY, more(BUDGET));
+    tell_places(less(page), page);
+    rows(part, enable, BUSY, more(BUDGET))
+}
+
+fn tell_name(part: u8) {
+    match part {
+        0 => say(b"M24C16-DFCU"),
+        1 => say(b"M24C16-DRE"),
+        2 => say(b"M24C64"),
+        3 => say(b"M24C64-D"),
+        4 => say(b"M24256-B"),
+        5 => say(b"M24256-D"),
+        _ => say(b"unknown"),
+    }
+    ;
 }
 
 fn heading(part: u8, enable: u8) {
@@ -723,26 +700,52 @@ fn heading(part: u8, enable: u8) {
     say(b"\n");
 }
 
-// The five trials on one part; refusals 1 and 2 of document 01 print a line and nothing else.
-pub fn print_all(part: u8, enable: u8) {
-    let f = parts::facts_of(part);
-    if !f.known {
-        say(b"refused 1\n");
-        return;
-    }
-    if !parts::enable_right(f, enable) {
-        say(b"refused 2\n");
-        return;
-    }
+fn known_part(part: u8, enable: u8, f: Facts) -> bool {
     heading(part, enable);
-    stops(part, enable, f);
-    rises(part, enable, f);
-    locks(part, enable, f);
-    busy(part, enable, f);
+    if !stops(part, enable, f) {
+        return false;
+    }
+    if !rises(part, enable, f) {
+        return false;
+    }
+    if !locks(part, enable, f.ident) {
+        return false;
+    }
+    busy(part, enable, f.page)
 }
 
-// The part table of document 01.
-pub fn print_parts() {
-    say(b"part  name         array  page  address bytes  id page  WC pin  enable\n");
-    rows(0, 0, PARTS, 6);
+// The trials on one part; refusals 1 and 2 of document 01 print a line and nothing else. False where it could not be written.
+pub fn print_all(part: u8, enable: u8) -> bool {
+    let f = parts::facts_of(part);
+    if !f.known {
+        return say(b"refused 1\n");
+    }
+    if !parts::enable_right(f, enable) {
+        return say(b"refused 2\n");
+    }
+    known_part(part, enable, f)
+}
+
+// A blank line stands between two parts.
+fn print_next(part: u8, f: Facts) -> bool {
+    if 0 < part {
+        say(b"\n");
+    }
+    known_part(part, 0, f)
+}
+
+// The trials on every part of the part table, at enable 0. False where it could not be written.
+pub fn print_every() -> bool {
+    let mut part: u8 = 0;
+    while part < 255 {
+        let f = parts::facts_of(part);
+        if !f.known {
+            return true;
+        }
+        if !print_next(part, f) {
+            return false;
+        }
+        part += 1;
+    }
+    true
 }

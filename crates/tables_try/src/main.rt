@@ -1,4 +1,4 @@
-// Prints the trials of part 2.
+// Prints the trials of every part.
 fn main() {
-    tables::print_all(2, 0);
+    tables::print_every();
 }

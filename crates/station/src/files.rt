@@ -1,0 +1,214 @@
+// Stored chips: an image read from a file, and one written into a file that is there whole or not at all.
+use crate::words;
+use crate::words::Job;
+use libc::STDERR_FILENO;
+use parts::Verdict;
+use state::Chip;
+
+// A chip before a run. `number`: the refusal, 0 for none, TOLD where standard error has the reason.
+pub struct First {
+    pub number: u8,
+    pub chip: Chip,
+}
+
+pub const TOLD: u8 = 255;
+
+const BAD_IMAGE: u8 = 12;
+
+pub fn number(verdict: Verdict) -> u8 {
+    match verdict {
+        Verdict::Fine => 0,
+        Verdict::Refused(r) => parts::number(r),
+    }
+}
+
+pub fn refused(number: u8) -> First {
+    First {
+        number,
+        chip: chip::standby(0, false),
+    }
+}
+
+// ---- reading
+
+// Whether the bytes are a whole image of the part that they name, whatever part that is.
+fn is_image(part: u8, bytes: &[u8], array: &mut [u8], id: &mut [u8]) -> bool {
+    let f = parts::facts_of(part);
+    let m = f.size;
+    let n = parts::id_size(f);
+    if m <= array.len() {
+        if n <= id.len() {
+            let loaded = image::load(bytes, 0, &mut array[0..m], &mut id[0..n]);
+            let verdict = loaded.verdict;
+            return number(verdict) == 0;
+        }
+    }
+    false
+}
+
+// An image of another part is not what was meant; anything else is no image.
+fn other(part: u8, bytes: &[u8]) -> First {
+    let mut array = [0u8; 32768];
+    let mut id = [0u8; 64];
+    if is_image(part, bytes, &mut array, &mut id) {
+        io::write_all(
+            STDERR_FILENO,
+            b"sapwoodle: the image is of another part than the one named\n",
+        );
+        return refused(TOLD);
+    }
+    refused(BAD_IMAGE)
+}
+
+fn load(part: u8, enable: u8, bytes: &[u8], array: &mut [u8], id: &mut [u8]) -> First {
+    let loaded = image::load(bytes, enable, array, id);
+    if loaded.part != part {
+        return other(loaded.part, bytes);
+    }
+    let verdict = loaded.verdict;
+    let chip = loaded.chip;
+    First {
+        number: number(verdict),
+        chip,
+    }
+}
+
+fn fetch_from(
+    part: u8,
+    enable: u8,
+    fd: i32,
+    bytes: &mut [u8],
+    array: &mut [u8],
+    id: &mut [u8],
+) -> First {
+    let got = words::read_all(fd, bytes);
+    libc::close(fd);
+    let n = got.n;
+    if got.ok {
+        if n <= bytes.len() {
+            return load(part, enable, &bytes[0..n], array, id);
+        }
+    }
+    io::write_all(
+        STDERR_FILENO,
+        b"sapwoodle: the file of --image cannot be read\n",
+    );
+    refused(TOLD)
+}
+
+// One byte more than the longest image, so that a longer file is seen to be too long.
+fn fetch(part: u8, enable: u8, name: &[u8], array: &mut [u8], id: &mut [u8]) -> First {
+    let fd = os::open_read(name);
+    if fd < 0 {
+        os::fail(b"sapwoodle: the file of --image");
+        return refused(TOLD);
+    }
+    let mut bytes = [0u8; 32840];
+    fetch_from(part, enable, fd, &mut bytes, array, id)
+}
+
+// The chip that the file named by a word has.
+pub fn fetched(job: Job, array: &mut [u8], id: &mut [u8]) -> First {
+    let mut name = io::buffer();
+    let n = os::arg(job.image, &mut name);
+    fetch(job.part, job.own, &name[..n], array, id)
+}
+
+// ---- writing
+
+// As much of `from` as there is room for, behind the first n bytes.
+fn extend(to: &mut [u8], n: usize, from: &[u8]) -> usize {
+    let mut at = n;
+    let mut i = 0;
+    while i < from.len() {
+        if to.len() <= at {
+            return at;
+        }
+        to[at] = from[i];
+        at += 1;
+        i += 1;
+    }
+    at
+}
+
+fn fails(name: &[u8]) -> bool {
+    os::fail(b"sapwoodle: the file of --save");
+    os::unlink(name);
+    false
+}
+
+// The bytes are on the disk, and the file is closed.
+fn filled(fd: i32, bytes: &[u8]) -> bool {
+    let whole = io::write_all(fd, bytes);
+    if !whole {
+        libc::close(fd);
+        return false;
+    }
+    let synced = libc::fsync(fd);
+    let closed = libc::close(fd);
+    if synced < 0 {
+        return false;
+    }
+    0 <= closed
+}
+
+// A failure leaves the old file as it was. The new one is made, so that no file of that name is overwritten.
+fn replace(name: &[u8], beside: &[u8], bytes: &[u8]) -> bool {
+    let fd = os::create(beside);
+    if fd < 0 {
+        os::fail(b"sapwoodle: the file of --save with .new behind its name");
+        return false;
+    }
+    if !filled(fd, bytes) {
+        return fails(beside);
+    }
+    if os::rename(beside, name) < 0 {
+        return fails(beside);
+    }
+    true
+}
+
+fn named(name: &[u8], beside: &mut [u8], bytes: &[u8]) -> bool {
+    let n = extend(beside, 0, name);
+    let k = extend(beside, n, b".new");
+    if k <= beside.len() {
+        return replace(name, &beside[0..k], bytes);
+    }
+    false
+}
+
+fn store_as(name: &[u8], bytes: &[u8]) -> bool {
+    if name.len() == 0 {
+        io::write_all(
+            STDERR_FILENO,
+            b"sapwoodle: the file of --save has no name, or too long a one\n",
+        );
+        return false;
+    }
+    let mut beside = io::buffer();
+    named(name, &mut beside, bytes)
+}
+
+fn store(word: usize, bytes: &[u8]) -> bool {
+    let mut name = io::buffer();
+    let n = os::arg(word, &mut name);
+    store_as(&name[..n], bytes)
+}
+
+fn save_in(job: Job, chip: Chip, array: &[u8], id: &[u8], out: &mut [u8]) -> bool {
+    let saved = image::save(job.part, chip, array, id, out);
+    let n = saved.length;
+    if n <= out.len() {
+        return store(job.save, &out[0..n]);
+    }
+    false
+}
+
+// Whether the file stands, or none is asked for.
+pub fn save(job: Job, chip: Chip, array: &[u8], id: &[u8]) -> bool {
+    if job.save == 0 {
+        return true;
+    }
+    let mut out = [0u8; 32839];
+    save_in(job, chip, array, id, &mut out)
+}
