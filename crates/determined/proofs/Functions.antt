@@ -43,6 +43,7 @@ use Rattle.determined.specs.Functions.{
   GivenDetermined,
   NoFaultsDetermined,
   IsHighDetermined,
+  SendDetermined,
   AdvanceDetermined,
   InRangeDetermined,
   StandbyDetermined,
@@ -98,6 +99,9 @@ no-faults-determined = plainly (λ κs a u v. refl)
 
 pub is-high-determined : IsHighDetermined
 is-high-determined = plainly (λ κs a u v. refl)
+
+pub send-determined : SendDetermined
+send-determined = plainly (λ κs a u v. refl)
 
 pub advance-determined : AdvanceDetermined
 advance-determined = plainly (λ κs a u v. refl)

@@ -12,6 +12,7 @@ use Rattle.parts.proofs.number as number
 use Rattle.parts.proofs.given as given
 use Rattle.parts.proofs.no_faults as no-faults
 use Rattle.line.proofs.is_high as is-high
+use Rattle.line.proofs.send as send
 use Rattle.line.proofs.advance as advance
 use Rattle.state.proofs.in_range as in-range
 use Rattle.chip.proofs.standby as standby
@@ -99,6 +100,9 @@ NoFaultsDetermined = Determined no-faults.ended no-faults.Reads.Asked no-faults.
 
 abbrev pub IsHighDetermined : Type 0
 IsHighDetermined = Determined is-high.ended is-high.Reads.Asked is-high.Reads.Learnt
+
+abbrev pub SendDetermined : Type 0
+SendDetermined = Determined send.ended send.Reads.Asked send.Reads.Learnt
 
 abbrev pub AdvanceDetermined : Type 0
 AdvanceDetermined = Determined advance.ended advance.Reads.Asked advance.Reads.Learnt
