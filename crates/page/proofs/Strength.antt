@@ -8,7 +8,6 @@ use mathlib.Core.Logic.{⊎-elim}
 use Prim.Native.Nat.{ℕ, _<_, _≤_}
 use native.Mathlib.Nat.{eq-zero-or-pos}
 use native.Mathlib.Omega.{arith}
-use denote.Ref.{RefT}
 use lib.Dec.{leb}
 use lib.ListN.{length, take, drop, replicate, length-replicate}
 use borrow.Author.Tests.{leb-true, leb-false}
@@ -18,7 +17,7 @@ use Rattle.parts.specs.declared.Verdict.the-variants.{Refused}
 use Rattle.parts.specs.Table.{factsOf, idSizeOf, buffersRightOf}
 use Rattle.page.specs.declared.Place.{Place}
 use Rattle.page.specs.declared.Place.the-variants.{Array, Ident}
-use Rattle.page.specs.Look.{lookRefusalOf, lookSpanOf, lookOf, spanAt}
+use Rattle.page.specs.Look.{lookRefusalOf}
 use Rattle.page.specs.Promise.{Refusing, Looking, numberGiven, Lengths, RefusesRightly, ShowsPages}
 use Rattle.page.proofs.Laws.{lengths-right}
 use Rattle.page.proofs.Promise.{right, refuses-rightly}
@@ -70,14 +69,6 @@ module _ (r q : Refusing) (R : RefusesRightly r) (Q : RefusesRightly q) (l k : L
       (λ z. accepted-same place z)
       (λ p. L .refused part array id place p ∙ sym (K .refused part array id place (rw (same place) p)))
       (eq-zero-or-pos (numberGiven (r part (length array) (length id) place)))
-
--- two answers that the contract of `look` allows are the same bytes at the same place
-pub same-answer : (part : ℕ) (array id x y : RefT (List ℕ)) (place : Place) →
-    x .now ≡ lookOf part (array .now) (id .now) place → y .now ≡ lookOf part (array .now) (id .now) place →
-    x .ptr ≡ spanAt (lookSpanOf part (length (array .now)) (length (id .now)) place) (array .ptr) (id .ptr) →
-    y .ptr ≡ spanAt (lookSpanOf part (length (array .now)) (length (id .now)) place) (array .ptr) (id .ptr) →
-    (x .now ≡ y .now) × (x .ptr ≡ y .ptr)
-same-answer part array id x y place bx by px py = (bx ∙ sym by, px ∙ sym py)
 
 -- ---- looks that break the promises
 
