@@ -1,4 +1,5 @@
-// Runs the traces on standard input, each ended by `;`, and prints each answer. `@` in a trace stands for 32,767 letters `1`.
+// Runs the traces on standard input, each ended by `;`, and prints each answer. `@` in a trace stands for 32,767 letters `1`. A text that
+// begins with `#` is no trace: it names the next one, and is printed.
 ghost use Prim.Native.Nat.{_≤_};
 ghost use lib.ListN.{length};
 use libc::STDOUT_FILENO;
@@ -43,13 +44,23 @@ fn answer(text: &[u8]) {
     answer_in(text, &mut out);
 }
 
+fn read(text: &[u8]) {
+    if 0 < text.len() {
+        if text[0] == b'#' {
+            io::write_all(STDOUT_FILENO, &text[1..]);
+            return;
+        }
+    }
+    answer(text);
+}
+
 // One byte more of the input; how long the trace now is.
 fn feed(text: &mut [u8], n: usize, b: u8) -> usize
     requires { ⌜ n ≤ length (now text) ⌝ }
     ensures { λ r. ⌜ r ≤ length (now (text .entry)) ⌝ }
 {
     if b == b';' {
-        answer(&text[..n]);
+        read(&text[..n]);
         return 0;
     }
     add(text, n, b)

@@ -4,14 +4,14 @@ use borrow.Author.Needs.{needs}
 use Rattle.trace_vectors.proofs.feed.Statement.{statement}
 use Rattle.trace_vectors.proofs.feed.Tie as tie
 
-slice-reshare-prefix-answer : tie.Need-slice-reshare-prefix-answer
-slice-reshare-prefix-answer c = search needs
+slice-reshare-prefix-read : tie.Need-slice-reshare-prefix-read
+slice-reshare-prefix-read c = search needs
 
-slice-aggregate-answer : tie.Need-slice-aggregate-answer
-slice-aggregate-answer c = sym (length-take-le _ _ (c .before .before .before .pre))
+slice-aggregate-read : tie.Need-slice-aggregate-read
+slice-aggregate-read c = sym (length-take-le _ _ (c .before .before .before .pre))
 
-answer-requires : tie.Need-answer-requires
-answer-requires c κs = search needs
+read-requires : tie.Need-read-requires
+read-requires c κs = search needs
 
 same-length : tie.Need-same-length
 same-length c = search needs
@@ -32,9 +32,9 @@ pub feed-spec : {M : Type 1} → statement M
 feed-spec =
     tie.close
     (tie.spec
-    slice-reshare-prefix-answer
-    slice-aggregate-answer
-    answer-requires
+    slice-reshare-prefix-read
+    slice-aggregate-read
+    read-requires
     same-length
     returns
     add-requires
