@@ -15,7 +15,7 @@ use Rattle.parts.specs.declared.Verdict.{Verdict}
 use Rattle.parts.specs.declared.Verdict.the-variants.{Fine}
 use Rattle.parts.specs.Table.{factsOf, enableRightOf, buffersRightOf}
 use Rattle.parts.specs.Events.{eventOf, eventRightOf}
-use Rattle.parts.specs.Refusals.{givenOf}
+use Rattle.parts.specs.Refusals.{verdictNumberOf, givenOf}
 use Rattle.parts.proofs.Laws.{branch, sound, faultless}
 use Rattle.parts.specs.declared.Faults.{Faults}
 use Rattle.state.specs.declared.Chip.{Chip}
@@ -43,7 +43,7 @@ use Rattle.bench.specs.declared.Held.{Held}
 use Rattle.bench.specs.declared.Report.{Report}
 use Rattle.bench.specs.Together.{System, startOf, clockOf, answeredBy, askedOf, endedOf, pollNext, dueOf, turnOf, turnsOf}
 use Rattle.bench.specs.Tape.{sendsOf, codeOf}
-use Rattle.bench.specs.Held.{whole, sentOf, atEndOf, goingOf, madeOf, Fit, numberBy, unfitOf as tooUnfit, shortOf, limitedOf}
+use Rattle.bench.specs.Held.{whole, sentOf, atEndOf, goingOf, madeOf, Fit, unfitOf as tooUnfit, shortOf, limitedOf}
 use Rattle.bench.specs.Calls.{reportBy, reportOf, benchVerdictOf}
 
 -- ---- the chip refuses no event of the driver, and no end of a cycle
@@ -408,7 +408,7 @@ first-by false zero h = absurd (false≢true (sym h))
 first-by false (suc d) h = omega arith
 
 judged : (p e x bf st sh y l : Bool) (d : ℕ)
-    → givenOf record { part = p; enable = cond e x true; buffer = bf; state = st; many = false; event = false; place = 0; short = sh; beyond = eqb (numberBy (givenOf (own p (not e) y l))) 7; limit = limitedOf (eqb (numberBy (givenOf (own p (not e) y l))) 8) d; image = false }
+    → givenOf record { part = p; enable = cond e x true; buffer = bf; state = st; many = false; event = false; place = 0; short = sh; beyond = eqb (verdictNumberOf (givenOf (own p (not e) y l))) 7; limit = limitedOf (eqb (verdictNumberOf (givenOf (own p (not e) y l))) 8) d; image = false }
     ≡ givenOf record { part = p; enable = cond e x true; buffer = bf; state = st; many = false; event = false; place = 0; short = sh; beyond = y; limit = limitedOf l d; image = false }
 unfolding givenOf
 judged true e x bf st sh y l d = refl
@@ -424,7 +424,7 @@ both-by true false h = absurd (false≢true (sym h))
 both-by false b h = absurd (false≢true (sym h))
 
 module _ (r : Request) (enable d : ℕ) (c : Chip) (n i b : ℕ) where
-  judge-is : givenOf record { part = not (factsOf (r .part) .known); enable = cond (enableRightOf (factsOf (r .part)) (r .enable)) (not (enableRightOf (factsOf (r .part)) enable)) true; buffer = not (buffersRightOf (factsOf (r .part)) n i); state = tooUnfit (inRangeOf (factsOf (r .part)) c) (r .reads) (r .length) b; many = false; event = false; place = 0; short = shortOf (r .reads) (r .length) b; beyond = eqb (numberBy (judgeOf r)) 7; limit = limitedOf (eqb (numberBy (judgeOf r)) 8) d; image = false }
+  judge-is : givenOf record { part = not (factsOf (r .part) .known); enable = cond (enableRightOf (factsOf (r .part)) (r .enable)) (not (enableRightOf (factsOf (r .part)) enable)) true; buffer = not (buffersRightOf (factsOf (r .part)) n i); state = tooUnfit (inRangeOf (factsOf (r .part)) c) (r .reads) (r .length) b; many = false; event = false; place = 0; short = shortOf (r .reads) (r .length) b; beyond = eqb (verdictNumberOf (judgeOf r)) 7; limit = limitedOf (eqb (verdictNumberOf (judgeOf r)) 8) d; image = false }
       ≡ benchVerdictOf r enable d c n i b
   unfolding benchVerdictOf judgeOf faultsOf tooUnfit shortOf limitedOf
   judge-is =
@@ -432,7 +432,7 @@ module _ (r : Request) (enable d : ℕ) (c : Chip) (n i b : ℕ) where
 
   pub judge-by : (f : Facts) (en lent ranged : Bool) (v : Verdict) (own : ℕ) (wrong scant limit : Bool) → f ≡ factsOf (r .part)
       → en ≡ cond (enableRightOf f (r .enable)) (not (enableRightOf f enable)) true → lent ≡ buffersRightOf f n i → ranged ≡ inRangeOf (factsOf (r .part)) c
-      → v ≡ judgeOf r → own ≡ numberBy v → wrong ≡ tooUnfit ranged (r .reads) (r .length) b → scant ≡ shortOf (r .reads) (r .length) b
+      → v ≡ judgeOf r → own ≡ verdictNumberOf v → wrong ≡ tooUnfit ranged (r .reads) (r .length) b → scant ≡ shortOf (r .reads) (r .length) b
       → limit ≡ limitedOf (eqb own 8) d
       → givenOf record { part = not (f .known); enable = en; buffer = not lent; state = wrong; many = false; event = false; place = 0; short = scant; beyond = eqb own 7; limit = limit; image = false }
       ≡ benchVerdictOf r enable d c n i b

@@ -7,11 +7,9 @@ use mathlib.Core.List.{List}
 use lib.Dec.{eqb, ltb}
 use Rattle.parts.specs.declared.Facts.{Facts}
 use Rattle.parts.specs.declared.Event.the-variants.{Ends}
-use Rattle.parts.specs.declared.Verdict.{Verdict}
 use Rattle.parts.specs.declared.Verdict.the-variants.{Fine, Refused as Judged}
 use Rattle.parts.specs.Table.{factsOf, enableRightOf, buffersRightOf}
 use Rattle.parts.specs.Events.{eventOf}
-use Rattle.parts.specs.Refusals.{numberOf}
 use Rattle.line.specs.Rules.{begunOf}
 use Rattle.state.specs.declared.Chip.{Chip}
 use Rattle.state.specs.Range.{inRangeOf}
@@ -57,11 +55,6 @@ pub record Fit (part enable : ℕ) (c : Chip) (n i : ℕ) : Type 0 where
   pub lent : buffersRightOf (factsOf part) n i ≡ true
   pub ranged : inRangeOf (factsOf part) c ≡ true
   pub typed : Typed c
-
--- 0 for none
-abbrev pub numberBy : Verdict → ℕ
-numberBy Fine = 0
-numberBy (Judged r) = numberOf r
 
 -- the report on what is held
 abbrev pub madeOf : Held → Answer → Report

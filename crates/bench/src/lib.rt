@@ -23,7 +23,7 @@ ghost use Rattle.bench.specs.Together.{
   dueOf,
 };
 ghost use Rattle.bench.specs.Tape.{sendsOf, codeOf, tapeBy, eventsOf, heardOf, laidOf};
-ghost use Rattle.bench.specs.Held.{whole, sentOf, atEndOf, numberBy, madeOf, unfitOf, shortOf, limitedOf, Fit};
+ghost use Rattle.bench.specs.Held.{whole, sentOf, atEndOf, madeOf, unfitOf, shortOf, limitedOf, Fit};
 ghost use Rattle.bench.specs.Calls.{benchVerdictOf, reportOf, refusedBy, benchBy, benchMem, benchBuffer, benchEvents, benchLevels};
 use driver::Answer;
 use driver::Driver;
@@ -495,15 +495,6 @@ fn limited(own: bool, d: usize) -> bool
     65535 < d
 }
 
-fn number(verdict: Verdict) -> u8
-    ensures { λ r. ⌜ r ≡ numberBy verdict ⌝ }
-{
-    match verdict {
-        Verdict::Fine => 0,
-        Verdict::Refused(r) => parts::number(r),
-    }
-}
-
 // 7 and the budget's 8 are the driver's to judge.
 fn judge(
     request: Request,
@@ -521,7 +512,7 @@ fn judge(
     let no_enable = enables_wrong(f, request.enable, enable);
     let lent = parts::buffers_right(f, n, i);
     let ranged = state::in_range(request.part, chip);
-    let own = number(driver::judge(request));
+    let own = parts::verdict_number(driver::judge(request));
     let wrong = unfit(ranged, request.reads, request.length, b);
     let scant = short(request.reads, request.length, b);
     let limit = limited(own == 8, d);

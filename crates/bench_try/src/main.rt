@@ -4,7 +4,6 @@ use driver::Request;
 use libc::STDOUT_FILENO;
 use parts::ArrayAddress;
 use parts::IdLocation;
-use parts::Verdict;
 use state::Chip;
 
 fn array_write(part: u8, address: usize, length: usize, budget: usize) -> Request {
@@ -60,13 +59,6 @@ fn enabled(part: u8, enable: u8) -> Request {
         reads: false,
         length: 1,
         budget: 1,
-    }
-}
-
-fn number(v: Verdict) -> u8 {
-    match v {
-        Verdict::Fine => 0,
-        Verdict::Refused(r) => parts::number(r),
     }
 }
 
@@ -154,7 +146,7 @@ fn run_lent(
             let r = bench::run(request, 0, d, chip, &mut array[..n], &mut id[..i], buffer);
             let verdict = r.verdict;
             say(label);
-            tell_byte(number(verdict));
+            tell_byte(parts::verdict_number(verdict));
             tell(r.polls);
             tell(r.bytes);
             tell(r.cycles);

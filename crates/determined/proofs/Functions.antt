@@ -7,7 +7,6 @@ use Rattle.determined.specs.Functions.{
   ChipHoldsDetermined,
   ChipUnpackDetermined,
   LentPlaceDetermined,
-  LentNumberDetermined,
   LentSettleDetermined,
   LentUnheldDetermined,
   LentChipDeliverDetermined,
@@ -40,6 +39,7 @@ use Rattle.determined.specs.Functions.{
   EventOfDetermined,
   EventRightDetermined,
   NumberDetermined,
+  VerdictNumberDetermined,
   GivenDetermined,
   NoFaultsDetermined,
   IsHighDetermined,
@@ -90,6 +90,9 @@ event-right-determined = plainly (λ κs a u v. refl)
 
 pub number-determined : NumberDetermined
 number-determined = plainly (λ κs a u v. refl)
+
+pub verdict-number-determined : VerdictNumberDetermined
+verdict-number-determined = plainly (λ κs a u v. refl)
 
 pub given-determined : GivenDetermined
 given-determined = plainly (λ κs a u v. refl)
@@ -224,9 +227,6 @@ chip-unpack-determined = plainly (λ κs a u v. refl)
 
 pub lent-place-determined : LentPlaceDetermined
 lent-place-determined = plainly (λ κs a u v. refl)
-
-pub lent-number-determined : LentNumberDetermined
-lent-number-determined = plainly (λ κs a u v. refl)
 
 pub lent-settle-determined : LentSettleDetermined
 lent-settle-determined = record {

@@ -9,6 +9,7 @@ use Rattle.parts.proofs.enable_right as enable-right
 use Rattle.parts.proofs.event_of as event-of
 use Rattle.parts.proofs.event_right as event-right
 use Rattle.parts.proofs.number as number
+use Rattle.parts.proofs.verdict_number as verdict-number
 use Rattle.parts.proofs.given as given
 use Rattle.parts.proofs.no_faults as no-faults
 use Rattle.line.proofs.is_high as is-high
@@ -37,7 +38,6 @@ use Rattle.pack_chip.proofs.pack as chip-pack
 use Rattle.pack_chip.proofs.holds as chip-holds
 use Rattle.pack_chip.proofs.unpack as chip-unpack
 use Rattle.lent.proofs.place as lent-place
-use Rattle.lent.proofs.number as lent-number
 use Rattle.lent.proofs.settle as lent-settle
 use Rattle.lent.proofs.unheld as lent-unheld
 use Rattle.lent_chip.proofs.deliver as lent-chip-deliver
@@ -89,6 +89,9 @@ EventRightDetermined = Determined event-right.ended event-right.Reads.Asked even
 
 abbrev pub NumberDetermined : Type 0
 NumberDetermined = Determined number.ended number.Reads.Asked number.Reads.Learnt
+
+abbrev pub VerdictNumberDetermined : Type 0
+VerdictNumberDetermined = Determined verdict-number.ended verdict-number.Reads.Asked verdict-number.Reads.Learnt
 
 abbrev pub GivenDetermined : Type 0
 GivenDetermined = Determined given.ended given.Reads.Asked given.Reads.Learnt
@@ -197,9 +200,6 @@ ChipUnpackDetermined = Determined chip-unpack.ended chip-unpack.Reads.Asked chip
 
 abbrev pub LentPlaceDetermined : Type 0
 LentPlaceDetermined = Determined lent-place.ended lent-place.Reads.Asked lent-place.Reads.Learnt
-
-abbrev pub LentNumberDetermined : Type 0
-LentNumberDetermined = Determined lent-number.ended lent-number.Reads.Asked lent-number.Reads.Learnt
 
 abbrev pub LentSettleDetermined : Type 0
 LentSettleDetermined = Determined lent-settle.ended lent-settle.Reads.Asked lent-settle.Reads.Learnt

@@ -9,7 +9,6 @@ use driver::Request;
 use driver::Slot;
 use parts::ArrayAddress;
 use parts::IdLocation;
-use parts::Verdict;
 
 // How a run ended: 0 done, the refusal's number, or 255 for no end.
 struct Tally {
@@ -50,13 +49,6 @@ fn enabled(part: u8, enable: u8) -> Request {
         reads: true,
         length: 1,
         budget: 1,
-    }
-}
-
-fn number(v: Verdict) -> u8 {
-    match v {
-        Verdict::Fine => 0,
-        Verdict::Refused(r) => parts::number(r),
     }
 }
 
@@ -170,7 +162,7 @@ fn run(label: &[u8], request: Request, low: usize) {
 
 fn judged(label: &[u8], request: Request) {
     io::write_all(1, label);
-    say(wide(number(driver::judge(request))));
+    say(wide(parts::verdict_number(driver::judge(request))));
     io::write_all(1, b"\n");
 }
 

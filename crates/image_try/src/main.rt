@@ -6,13 +6,7 @@ use parts::Verdict;
 use state::Chip;
 
 fn number(verdict: Verdict) -> usize {
-    match verdict {
-        Verdict::Fine => 0,
-        Verdict::Refused(r) => {
-            let n = parts::number(r);
-            wide(n)
-        }
-    }
+    wide(parts::verdict_number(verdict))
 }
 
 fn wide(n: u8) -> usize {

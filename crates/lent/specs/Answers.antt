@@ -1,4 +1,4 @@
--- What calls over bytes share: the number answered, and what becomes of a state's bytes.
+-- What calls over bytes share: the place of a bad event, and what becomes of a state's bytes.
 -- Assumes nothing.
 use Prim.Native.Nat.{ℕ}
 use mathlib.Core.Bool.{true, false, not}
@@ -9,15 +9,10 @@ use Rattle.parts.specs.declared.Refusal.the-variants.{NoPart, WrongEnable, Wron
 use Rattle.parts.specs.declared.Verdict.{Verdict}
 use Rattle.parts.specs.declared.Verdict.the-variants.{Fine, Refused}
 use Rattle.parts.specs.Table.{factsOf, buffersRightOf, enableRightOf}
-use Rattle.parts.specs.Refusals.{numberOf, givenOf}
+use Rattle.parts.specs.Refusals.{givenOf}
 use Rattle.state.specs.declared.Chip.{Chip}
 use Rattle.chip.specs.Memory.{Mem}
 use Rattle.pack_chip.specs.Layout.{packInto}
-
--- 0, or document 01's number of the refusal
-abbrev pub answerOf : Verdict → ℕ
-answerOf Fine = 0
-answerOf (Refused r) = numberOf r
 
 abbrev pub badPlaceOf : Refusal → ℕ
 badPlaceOf NoPart = 0

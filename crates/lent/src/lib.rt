@@ -1,7 +1,8 @@
 // What calls over bytes share, for callers that hold numbers and bytes only.
 ghost use mathlib.Core.Path.{_≡_};
 ghost use Rattle.chip.specs.Memory.{mem};
-ghost use Rattle.lent.specs.Answers.{answerOf, badPlaceOf, placeOf, keptOf, unheldOf};
+ghost use Rattle.parts.specs.Refusals.{verdictNumberOf};
+ghost use Rattle.lent.specs.Answers.{badPlaceOf, placeOf, keptOf, unheldOf};
 use parts::Faults;
 use parts::Refusal;
 use parts::Verdict;
@@ -37,19 +38,9 @@ pub fn place(verdict: Verdict) -> usize
     }
 }
 
-// 0, or the number of the refusal.
-pub fn number(verdict: Verdict) -> u8
-    ensures { λ r. ⌜ r ≡ answerOf verdict ⌝ }
-{
-    match verdict {
-        Verdict::Fine => 0,
-        Verdict::Refused(refusal) => parts::number(refusal),
-    }
-}
-
 // The number of a verdict. Where nothing is refused, the state is packed.
 pub fn settle(verdict: Verdict, chip: Chip, state: &mut [u8]) -> u8
-    ensures answer { λ r. ⌜ r ≡ answerOf verdict ⌝ }
+    ensures answer { λ r. ⌜ r ≡ verdictNumberOf verdict ⌝ }
     ensures kept { λ _. ⌜ now (state .exit) ≡ keptOf verdict chip (now (state .entry)) ⌝ }
 {
     match verdict {

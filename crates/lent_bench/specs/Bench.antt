@@ -5,10 +5,10 @@ use mathlib.Core.Bool.{cond}
 use mathlib.Core.List.{List}
 use lib.ListN.{length}
 use Rattle.parts.specs.declared.Verdict.{Verdict}
+use Rattle.parts.specs.Refusals.{verdictNumberOf}
 use Rattle.state.specs.declared.Chip.{Chip}
 use Rattle.chip.specs.Memory.{Mem}
 use Rattle.pack_chip.specs.Layout.{packInto, holdsOf, unpackedOf}
-use Rattle.lent.specs.Answers.{answerOf}
 use Rattle.driver.specs.declared.Request.{Request}
 use Rattle.bench.specs.declared.Report.{Report}
 use Rattle.bench.specs.Calls.{benchVerdictOf, benchBy, benchMem, benchBuffer}
@@ -37,7 +37,7 @@ keptOf s c = cond (holdsOf s) (packInto s c) s
 abbrev pub benching : Request → ℕ → ℕ → List ℕ → Mem → List ℕ → AfterBench
 benching r enable d s m b =
     record {
-      number = answerOf (reportedOf r enable d s m b .verdict);
+      number = verdictNumberOf (reportedOf r enable d s m b .verdict);
       polls = reportedOf r enable d s m b .polls;
       bytes = reportedOf r enable d s m b .bytes;
       cycles = reportedOf r enable d s m b .cycles;

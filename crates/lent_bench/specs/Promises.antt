@@ -8,12 +8,11 @@ use lib.ListN.{length}
 use Rattle.parts.specs.declared.Refusal.{Refusal}
 use Rattle.parts.specs.declared.Verdict.{Verdict}
 use Rattle.parts.specs.declared.Verdict.the-variants.{Refused}
-use Rattle.parts.specs.Refusals.{numberOf}
+use Rattle.parts.specs.Refusals.{numberOf, verdictNumberOf}
 use Rattle.state.specs.declared.Chip.{Chip}
 use Rattle.chip.specs.Memory.{Mem}
 use Rattle.pack_chip.specs.Layout.{packedOf, unpackedOf}
 use Rattle.pack_chip.specs.Promises.{AllBelow, Fits}
-use Rattle.lent.specs.Answers.{answerOf}
 use Rattle.driver.specs.declared.Request.{Request}
 use Rattle.bench.specs.Calls.{benchVerdictOf, benchBy, benchMem, benchBuffer}
 use Rattle.lent_bench.specs.Bench.{AfterBench}
@@ -39,7 +38,7 @@ BenchIsBenchs bench =
     → benchVerdictOf r enable d c (length (m .cells)) (length (m .ident)) (length b) ≡ v
     → bench r enable d (packedOf c) m b
     ≡ record {
-      number = answerOf (benchBy r enable d c m b v .verdict);
+      number = verdictNumberOf (benchBy r enable d c m b v .verdict);
       polls = benchBy r enable d c m b v .polls;
       bytes = benchBy r enable d c m b v .bytes;
       cycles = benchBy r enable d c m b v .cycles;

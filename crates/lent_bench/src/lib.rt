@@ -53,5 +53,5 @@ pub fn run(
     *cycles = r.cycles;
     *clocks = r.clocks;
     keep(state, next);
-    lent::number(verdict)
+    parts::verdict_number(verdict)
 }

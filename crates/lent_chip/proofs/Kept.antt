@@ -12,8 +12,8 @@ use Rattle.parts.specs.declared.Refusal.the-variants.{NoPart, WrongEnable, Wron
 use Rattle.parts.specs.declared.Verdict.{Verdict}
 use Rattle.parts.specs.declared.Verdict.the-variants.{Fine, Refused}
 use Rattle.parts.specs.Table.{factsOf, idSizeOf, buffersRightOf, enableRightOf}
-use Rattle.parts.specs.Refusals.{givenOf}
-use Rattle.parts.proofs.Laws.{branch}
+use Rattle.parts.specs.Refusals.{verdictNumberOf, givenOf}
+use Rattle.parts.proofs.Laws.{branch, fine}
 use Rattle.state.specs.declared.Chip.{Chip}
 use Rattle.state.specs.Range.{inRangeOf}
 use Rattle.chip.specs.Memory.{Mem}
@@ -23,15 +23,15 @@ use Rattle.pack_chip.specs.Layout.{packedLength, packedOf, packInto, unpackedOf
 use Rattle.pack_chip.specs.Promises.{Fits}
 use Rattle.pack_chip.proofs.Laws.{holds-long}
 use Rattle.pack_chip.proofs.Kept.{packs-back, refuses-others}
-use Rattle.lent.specs.Answers.{answerOf, keptOf}
+use Rattle.lent.specs.Answers.{keptOf}
 use Rattle.lent_chip.specs.Chips.{stepVerdict, runVerdict, deliverVerdict, stepping, running, delivering}
 use Rattle.lent_chip.proofs.Laws.{delivers-nothing}
 use Rattle.lent_chip.specs.Promises.{StepKeeps, RunKeeps, DeliverKeeps, StepIsChips, RunIsChips, DeliverHolds, StepRefuses4, RunRefuses4}
-use Rattle.lent.proofs.Laws.{unheld-refused, fine, standby-fits}
+use Rattle.lent.proofs.Laws.{unheld-refused, standby-fits}
 
 -- ---- a refused call changes nothing
 
-step-keeps-by : (part enable : ℕ) (c : Chip) (s : List ℕ) (m : Mem) (e : ℕ) (v : Verdict) → (answerOf (stepBy (factsOf part) enable c m e v .verdict) ≡ 0 → ⊥)
+step-keeps-by : (part enable : ℕ) (c : Chip) (s : List ℕ) (m : Mem) (e : ℕ) (v : Verdict) → (verdictNumberOf (stepBy (factsOf part) enable c m e v .verdict) ≡ 0 → ⊥)
     → (keptOf (stepBy (factsOf part) enable c m e v .verdict) (stepBy (factsOf part) enable c m e v .chip) s ≡ s) × (stepMem (factsOf part) c m e v ≡ m)
 step-keeps-by part enable c s m e Fine h = absurd (h refl)
 step-keeps-by part enable c s m e (Refused r) h = (refl, refl)
@@ -39,7 +39,7 @@ step-keeps-by part enable c s m e (Refused r) h = (refl, refl)
 pub step-keeps : StepKeeps stepping
 step-keeps part enable s m e h = step-keeps-by part enable (unpackedOf s) s m e (stepVerdict part enable s m e) h
 
-run-keeps-by : (part enable : ℕ) (c : Chip) (s : List ℕ) (m : Mem) (es a : List ℕ) (v : Verdict) → (answerOf (runBy (factsOf part) enable c es v .verdict) ≡ 0 → ⊥)
+run-keeps-by : (part enable : ℕ) (c : Chip) (s : List ℕ) (m : Mem) (es a : List ℕ) (v : Verdict) → (verdictNumberOf (runBy (factsOf part) enable c es v .verdict) ≡ 0 → ⊥)
     → (keptOf (runBy (factsOf part) enable c es v .verdict) (runBy (factsOf part) enable c es v .chip) s ≡ s) × (runMem (factsOf part) enable c m es v ≡ m) × (runAnswers (factsOf part) enable c m es a v ≡ a)
 run-keeps-by part enable c s m es a Fine h = absurd (h refl)
 run-keeps-by part enable c s m es a (Refused r) h = (refl, refl, refl)
@@ -116,7 +116,7 @@ step-refuses-4 part enable s m e k n a d h =
     (ap not n)
     (ap not (lent (factsOf part) (length (m .cells)) (length (m .ident)) a d))
     (ap not (refuses-others s h part)) in
-    ap (λ (w : Verdict). answerOf (stepBy (factsOf part) enable (unpackedOf s) m e w .verdict)) v
+    ap (λ (w : Verdict). verdictNumberOf (stepBy (factsOf part) enable (unpackedOf s) m e w .verdict)) v
 
 pub run-refuses-4 : RunRefuses4 running
 unfolding runVerdictOf givenOf
@@ -127,4 +127,4 @@ run-refuses-4 part enable s m es a k n b d h =
     (ap not n)
     (ap not (lent (factsOf part) (length (m .cells)) (length (m .ident)) b d))
     (ap not (refuses-others s h part)) in
-    ap (λ (w : Verdict). answerOf (runBy (factsOf part) enable (unpackedOf s) es w .verdict)) v
+    ap (λ (w : Verdict). verdictNumberOf (runBy (factsOf part) enable (unpackedOf s) es w .verdict)) v

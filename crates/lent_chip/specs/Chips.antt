@@ -7,13 +7,14 @@ use lib.ListN.{length}
 use lib.Dec.{eqb}
 use Rattle.parts.specs.declared.Verdict.{Verdict}
 use Rattle.parts.specs.Table.{factsOf}
+use Rattle.parts.specs.Refusals.{verdictNumberOf}
 use Rattle.chip.specs.declared.Stepped.{Stepped}
 use Rattle.chip.specs.declared.Ran.{Ran}
 use Rattle.chip.specs.Memory.{Mem}
 use Rattle.chip.specs.Delivery.{standbyOf}
 use Rattle.chip.specs.Calls.{deliverVerdictOf, deliverMem, stepVerdictOf, stepBy, stepMem, runVerdictOf, runBy, runMem, runAnswers}
 use Rattle.pack_chip.specs.Layout.{packedLength, unpackedOf}
-use Rattle.lent.specs.Answers.{answerOf, placeOf, keptOf, unheldOf}
+use Rattle.lent.specs.Answers.{placeOf, keptOf, unheldOf}
 
 -- ---- what a call answers, and each lent byte after it: of the part, the enable, the state's bytes, what is stored, and the rest
 
@@ -48,7 +49,7 @@ steppedOf part enable s m e = stepBy (factsOf part) enable (unpackedOf s) m e (s
 abbrev pub stepping : ℕ → ℕ → List ℕ → Mem → ℕ → AfterStep
 stepping part enable s m e =
     record {
-      number = answerOf (steppedOf part enable s m e .verdict);
+      number = verdictNumberOf (steppedOf part enable s m e .verdict);
       level = steppedOf part enable s m e .level;
       cycles = steppedOf part enable s m e .cycles;
       state = keptOf (steppedOf part enable s m e .verdict) (steppedOf part enable s m e .chip) s;
@@ -66,7 +67,7 @@ ranOf part enable s m es a = runBy (factsOf part) enable (unpackedOf s) es (runV
 abbrev pub running : ℕ → ℕ → List ℕ → Mem → List ℕ → List ℕ → AfterRun
 running part enable s m es a =
     record {
-      number = answerOf (ranOf part enable s m es a .verdict);
+      number = verdictNumberOf (ranOf part enable s m es a .verdict);
       cycles = ranOf part enable s m es a .cycles;
       place = placeOf (ranOf part enable s m es a .verdict);
       state = keptOf (ranOf part enable s m es a .verdict) (ranOf part enable s m es a .chip) s;
@@ -84,7 +85,7 @@ deliverVerdict part s m =
 abbrev pub delivering : ℕ → List ℕ → Mem → AfterDeliver
 delivering part s m =
     record {
-      number = answerOf (deliverVerdict part s m);
+      number = verdictNumberOf (deliverVerdict part s m);
       state = keptOf (deliverVerdict part s m) (standbyOf (factsOf part) false) s;
       stored = deliverMem part m (deliverVerdict part s m);
     }

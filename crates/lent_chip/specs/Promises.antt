@@ -8,13 +8,14 @@ use mathlib.Core.List.{List}
 use lib.ListN.{length}
 use Rattle.parts.specs.declared.Verdict.{Verdict}
 use Rattle.parts.specs.Table.{factsOf, idSizeOf, enableRightOf}
+use Rattle.parts.specs.Refusals.{verdictNumberOf}
 use Rattle.state.specs.declared.Chip.{Chip}
 use Rattle.chip.specs.Memory.{Mem}
 use Rattle.chip.specs.Delivery.{standbyOf}
 use Rattle.chip.specs.Calls.{stepVerdictOf, stepBy, stepMem, runVerdictOf, runBy, runMem, runAnswers}
 use Rattle.pack_chip.specs.Layout.{packedOf, holdsOf, unpackedOf}
 use Rattle.pack_chip.specs.Promises.{Fits}
-use Rattle.lent.specs.Answers.{answerOf, placeOf}
+use Rattle.lent.specs.Answers.{placeOf}
 use Rattle.lent_chip.specs.Chips.{AfterStep, AfterRun, AfterDeliver}
 
 -- of the part, the enable, the state's bytes, what is stored, and the event
@@ -52,7 +53,7 @@ StepIsChips step =
     → stepVerdictOf part enable c (length (m .cells)) (length (m .ident)) e ≡ v
     → step part enable (packedOf c) m e
     ≡ record {
-      number = answerOf v;
+      number = verdictNumberOf v;
       level = stepBy (factsOf part) enable c m e v .level;
       cycles = stepBy (factsOf part) enable c m e v .cycles;
       state = packedOf (stepBy (factsOf part) enable c m e v .chip);
@@ -65,7 +66,7 @@ RunIsChips run =
     → runVerdictOf part enable c (length (m .cells)) (length (m .ident)) es (length a) ≡ v
     → run part enable (packedOf c) m es a
     ≡ record {
-      number = answerOf v;
+      number = verdictNumberOf v;
       cycles = runBy (factsOf part) enable c es v .cycles;
       place = placeOf v;
       state = packedOf (runBy (factsOf part) enable c es v .chip);

@@ -12,7 +12,7 @@ pub fn deliver(part: u8, state: &mut [u8], array: &mut [u8], id: &mut [u8]) -> u
 {
     if state.len() != 137 {
         let verdict = lent::unheld(part, 0, array, id);
-        return lent::number(verdict);
+        return parts::verdict_number(verdict);
     }
     let d = chip::deliver(part, array, id);
     let verdict = d.verdict;

@@ -10,9 +10,8 @@ use lib.Dec.{eqb}
 use borrow.Author.Tests.{eq-eqb, ne-eqb, eqb-true}
 use Rattle.parts.specs.declared.Verdict.{Verdict}
 use Rattle.parts.specs.declared.Verdict.the-variants.{Fine, Refused as Judged}
-use Rattle.parts.proofs.Laws.{branch}
-use Rattle.lent.specs.Answers.{answerOf}
-use Rattle.lent.proofs.Laws.{fine}
+use Rattle.parts.specs.Refusals.{verdictNumberOf}
+use Rattle.parts.proofs.Laws.{branch, fine}
 use Rattle.driver.specs.declared.Request.{Request}
 use Rattle.driver.specs.declared.Driver.{Driver}
 use Rattle.driver.specs.declared.Asked.{Asked}
@@ -32,7 +31,7 @@ by-cases : {A : Type 0} (b : Bool) → (b ≡ true → A) → (b ≡ false → A
 by-cases true f g = f refl
 by-cases false f g = g refl
 
-begin-keeps-by : (d : Driver) (s : List ℕ) (v : Verdict) → (answerOf v ≡ 0 → ⊥) → begunOf v d s ≡ s
+begin-keeps-by : (d : Driver) (s : List ℕ) (v : Verdict) → (verdictNumberOf v ≡ 0 → ⊥) → begunOf v d s ≡ s
 begin-keeps-by d s Fine h = absurd (h refl)
 begin-keeps-by d s (Judged r) h = refl
 

@@ -8,8 +8,7 @@ use lib.Dec.{eqb, ltb}
 use Rattle.parts.specs.declared.Verdict.{Verdict}
 use Rattle.parts.specs.declared.Verdict.the-variants.{Fine, Refused as Judged}
 use Rattle.parts.specs.Table.{factsOf, enableRightOf}
-use Rattle.parts.specs.Refusals.{numberOf, givenOf}
-use Rattle.lent.specs.Answers.{answerOf}
+use Rattle.parts.specs.Refusals.{numberOf, verdictNumberOf, givenOf}
 use Rattle.driver.specs.declared.Place.{Place}
 use Rattle.driver.specs.declared.Place.the-variants.{Array, Ident}
 use Rattle.driver.specs.declared.Request.{Request}
@@ -60,7 +59,7 @@ begunOf (Judged r) d s = s
 
 -- of a request and the driver's bytes
 abbrev pub beginning : Request → List ℕ → AfterBegin
-beginning r s = record { number = answerOf (beginVerdict r s); state = begunOf (beginVerdict r s) (fresh r) s }
+beginning r s = record { number = verdictNumberOf (beginVerdict r s); state = begunOf (beginVerdict r s) (fresh r) s }
 
 -- ---- next
 

@@ -131,14 +131,14 @@ pub fn begin(
 {
     if state.len() != 35 {
         let verdict = roomless(part, enable);
-        return lent::number(verdict);
+        return parts::verdict_number(verdict);
     }
     let asked = request(part, enable, what, at, length, budget);
     let b = driver::begin(asked);
     let verdict = b.verdict;
     let begun = b.driver;
     keep_begun(verdict, begun, state);
-    lent::number(verdict)
+    parts::verdict_number(verdict)
 }
 
 // ---- next

@@ -12,20 +12,20 @@ use Rattle.parts.specs.declared.Refusal.the-variants.{BadImage}
 use Rattle.parts.specs.declared.Verdict.{Verdict}
 use Rattle.parts.specs.declared.Verdict.the-variants.{Fine, Refused}
 use Rattle.parts.specs.Table.{factsOf}
-use Rattle.parts.proofs.Laws.{branch}
+use Rattle.parts.specs.Refusals.{verdictNumberOf}
+use Rattle.parts.proofs.Laws.{branch, fine}
 use Rattle.chip.specs.Memory.{Mem}
 use Rattle.chip.specs.Delivery.{standbyOf}
 use Rattle.pack_chip.specs.Layout.{packedLength, packInto, unpackedOf}
 use Rattle.pack_chip.proofs.Kept.{packs-back}
-use Rattle.lent.specs.Answers.{answerOf}
-use Rattle.lent.proofs.Laws.{unheld-refused, fine, standby-fits}
+use Rattle.lent.proofs.Laws.{unheld-refused, standby-fits}
 use Rattle.image.specs.Layout.{partIn, lockIn}
 use Rattle.image.specs.Calls.{saveVerdictOf, saveBy, saveOut, loadVerdictOf}
 use Rattle.lent_image.specs.Images.{looksOf, verdictOf, savingOf, loadingOf}
 use Rattle.lent_image.specs.Promises.{SaveKeeps, LoadKeeps, SaveIsImages, LoadHolds}
 use Rattle.lent_image.proofs.Laws.{loads-nothing}
 
-save-keeps-by : (part : ℕ) (s : List ℕ) (m : Mem) (out : List ℕ) (v : Verdict) → (answerOf (saveBy (factsOf part) v .verdict) ≡ 0 → ⊥)
+save-keeps-by : (part : ℕ) (s : List ℕ) (m : Mem) (out : List ℕ) (v : Verdict) → (verdictNumberOf (saveBy (factsOf part) v .verdict) ≡ 0 → ⊥)
     → (saveBy (factsOf part) v .length ≡ 0) × (saveOut part (unpackedOf s) m out v ≡ out)
 save-keeps-by part s m out Fine h = absurd (h refl)
 save-keeps-by part s m out (Refused r) h = (refl, refl)

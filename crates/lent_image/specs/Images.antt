@@ -1,14 +1,15 @@
 -- What saving and loading leave for callers that hold bytes only: the number answered, and each lent byte.
 -- Assumes nothing.
 use Prim.Native.Nat.{ℕ}
-use mathlib.Core.Bool.{Bool, true, false, cond}
+use mathlib.Core.Bool.{Bool, true, cond}
 use mathlib.Core.List.{List}
 use lib.ListN.{length}
 use lib.Dec.{eqb, ltb}
 use Rattle.parts.specs.declared.Verdict.{Verdict}
+use Rattle.parts.specs.Refusals.{verdictNumberOf}
 use Rattle.chip.specs.Memory.{Mem}
 use Rattle.pack_chip.specs.Layout.{packedLength, unpackedOf}
-use Rattle.lent.specs.Answers.{answerOf, keptOf, unheldOf}
+use Rattle.lent.specs.Answers.{keptOf, unheldOf}
 use Rattle.image.specs.Layout.{partIn}
 use Rattle.image.specs.Calls.{saving, loadVerdictOf, loadBy, loadMem}
 
@@ -23,7 +24,7 @@ pub record AfterSave : Type 0 where
 abbrev pub savingOf : ℕ → List ℕ → Mem → List ℕ → AfterSave
 savingOf part s m out =
     record {
-      number = answerOf (saving part (unpackedOf s) m out .answer .verdict);
+      number = verdictNumberOf (saving part (unpackedOf s) m out .answer .verdict);
       written = saving part (unpackedOf s) m out .answer .length;
       out = saving part (unpackedOf s) m out .out;
     }
@@ -48,7 +49,7 @@ verdictOf l enable s m =
 abbrev pub loadingOf : List ℕ → ℕ → List ℕ → Mem → AfterLoad
 loadingOf l enable s m =
     record {
-      number = answerOf (verdictOf l enable s m);
+      number = verdictNumberOf (verdictOf l enable s m);
       part = partIn l;
       state = keptOf (verdictOf l enable s m) (loadBy l (verdictOf l enable s m) .chip) s;
       stored = loadMem l m (verdictOf l enable s m);

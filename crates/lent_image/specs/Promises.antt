@@ -6,12 +6,12 @@ use mathlib.Core.Path.{_≡_}
 use mathlib.Core.Bool.{true}
 use mathlib.Core.List.{List}
 use Rattle.parts.specs.Table.{factsOf}
+use Rattle.parts.specs.Refusals.{verdictNumberOf}
 use Rattle.state.specs.declared.Chip.{Chip}
 use Rattle.chip.specs.Memory.{Mem}
 use Rattle.chip.specs.Delivery.{standbyOf}
 use Rattle.pack_chip.specs.Layout.{packedOf, holdsOf, unpackedOf}
 use Rattle.pack_chip.specs.Promises.{Fits}
-use Rattle.lent.specs.Answers.{answerOf}
 use Rattle.image.specs.Layout.{partIn, lockIn}
 use Rattle.image.specs.Calls.{saving}
 use Rattle.lent_image.specs.Images.{AfterSave, AfterLoad}
@@ -43,7 +43,7 @@ SaveIsImages save =
     (part : ℕ) (c : Chip) (m : Mem) (out : List ℕ) → Fits c
     → save part (packedOf c) m out
     ≡ record {
-      number = answerOf (saving part c m out .answer .verdict);
+      number = verdictNumberOf (saving part c m out .answer .verdict);
       written = saving part c m out .answer .length;
       out = saving part c m out .out;
     }

@@ -21,7 +21,7 @@ pub fn save(
     let s = image::save(part, chip, array, id, out);
     let verdict = s.verdict;
     *written = s.length;
-    lent::number(verdict)
+    parts::verdict_number(verdict)
 }
 
 // Whether the image is looked at.
@@ -64,7 +64,7 @@ pub fn load(
     let looked = looks(state.len(), image.len());
     if !looked {
         let verdict = lent::unheld(own, enable, array, id);
-        return lent::number(verdict);
+        return parts::verdict_number(verdict);
     }
     let l = image::load(image, enable, array, id);
     let verdict = l.verdict;

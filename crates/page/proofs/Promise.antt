@@ -12,17 +12,15 @@ use lib.Seq.{getD-take, getD-drop, take-all}
 use borrow.Author.Tests.{le-leb, lt-leb, eq-eqb, ne-eqb, eqb-true, eqb-false}
 use Rattle.parts.specs.declared.ArrayAddress.{ArrayAddress}
 use Rattle.parts.specs.declared.Facts.{Facts}
-use Rattle.parts.specs.declared.Refusal.{Refusal}
-use Rattle.parts.specs.declared.Refusal.the-variants.{NoPart, WrongEnable, WrongBuffer, BadState, BadEvent, ShortBuffer, Beyond, BadLimit, NoSelect, NoData, PollsUsed, BadImage, TooMany}
 use Rattle.parts.specs.declared.Verdict.{Verdict}
 use Rattle.parts.specs.declared.Verdict.the-variants.{Fine, Refused}
 use Rattle.parts.specs.Table.{factsOf, idSizeOf, buffersRightOf}
-use Rattle.parts.specs.Refusals.{numberOf, givenOf}
-use Rattle.parts.proofs.Laws.{branch}
+use Rattle.parts.specs.Refusals.{verdictNumberOf, givenOf}
+use Rattle.parts.proofs.Laws.{branch, fine}
 use Rattle.page.specs.declared.Place.{Place}
 use Rattle.page.specs.declared.Place.the-variants.{Array, Ident}
 use Rattle.page.specs.Look.{lookRefusalOf, pageStartOf, lookSpanOf, lookOf, shownOf, pageSpanOf, ofArray}
-use Rattle.page.specs.Promise.{numberGiven, Lengths, RefusesRightly, IsPage, ShowsPages, LiesInBuffer}
+use Rattle.page.specs.Promise.{Lengths, RefusesRightly, IsPage, ShowsPages, LiesInBuffer}
 use Rattle.page.proofs.Laws.{room, accepted}
 
 -- ---- "part above 5"
@@ -74,30 +72,9 @@ refuses-rightly = record {
   wrongBuffer = λ part array id place h n. simp (known part h, wrong (factsOf part) array id n);
   beyond = λ part array id a h l far. simp (known part h, right (factsOf part) array id (l .0) (l .1), le-leb (factsOf part .size) (a .0) far);
   noPage = λ part array id h l i. simp (known part h, right (factsOf part) array id (l .0) (l .1), i);
-  inArray = λ part array id a h l low. ap numberGiven (in-array part array id a (known part h) l low);
-  isPage = λ part array id h l i. ap numberGiven (is-there part array id (known part h) l i);
+  inArray = λ part array id a h l low. ap verdictNumberOf (in-array part array id a (known part h) l low);
+  isPage = λ part array id h l i. ap verdictNumberOf (is-there part array id (known part h) l i);
 }
-
--- ---- a number is a refusal's, or 0
-
-positive : (r : Refusal) → 0 < numberOf r
-positive NoPart = omega arith
-positive WrongEnable = omega arith
-positive WrongBuffer = omega arith
-positive BadState = omega arith
-positive (BadEvent k) = omega arith
-positive ShortBuffer = omega arith
-positive Beyond = omega arith
-positive BadLimit = omega arith
-positive NoSelect = omega arith
-positive NoData = omega arith
-positive PollsUsed = omega arith
-positive BadImage = omega arith
-positive TooMany = omega arith
-
-fine : (v : Verdict) → numberGiven v ≡ 0 → v ≡ Fine
-fine Fine e = refl
-fine (Refused r) e = absurd (omega (arith, positive r))
 
 -- ---- where it lies
 
@@ -106,11 +83,11 @@ module _ (part array id : ℕ) where
   unfolding lookSpanOf
   span-fine place h = rw h
 
-  span-refused : (place : Place) → 0 < numberGiven (lookRefusalOf part array id place) → lookSpanOf part array id place ≡ ofArray 0 0
+  span-refused : (place : Place) → 0 < verdictNumberOf (lookRefusalOf part array id place) → lookSpanOf part array id place ≡ ofArray 0 0
   unfolding lookSpanOf
   span-refused place h = empty (lookRefusalOf part array id place) h
     where
-      empty : (v : Verdict) → 0 < numberGiven v → shownOf v (pageSpanOf (factsOf part) place) ≡ ofArray 0 0
+      empty : (v : Verdict) → 0 < verdictNumberOf v → shownOf v (pageSpanOf (factsOf part) place) ≡ ofArray 0 0
       empty Fine z = absurd (omega arith)
       empty (Refused r) z = refl
 
@@ -145,7 +122,7 @@ module _ (part : ℕ) (array id : List ℕ) where
   unfolding lookOf
   looked-ident h = rw (span-fine part (length array) (length id) Ident h) (take-all (factsOf part .page) id (le-of-eq (room part (length array) (length id) Ident h)))
 
-  looked-refused : (place : Place) → 0 < numberGiven (lookRefusalOf part (length array) (length id) place) → lookOf part array id place ≡ []
+  looked-refused : (place : Place) → 0 < verdictNumberOf (lookRefusalOf part (length array) (length id) place) → lookOf part array id place ≡ []
   unfolding lookOf
   looked-refused place h = rw (span-refused part (length array) (length id) place h)
 

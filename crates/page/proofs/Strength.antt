@@ -15,10 +15,11 @@ use Rattle.parts.specs.declared.ArrayAddress.{ArrayAddress}
 use Rattle.parts.specs.declared.Refusal.the-variants.{Beyond}
 use Rattle.parts.specs.declared.Verdict.the-variants.{Refused}
 use Rattle.parts.specs.Table.{factsOf, idSizeOf, buffersRightOf}
+use Rattle.parts.specs.Refusals.{verdictNumberOf}
 use Rattle.page.specs.declared.Place.{Place}
 use Rattle.page.specs.declared.Place.the-variants.{Array, Ident}
 use Rattle.page.specs.Look.{lookRefusalOf}
-use Rattle.page.specs.Promise.{Refusing, Looking, numberGiven, Lengths, RefusesRightly, ShowsPages}
+use Rattle.page.specs.Promise.{Refusing, Looking, Lengths, RefusesRightly, ShowsPages}
 use Rattle.page.proofs.Laws.{lengths-right}
 use Rattle.page.proofs.Promise.{right, refuses-rightly}
 
@@ -34,7 +35,7 @@ lengths-wrong part array id w l =
     omega arith
 
 module _ (r q : Refusing) (R : RefusesRightly r) (Q : RefusesRightly q) (part array id : ℕ) where
-  known-same : part ≤ 5 → Lengths part array id → (place : Place) → numberGiven (r part array id place) ≡ numberGiven (q part array id place)
+  known-same : part ≤ 5 → Lengths part array id → (place : Place) → verdictNumberOf (r part array id place) ≡ verdictNumberOf (q part array id place)
   known-same h l (Array a) =
       either (leb (factsOf part .size) (a .0))
       (λ t. R .beyond part array id a h l (leb-true _ _ t) ∙ sym (Q .beyond part array id a h l (leb-true _ _ t)))
@@ -44,7 +45,7 @@ module _ (r q : Refusing) (R : RefusesRightly r) (Q : RefusesRightly q) (part ar
       (λ t. R .isPage part array id h l t ∙ sym (Q .isPage part array id h l t))
       (λ t. R .noPage part array id h l t ∙ sym (Q .noPage part array id h l t))
 
-  pub same-number : (place : Place) → numberGiven (r part array id place) ≡ numberGiven (q part array id place)
+  pub same-number : (place : Place) → verdictNumberOf (r part array id place) ≡ verdictNumberOf (q part array id place)
   same-number place =
       either (leb part 5)
       (λ t.
@@ -56,10 +57,10 @@ module _ (r q : Refusing) (R : RefusesRightly r) (Q : RefusesRightly q) (part ar
       (λ t. R .noPart part array id place (leb-false part 5 t) ∙ sym (Q .noPart part array id place (leb-false part 5 t)))
 
 module _ (r q : Refusing) (R : RefusesRightly r) (Q : RefusesRightly q) (l k : Looking) (L : ShowsPages r l) (K : ShowsPages q k) (part : ℕ) (array id : List ℕ) where
-  same : (place : Place) → numberGiven (q part (length array) (length id) place) ≡ numberGiven (r part (length array) (length id) place)
+  same : (place : Place) → verdictNumberOf (q part (length array) (length id) place) ≡ verdictNumberOf (r part (length array) (length id) place)
   same place = same-number q r Q R part (length array) (length id) place
 
-  accepted-same : (place : Place) → numberGiven (r part (length array) (length id) place) ≡ 0 → l part array id place ≡ k part array id place
+  accepted-same : (place : Place) → verdictNumberOf (r part (length array) (length id) place) ≡ 0 → l part array id place ≡ k part array id place
   accepted-same (Array a) h = L .array part array id a h .part ∙ sym (K .array part array id a (same (Array a) ∙ h) .part)
   accepted-same Ident h = L .ident part array id h .0 ∙ sym (K .ident part array id (same Ident ∙ h) .0)
 
@@ -68,7 +69,7 @@ module _ (r q : Refusing) (R : RefusesRightly r) (Q : RefusesRightly q) (l k : L
       ⊎-elim
       (λ z. accepted-same place z)
       (λ p. L .refused part array id place p ∙ sym (K .refused part array id place (rw (same place) p)))
-      (eq-zero-or-pos (numberGiven (r part (length array) (length id) place)))
+      (eq-zero-or-pos (verdictNumberOf (r part (length array) (length id) place)))
 
 -- ---- looks that break the promises
 
@@ -86,7 +87,7 @@ unfolding factsOf idSizeOf
 all-refused R = let z : _≡_ {A = ℕ} 7 0 = R .inArray 0 2048 16 (at 0) (omega arith) (refl, refl) (omega arith) in omega arith
 
 -- part 0 with its buffers takes every address of its array
-taken : (a : ℕ) → a < 2048 → numberGiven (lookRefusalOf 0 (length cells) (length ident) (Array (at a))) ≡ 0
+taken : (a : ℕ) → a < 2048 → verdictNumberOf (lookRefusalOf 0 (length cells) (length ident) (Array (at a))) ≡ 0
 unfolding factsOf idSizeOf
 taken a h = refuses-rightly .inArray 0 (length cells) (length ident) (at a) (omega arith) (length-replicate {A = ℕ} 2048 0, length-replicate {A = ℕ} 16 0) h
 

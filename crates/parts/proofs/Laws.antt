@@ -1,17 +1,18 @@
--- Laws of the part table, and of a call that is not refused.
+-- Laws of the part table, of a verdict's number, and of a call that is not refused.
 -- Assumes nothing.
 use mathlib.Core.Path.{_≡_, refl}
-use Prim.Native.Nat.{ℕ}
+use Prim.Native.Nat.{ℕ, _<_}
 use mathlib.Core.Bool.{Bool, true, false, cond}
 use native.Mathlib.Omega.{arith}
 use lib.Dec.{eqb}
 use Rattle.parts.specs.Table.{factsOf}
 use Rattle.parts.specs.Sound.{Sound}
 use Rattle.parts.specs.declared.Refusal.{Refusal}
+use Rattle.parts.specs.declared.Refusal.the-variants.{NoPart, WrongEnable, WrongBuffer, BadState, BadEvent, ShortBuffer, Beyond, BadLimit, NoSelect, NoData, PollsUsed, BadImage, TooMany}
 use Rattle.parts.specs.declared.Faults.{Faults}
 use Rattle.parts.specs.declared.Verdict.{Verdict}
 use Rattle.parts.specs.declared.Verdict.the-variants.{Fine, Refused}
-use Rattle.parts.specs.Refusals.{givenOf}
+use Rattle.parts.specs.Refusals.{numberOf, verdictNumberOf, givenOf}
 
 -- both ways of a test, each with what the test said
 pub branch {ℓ κ} : {A : Type ℓ} (Q : A → Type κ) (b : Bool) {x y : A} → (b ≡ true → Q x) → (b ≡ false → Q y) → Q (cond b x y)
@@ -27,6 +28,27 @@ sound n =
     branch Sound (eqb n 3) (λ _. omega arith) (λ _.
     branch Sound (eqb n 4) (λ _. omega arith) (λ _.
     branch Sound (eqb n 5) (λ _. omega arith) (λ _. omega arith))))))
+
+-- ---- 0 is no refusal's number
+
+positive : (r : Refusal) → 0 < numberOf r
+positive NoPart = omega arith
+positive WrongEnable = omega arith
+positive WrongBuffer = omega arith
+positive BadState = omega arith
+positive (BadEvent k) = omega arith
+positive ShortBuffer = omega arith
+positive Beyond = omega arith
+positive BadLimit = omega arith
+positive NoSelect = omega arith
+positive NoData = omega arith
+positive PollsUsed = omega arith
+positive BadImage = omega arith
+positive TooMany = omega arith
+
+pub fine : (v : Verdict) → verdictNumberOf v ≡ 0 → v ≡ Fine
+fine Fine h = refl
+fine (Refused r) h = absurd (omega (arith, positive r))
 
 -- ---- a call that is not refused has no fault
 

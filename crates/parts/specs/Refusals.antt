@@ -24,6 +24,11 @@ numberOf PollsUsed = 11
 numberOf BadImage = 12
 numberOf TooMany = 13
 
+-- 0 where nothing is refused, else the refusal's number
+abbrev pub verdictNumberOf : Verdict → ℕ
+verdictNumberOf Fine = 0
+verdictNumberOf (Refused r) = numberOf r
+
 -- "The lowest of 1 to 8, 12 and 13 that applies is given, before anything changes, except that 13 goes before 5":
 -- 1 2 3 4 13 5 6 7 8 12
 unfoldable pub givenOf : Faults → Verdict

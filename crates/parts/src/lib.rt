@@ -3,7 +3,7 @@ ghost use mathlib.Core.Path.{_≡_};
 ghost use Rattle.parts.specs.Table.{factsOf, idSizeOf, buffersRightOf, addressBytesOf, enableRightOf};
 ghost use Rattle.parts.specs.Sound.{Sound};
 ghost use Rattle.parts.specs.Events.{eventOf, eventRightOf};
-ghost use Rattle.parts.specs.Refusals.{numberOf, givenOf};
+ghost use Rattle.parts.specs.Refusals.{numberOf, verdictNumberOf, givenOf};
 
 // The address of a byte of the array.
 pub struct ArrayAddress(pub usize);
@@ -239,6 +239,16 @@ pub struct Faults {
 pub enum Verdict {
     Fine,
     Refused(Refusal),
+}
+
+// 0 where nothing is refused, else the refusal's number.
+pub fn verdict_number(verdict: Verdict) -> u8
+    ensures { λ r. ⌜ r ≡ verdictNumberOf verdict ⌝ }
+{
+    match verdict {
+        Verdict::Fine => 0,
+        Verdict::Refused(refusal) => number(refusal),
+    }
 }
 
 // Which refusal a call is given: the order of document 01.

@@ -2,7 +2,6 @@
 use crate::words;
 use crate::words::Job;
 use libc::STDERR_FILENO;
-use parts::Verdict;
 use state::Chip;
 
 // A chip before a run. `number`: the refusal, 0 for none, TOLD where standard error has the reason.
@@ -14,13 +13,6 @@ pub struct First {
 pub const TOLD: u8 = 255;
 
 const BAD_IMAGE: u8 = 12;
-
-pub fn number(verdict: Verdict) -> u8 {
-    match verdict {
-        Verdict::Fine => 0,
-        Verdict::Refused(r) => parts::number(r),
-    }
-}
 
 pub fn refused(number: u8) -> First {
     First {
@@ -40,7 +32,7 @@ fn is_image(part: u8, bytes: &[u8], array: &mut [u8], id: &mut [u8]) -> bool {
         if n <= id.len() {
             let loaded = image::load(bytes, 0, &mut array[0..m], &mut id[0..n]);
             let verdict = loaded.verdict;
-            return number(verdict) == 0;
+            return parts::verdict_number(verdict) == 0;
         }
     }
     false
@@ -68,7 +60,7 @@ fn load(part: u8, enable: u8, bytes: &[u8], array: &mut [u8], id: &mut [u8]) -> 
     let verdict = loaded.verdict;
     let chip = loaded.chip;
     First {
-        number: number(verdict),
+        number: parts::verdict_number(verdict),
         chip,
     }
 }

@@ -27,7 +27,7 @@ fn delivered(part: u8, array: &mut [u8], id: &mut [u8]) -> First {
     let verdict = d.verdict;
     let chip = d.chip;
     First {
-        number: files::number(verdict),
+        number: parts::verdict_number(verdict),
         chip,
     }
 }
@@ -44,7 +44,7 @@ fn pinned(job: Job, chip: Chip, array: &mut [u8], id: &mut [u8]) -> First {
     let verdict = s.verdict;
     let chip = s.chip;
     First {
-        number: files::number(verdict),
+        number: parts::verdict_number(verdict),
         chip,
     }
 }
@@ -118,7 +118,7 @@ fn dump(ok: bool, job: Job, data: &[u8]) -> bool {
 fn saved(job: Job, report: Report, array: &[u8], id: &[u8]) -> bool {
     let verdict = report.verdict;
     let last = report.chip;
-    if files::number(verdict) == 0 {
+    if parts::verdict_number(verdict) == 0 {
         return files::save(job, last, array, id);
     }
     true
@@ -127,7 +127,7 @@ fn saved(job: Job, report: Report, array: &[u8], id: &[u8]) -> bool {
 fn tell_report(asked: usize, report: Report) -> bool {
     let verdict = report.verdict;
     show::figures(
-        show::head(files::number(verdict)),
+        show::head(parts::verdict_number(verdict)),
         report.bytes,
         asked,
         report.polls,
@@ -139,7 +139,7 @@ fn tell_report(asked: usize, report: Report) -> bool {
 // Of a read that is done.
 fn tell_bytes(ok: bool, job: Job, report: Report, data: &[u8]) -> bool {
     let verdict = report.verdict;
-    if files::number(verdict) == 0 {
+    if parts::verdict_number(verdict) == 0 {
         return dump(ok, job, data);
     }
     ok

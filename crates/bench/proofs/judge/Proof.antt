@@ -19,8 +19,8 @@ in-range-requires c κs = tt
 judge-requires : tie.Need-judge-requires
 judge-requires c κs = tt
 
-number-requires : tie.Need-number-requires
-number-requires c κs = tt
+verdict-number-requires : tie.Need-verdict-number-requires
+verdict-number-requires c κs = tt
 
 unfit-requires : tie.Need-unfit-requires
 unfit-requires c κs = tt
@@ -37,7 +37,7 @@ given-requires c κs = tt
 returns : tie.Need-returns
 unfolding benchVerdictOf
 returns c =
-    c .given .ensures ∙ judge-by _ _ _ _ _ _ _ _ _ _ _ _ _ _ _ _ (c .before .before .before .before .before .before .before .before .before .facts-of .ensures .0) (c .before .before .before .before .before .before .before .before .enables-wrong .ensures) (c .before .before .before .before .before .before .before .buffers-right .ensures) (c .before .before .before .before .before .before .in-range .ensures) (c .before .before .before .before .before .judge .ensures) (c .before .before .before .before .number .ensures) (c .before .before .before .unfit .ensures) (c .before .before .short .ensures) (c .before .limited .ensures)
+    c .given .ensures ∙ judge-by _ _ _ _ _ _ _ _ _ _ _ _ _ _ _ _ (c .before .before .before .before .before .before .before .before .before .facts-of .ensures .0) (c .before .before .before .before .before .before .before .before .enables-wrong .ensures) (c .before .before .before .before .before .before .before .buffers-right .ensures) (c .before .before .before .before .before .before .in-range .ensures) (c .before .before .before .before .before .judge .ensures) (c .before .before .before .before .verdict-number .ensures) (c .before .before .before .unfit .ensures) (c .before .before .short .ensures) (c .before .limited .ensures)
 
 pub judge-spec : {M : Type 1} → statement M
 judge-spec =
@@ -48,7 +48,7 @@ judge-spec =
     buffers-right-requires
     in-range-requires
     judge-requires
-    number-requires
+    verdict-number-requires
     unfit-requires
     short-requires
     limited-requires

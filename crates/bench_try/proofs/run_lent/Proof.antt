@@ -22,8 +22,8 @@ run-requires c κs = search needs
 say-requires : tie.Need-say-requires
 say-requires c κs = search needs
 
-number-requires : tie.Need-number-requires
-number-requires c κs = search needs
+verdict-number-requires : tie.Need-verdict-number-requires
+verdict-number-requires c κs = search needs
 
 tell-byte-requires : tie.Need-tell-byte-requires
 tell-byte-requires c κs = search needs
@@ -74,7 +74,7 @@ run-lent-spec =
     slice-aggregate-run-2
     run-requires
     say-requires
-    number-requires
+    verdict-number-requires
     tell-byte-requires
     tell-requires
     tell-requires-2

@@ -15,8 +15,8 @@ run-requires c κs = search needs
 keep-requires : tie.Need-keep-requires
 keep-requires c κs = search needs
 
-number-requires : tie.Need-number-requires
-number-requires c κs = search needs
+verdict-number-requires : tie.Need-verdict-number-requires
+verdict-number-requires c κs = search needs
 
 same-length : tie.Need-same-length
 same-length c = search needs
@@ -35,7 +35,7 @@ returns c =
     let u = c .before .before .before .before .before .before .before .before .before .before .before .before .before .before .before .before .unpack .ensures in
     let q = c .before .before .before .before .before .before .before .before .before .before .before .before .before .before .before .before .before .before .request .ensures in
     let s = c .before .before .before .before .before .before .before .before .before .before .before .before .run .ensures in
-    (rw (c .number .ensures, s .0, u, q) refl, (rw (c .before .before .before .keep .ensures, s .0, u, q) refl, (rw (s .1 .0, u, q) refl, (rw (s .1 .1, u, q) refl, (rw (s .0, u, q) refl, (rw (s .0, u, q) refl, (rw (s .0, u, q) refl, rw (s .0, u, q) refl)))))))
+    (rw (c .verdict-number .ensures, s .0, u, q) refl, (rw (c .before .before .before .keep .ensures, s .0, u, q) refl, (rw (s .1 .0, u, q) refl, (rw (s .1 .1, u, q) refl, (rw (s .0, u, q) refl, (rw (s .0, u, q) refl, (rw (s .0, u, q) refl, rw (s .0, u, q) refl)))))))
 
 pub run-spec : {M : Type 1} → statement M
 run-spec =
@@ -45,7 +45,7 @@ run-spec =
     unpack-requires
     run-requires
     keep-requires
-    number-requires
+    verdict-number-requires
     same-length
     same-length-2
     same-length-3

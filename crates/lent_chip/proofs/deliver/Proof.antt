@@ -12,8 +12,8 @@ use Rattle.lent_chip.proofs.deliver.Tie as tie
 unheld-requires : tie.Need-unheld-requires
 unheld-requires c κs = search needs
 
-number-requires : tie.Need-number-requires
-number-requires c κs = search needs
+verdict-number-requires : tie.Need-verdict-number-requires
+verdict-number-requires c κs = search needs
 
 same-length : tie.Need-same-length
 same-length c = search needs
@@ -28,7 +28,7 @@ returns c =
     let a = c .before .before .before .before .before .before .before .before .args in
     let m = mem (now (a .array)) (now (a .id)) in
     let k = delivers-nothing (a .part) _ (now (a .state)) m _ (unheld-refused (a .part) 0 m) in
-    (rw (w, c .number .ensures, c .before .unheld .ensures) refl, (rw w (sym (k .0)), (rw w (ap (λ (x : Mem). x .cells) (sym (k .1))), rw w (ap (λ (x : Mem). x .ident) (sym (k .1))))))
+    (rw (w, c .verdict-number .ensures, c .before .unheld .ensures) refl, (rw w (sym (k .0)), (rw w (ap (λ (x : Mem). x .cells) (sym (k .1))), rw w (ap (λ (x : Mem). x .ident) (sym (k .1))))))
 
 deliver-requires : tie.Need-deliver-requires
 deliver-requires c κs = search needs
@@ -58,7 +58,7 @@ deliver-spec =
     tie.close
     (tie.spec
     unheld-requires
-    number-requires
+    verdict-number-requires
     same-length
     same-length-2
     returns

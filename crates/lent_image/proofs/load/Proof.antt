@@ -21,8 +21,8 @@ looks-requires c κs = search needs
 unheld-requires : tie.Need-unheld-requires
 unheld-requires c κs = search needs
 
-number-requires : tie.Need-number-requires
-number-requires c κs = search needs
+verdict-number-requires : tie.Need-verdict-number-requires
+verdict-number-requires c κs = search needs
 
 same-length : tie.Need-same-length
 same-length c = search needs
@@ -38,7 +38,7 @@ returns c =
     let w = sym (c .before .before .before .before .before .looks .ensures) ∙ not-true (c .before .before .before .before .before .looks .result) (c .before .before .before .before .if1 .taken) in
     let p = c .before .before .before .before .before .before .part-in .ensures in
     let k = loads-nothing (now (a .image)) _ (now (a .state)) m _ (unheld-refused (partIn (now (a .image))) (a .enable) m) in
-    (rw (w, c .number .ensures, c .before .unheld .ensures, p) refl, (rw w (sym (k .0)), (rw w (ap (λ (x : Mem). x .cells) (sym (k .1))), (rw w (ap (λ (x : Mem). x .ident) (sym (k .1))), p))))
+    (rw (w, c .verdict-number .ensures, c .before .unheld .ensures, p) refl, (rw w (sym (k .0)), (rw w (ap (λ (x : Mem). x .cells) (sym (k .1))), (rw w (ap (λ (x : Mem). x .ident) (sym (k .1))), p))))
 
 load-requires : tie.Need-load-requires
 load-requires c κs = search needs
@@ -72,7 +72,7 @@ load-spec =
     part-in-requires
     looks-requires
     unheld-requires
-    number-requires
+    verdict-number-requires
     same-length
     same-length-2
     returns

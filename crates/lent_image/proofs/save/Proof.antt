@@ -9,8 +9,8 @@ unpack-requires c κs = search needs
 save-requires : tie.Need-save-requires
 save-requires c κs = search needs
 
-number-requires : tie.Need-number-requires
-number-requires c κs = search needs
+verdict-number-requires : tie.Need-verdict-number-requires
+verdict-number-requires c κs = search needs
 
 same-length : tie.Need-same-length
 same-length c = search needs
@@ -19,7 +19,7 @@ returns : tie.Need-returns
 returns c =
     let u = c .before .before .before .before .before .unpack .ensures in
     let s = c .before .before .before .save .ensures in
-    (rw (c .number .ensures, s .0, u) refl, (rw (s .1, u) refl, rw (s .0, u) refl))
+    (rw (c .verdict-number .ensures, s .0, u) refl, (rw (s .1, u) refl, rw (s .0, u) refl))
 
 pub save-spec : {M : Type 1} → statement M
-save-spec = tie.close (tie.spec unpack-requires save-requires number-requires same-length returns)
+save-spec = tie.close (tie.spec unpack-requires save-requires verdict-number-requires same-length returns)
