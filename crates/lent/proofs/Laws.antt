@@ -7,10 +7,11 @@ use native.Mathlib.Omega.{arith}
 use lib.ListN.{replicate}
 use Rattle.parts.specs.declared.Facts.{Facts}
 use Rattle.parts.specs.declared.Verdict.the-variants.{Fine}
+use Rattle.parts.specs.Bytes.{AllBelow}
 use Rattle.parts.proofs.Laws.{faultless}
 use Rattle.chip.specs.Memory.{Mem, noLatch}
 use Rattle.chip.specs.Delivery.{standbyOf}
-use Rattle.pack_chip.specs.Promises.{AllBelow, Fits}
+use Rattle.pack_chip.specs.Promises.{Fits}
 use Rattle.lent.specs.Answers.{unheldOf}
 
 -- where no state is held, the call is refused

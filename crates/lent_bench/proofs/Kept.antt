@@ -6,10 +6,11 @@ use mathlib.Core.Bool.{true}
 use mathlib.Core.List.{List}
 use lib.ListN.{length}
 use borrow.Author.Tests.{eq-eqb}
+use Rattle.parts.specs.Bytes.{AllBelow}
 use Rattle.parts.proofs.Laws.{branch}
 use Rattle.state.specs.declared.Chip.{Chip}
 use Rattle.pack_chip.specs.Layout.{packedLength, packedOf, packInto, holdsOf, unpackedOf}
-use Rattle.pack_chip.specs.Promises.{AllBelow, Fits}
+use Rattle.pack_chip.specs.Promises.{Fits}
 use Rattle.pack_chip.proofs.Laws.{holds-long}
 use Rattle.pack_chip.proofs.Kept.{packs-back, unpacks-back}
 use Rattle.lent_bench.specs.Bench.{keptOf, benching}

@@ -9,10 +9,11 @@ use Rattle.parts.specs.declared.Refusal.{Refusal}
 use Rattle.parts.specs.declared.Verdict.{Verdict}
 use Rattle.parts.specs.declared.Verdict.the-variants.{Refused}
 use Rattle.parts.specs.Refusals.{numberOf, verdictNumberOf}
+use Rattle.parts.specs.Bytes.{AllBelow}
 use Rattle.state.specs.declared.Chip.{Chip}
 use Rattle.chip.specs.Memory.{Mem}
 use Rattle.pack_chip.specs.Layout.{packedOf, unpackedOf}
-use Rattle.pack_chip.specs.Promises.{AllBelow, Fits}
+use Rattle.pack_chip.specs.Promises.{Fits}
 use Rattle.driver.specs.declared.Request.{Request}
 use Rattle.bench.specs.Calls.{benchVerdictOf, benchBy, benchMem, benchBuffer}
 use Rattle.lent_bench.specs.Bench.{AfterBench}

@@ -11,6 +11,7 @@ use borrow.Author.Tests.{eq-eqb, ne-eqb, eqb-true}
 use Rattle.parts.specs.declared.Verdict.{Verdict}
 use Rattle.parts.specs.declared.Verdict.the-variants.{Fine, Refused as Judged}
 use Rattle.parts.specs.Refusals.{verdictNumberOf}
+use Rattle.parts.specs.Bytes.{AllBelow}
 use Rattle.parts.proofs.Laws.{branch, fine}
 use Rattle.driver.specs.declared.Request.{Request}
 use Rattle.driver.specs.declared.Driver.{Driver}
@@ -19,7 +20,7 @@ use Rattle.driver.specs.Request.{judgeOf, allowedOf}
 use Rattle.driver.proofs.Facts.{good-request, reach}
 use Rattle.driver.specs.Step.{fine as judged, fresh, rangeOf, nextOf, bufferOf, stepOf}
 use Rattle.pack_driver.specs.Layout.{packedLength, wordEnd, packsOf, packInto, holdsOf, unpackedOf, smallOf, numbersOf}
-use Rattle.pack_driver.specs.Promises.{AllBelow, Fits}
+use Rattle.pack_driver.specs.Promises.{Fits}
 use Rattle.pack_driver.proofs.Kept.{both-yes, small-all, packs-small, packs-back, unpacks-back}
 use Rattle.pack_driver.proofs.Range.{refuses-others, stays-small}
 use Rattle.lent_driver.specs.Drivers.{readsOf, budgetOf, requestOf, beginVerdict, begunOf, beginning, toldOf, keptOf, asking}

@@ -5,10 +5,10 @@ use Prim.Native.Nat.{ℕ, _<_}
 use mathlib.Core.Path.{_≡_}
 use mathlib.Core.Bool.{true, false}
 use mathlib.Core.List.{List}
+use Rattle.parts.specs.Bytes.{AllBelow}
 use Rattle.driver.specs.declared.Request.{Request}
 use Rattle.driver.specs.Step.{fresh, nextOf}
 use Rattle.pack_driver.specs.Layout.{holdsOf, unpackedOf}
-use Rattle.pack_driver.specs.Promises.{AllBelow}
 use Rattle.lent_driver.specs.Drivers.{requestOf, AfterBegin, AfterNext}
 
 -- of a request and the driver's bytes

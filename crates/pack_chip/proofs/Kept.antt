@@ -9,9 +9,11 @@ use native.Mathlib.Omega.{arith}
 use lib.ListN.{length, getD, drop, length-append, length-drop}
 use lib.Seq.{drop-cons}
 use lib.Dec.{eqb, ltb}
-use borrow.Author.Tests.{eq-eqb, eqb-true, ltb-true, le-ltb}
+use borrow.Author.Tests.{eq-eqb, eqb-true, ltb-true, lt-ltb, le-ltb}
 use Rattle.parts.specs.Table.{factsOf}
+use Rattle.parts.specs.Bytes.{flagOf, AllBelow}
 use Rattle.parts.proofs.Laws.{sound, branch}
+use Rattle.parts.proofs.Bytes.{flag-below, flag-back, flag-in, below-at}
 use Rattle.line.specs.declared.Pin.{Pin}
 use Rattle.line.specs.declared.Pin.the-variants.{Absent, Low, High, Floating}
 use Rattle.line.specs.declared.Target.the-variants.{Array, Ident}
@@ -22,19 +24,11 @@ use Rattle.line.specs.declared.Phase.{Phase}
 use Rattle.line.specs.declared.Phase.the-variants.{Idle, Receive, Send, Busy}
 use Rattle.state.specs.declared.Chip.{Chip}
 use Rattle.state.specs.Range.{inRangeOf}
-use Rattle.pack_chip.specs.Layout.{flagOf, pinCodeOf, phaseCodeOf, phaseHighOf, packedLength, pairsOf, headOf, packedOf, pinIn, recvIn, phaseIn, joinedOf, rowOf, lineIn, phaseRightOf, codesRightOf, holdsOf, unpackedOf}
-use Rattle.pack_chip.specs.Promises.{AllBelow, Fits, PacksBack, UnpacksBack, RefusesOthers}
+use Rattle.pack_chip.specs.Layout.{pinCodeOf, phaseCodeOf, phaseHighOf, packedLength, pairsOf, headOf, packedOf, pinIn, recvIn, phaseIn, joinedOf, rowOf, lineIn, phaseRightOf, codesRightOf, holdsOf, unpackedOf}
+use Rattle.pack_chip.specs.Promises.{Fits, PacksBack, UnpacksBack, RefusesOthers}
 use Rattle.pack_chip.proofs.Laws.{pairs-length, row-length, both, holds-long}
 
 -- ---- the codes: from a state and back
-
-flag-back : (b : Bool) → eqb (flagOf b) 1 ≡ b
-flag-back true = refl
-flag-back false = refl
-
-flag-right : (b : Bool) → ltb (flagOf b) 2 ≡ true
-flag-right true = refl
-flag-right false = refl
 
 pin-back : (p : Pin) → pinIn (pinCodeOf p) ≡ p
 unfolding pinIn
@@ -94,9 +88,6 @@ at-each f zero h k l = absurd (omega arith)
 at-each f (suc n) h k l =
     let t = both (f n) (below f n) h in
     at-next f n k (t .0) (at-each f n (t .1) k) l (ℕ-discrete k n)
-
-flag-again : (n : ℕ) → n < 2 → flagOf (eqb n 1) ≡ n
-flag-again n h = eqb-true _ _ (at-each (λ k. eqb (flagOf (eqb k 1)) k) 2 refl n h)
 
 pin-again : (n : ℕ) → n < 4 → pinCodeOf (pinIn n) ≡ n
 unfolding pinIn
@@ -163,11 +154,6 @@ all-drop n zero l b = b
 all-drop n (suc i) [] b = tt
 all-drop n (suc i) (x ∷ l) b = all-drop n i l (b .1)
 
-all-at : (n i : ℕ) (l : List ℕ) → 0 < n → AllBelow n l → getD l i 0 < n
-all-at n i [] z b = z
-all-at n zero (x ∷ l) z b = b .0
-all-at n (suc i) (x ∷ l) z b = all-at n i l z (b .1)
-
 nine : (l : List ℕ) → length l ≡ 137
     → getD l 0 0 ∷ getD l 1 0 ∷ getD l 2 0 ∷ getD l 3 0 ∷ getD l 4 0 ∷ getD l 5 0 ∷ getD l 6 0 ∷ getD l 7 0 ∷ getD l 8 0 ∷ drop 9 l ≡ l
 nine l h =
@@ -182,20 +168,17 @@ code-low n high h = ltb-true n 18 (both (ltb n 18) (cond (eqb n 4) true (cond (e
 pin-low : (p : Pin) → pinCodeOf p < 256
 pin-low p = let h = ltb-true (pinCodeOf p) 4 (pin-right p) in omega arith
 
-flag-low : (b : Bool) → flagOf b < 256
-flag-low b = let h = ltb-true (flagOf b) 2 (flag-right b) in omega arith
-
 bytes : (c : Chip) → Fits c → AllBelow 256 (packedOf c)
 unfolding packedOf
 bytes c f =
     let k = code-low (phaseCodeOf (c .line .phase)) (phaseHighOf (c .line .phase)) (coded (c .line .phase) .right) in
-    (omega (arith, f .counter), (omega arith, (pin-low (c .line .core .pin), (flag-low (c .line .core .inhibited), (flag-low (c .line .core .locked), (omega (arith, k), (f .high, (f .left, (f .shift, pairs-fit (c .latch) (f .latch))))))))))
+    (omega (arith, f .counter), (omega arith, (pin-low (c .line .core .pin), (omega (arith, flag-below (c .line .core .inhibited)), (omega (arith, flag-below (c .line .core .locked)), (omega (arith, k), (f .high, (f .left, (f .shift, pairs-fit (c .latch) (f .latch))))))))))
 
 holding : (c : Chip) → Fits c → holdsOf (packedOf c) ≡ true
 unfolding packedOf holdsOf codesRightOf
 holding c f =
     let n : length (packedOf c) ≡ 137 = length-append (headOf (c .line)) (pairsOf (c .latch)) ∙ rw (pairs-length, f .latches) refl in
-    rw (eq-eqb (length (packedOf c)) 137 n, pin-right (c .line .core .pin), flag-right (c .line .core .inhibited), flag-right (c .line .core .locked))
+    rw (eq-eqb (length (packedOf c)) 137 n, pin-right (c .line .core .pin), lt-ltb _ 2 (flag-below (c .line .core .inhibited)), lt-ltb _ 2 (flag-below (c .line .core .locked)))
     (coded (c .line .phase) .right)
 
 same : (c : Chip) (n : ℕ) (p : Pin) (i l : Bool) (ph : Phase) (k : List ℕ)
@@ -231,10 +214,10 @@ module _ (l : List ℕ) (b : AllBelow 256 l) (h : holdsOf l ≡ true) where
   fits : Fits (record { line = lineIn l; latch = rowOf (drop 9 l) })
   fits =
       record {
-        counter = omega (arith, all-at 256 0 l (omega arith) b, all-at 256 1 l (omega arith) b);
-        high = rw (high-again (getD l 5 0) (getD l 6 0) (codes .code-low) (codes .high-kept)) (all-at 256 6 l (omega arith) b);
-        left = all-at 256 7 l (omega arith) b;
-        shift = all-at 256 8 l (omega arith) b;
+        counter = omega (arith, below-at l b 0, below-at l b 1);
+        high = rw (high-again (getD l 5 0) (getD l 6 0) (codes .code-low) (codes .high-kept)) (below-at l b 6);
+        left = below-at l b 7;
+        shift = below-at l b 8;
         latches = rw (row-length, rest-length) refl;
         latch = row-fits (drop 9 l) (all-drop 256 9 l b);
       }
@@ -242,11 +225,11 @@ module _ (l : List ℕ) (b : AllBelow 256 l) (h : holdsOf l ≡ true) where
   again : packedOf (record { line = lineIn l; latch = rowOf (drop 9 l) }) ≡ l
   unfolding packedOf
   again =
-      let low = all-at 256 1 l (omega arith) b in
+      let low = below-at l b 1 in
       let first : joinedOf (getD l 0 0) (getD l 1 0) / 256 ≡ getD l 0 0 = omega arith in
       let second : joinedOf (getD l 0 0) (getD l 1 0) % 256 ≡ getD l 1 0 = omega arith in
       let even : length (drop 9 l) % 2 ≡ 0 = rw rest-length refl in
-      rw (first, second, pin-again (getD l 2 0) (codes .pin-low), flag-again (getD l 3 0) (codes .inhibited-low), flag-again (getD l 4 0) (codes .locked-low), code-again (getD l 5 0) (getD l 6 0) (codes .code-low), high-again (getD l 5 0) (getD l 6 0) (codes .code-low) (codes .high-kept), pairs-of-row (drop 9 l) (all-drop 256 9 l b) even)
+      rw (first, second, pin-again (getD l 2 0) (codes .pin-low), flag-in (getD l 3 0) (codes .inhibited-low), flag-in (getD l 4 0) (codes .locked-low), code-again (getD l 5 0) (getD l 6 0) (codes .code-low), high-again (getD l 5 0) (getD l 6 0) (codes .code-low) (codes .high-kept), pairs-of-row (drop 9 l) (all-drop 256 9 l b) even)
       (nine l (holds-long l h))
 
 pub unpacks-back : UnpacksBack packedOf unpackedOf

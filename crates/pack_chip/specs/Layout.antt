@@ -7,6 +7,7 @@ use mathlib.Core.Bool.{Bool, true, false, cond}
 use mathlib.Core.List.{List, [], _∷_, _++_}
 use lib.ListN.{length, getD, drop, replicate}
 use lib.Dec.{eqb, ltb}
+use Rattle.parts.specs.Bytes.{flagOf}
 use Rattle.line.specs.declared.Pin.{Pin}
 use Rattle.line.specs.declared.Pin.the-variants.{Absent, Low, High, Floating}
 use Rattle.line.specs.declared.Target.{Target}
@@ -22,10 +23,6 @@ use Rattle.line.specs.declared.Line.{Line}
 use Rattle.state.specs.declared.Chip.{Chip}
 
 -- ---- the codes
-
-abbrev pub flagOf : Bool → ℕ
-flagOf false = 0
-flagOf true = 1
 
 abbrev pub pinCodeOf : Pin → ℕ
 pinCodeOf Absent = 0

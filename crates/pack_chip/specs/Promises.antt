@@ -3,17 +3,14 @@
 -- Assumes nothing.
 use Prim.Native.Nat.{ℕ, _<_}
 use mathlib.Core.Path.{_≡_}
-use mathlib.Core.Bool.{Bool, true, false}
-use mathlib.Core.List.{List, [], _∷_}
+use mathlib.Core.Bool.{true, false}
+use mathlib.Core.List.{List}
 use lib.ListN.{length}
 use Rattle.parts.specs.Table.{factsOf}
+use Rattle.parts.specs.Bytes.{AllBelow}
 use Rattle.state.specs.declared.Chip.{Chip}
 use Rattle.state.specs.Range.{inRangeOf}
 use Rattle.pack_chip.specs.Layout.{phaseHighOf, holdsOf}
-
-abbrev pub AllBelow : ℕ → List ℕ → Type 0
-AllBelow n [] = Unit {0}
-AllBelow n (x ∷ xs) = (x < n) × AllBelow n xs
 
 -- a state whose numbers fit their types
 pub record Fits (c : Chip) : Type 0 where

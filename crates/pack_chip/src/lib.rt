@@ -3,8 +3,8 @@ ghost use mathlib.Core.Path.{_≡_};
 ghost use Prim.Native.Nat.{_/_, _%_};
 ghost use lib.ListN.{length, drop};
 ghost use lib.Seq.{sets};
+ghost use Rattle.parts.specs.Bytes.{flagOf};
 ghost use Rattle.pack_chip.specs.Layout.{
-  flagOf,
   pinCodeOf,
   eitherOf,
   recvCodeOf,

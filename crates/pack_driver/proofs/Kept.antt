@@ -8,7 +8,9 @@ use native.Mathlib.Omega.{arith}
 use lib.ListN.{length, getD}
 use lib.Dec.{eqb, ltb}
 use borrow.Author.Tests.{eqb-true, eqb-false, ltb-true, ltb-false, lt-ltb}
+use Rattle.parts.specs.Bytes.{flagOf, AllBelow}
 use Rattle.parts.proofs.Laws.{branch}
+use Rattle.parts.proofs.Bytes.{flag-below, flag-back, flag-in, below-at}
 use Rattle.driver.specs.declared.Place.{Place}
 use Rattle.driver.specs.declared.Place.the-variants.{Array, Ident}
 use Rattle.driver.specs.declared.Slot.{Slot}
@@ -20,8 +22,8 @@ use Rattle.driver.specs.declared.Phase.the-variants.{Ready, Bits, Heard, Rest, 
 use Rattle.driver.specs.declared.Driver.{Driver}
 use Rattle.driver.specs.Request.{fromOf}
 use Rattle.driver.specs.Step.{clocksOf}
-use Rattle.pack_driver.specs.Layout.{flagOf, placeCodeOf, slotCodeOf, failedCodeOf, phaseCodeOf, packedLength, wordEnd, wordOf, wordsOf, numbersOf, packedOf, allSmall, smallOf, packsOf, packInto, placeIn, slotIn, failedIn, phaseIn, joinedOf, numberIn, driverIn, phaseRightOf, codesRightOf, holdsOf, unpackedOf}
-use Rattle.pack_driver.specs.Promises.{AllBelow, Fits, PacksBack, UnpacksBack}
+use Rattle.pack_driver.specs.Layout.{placeCodeOf, slotCodeOf, failedCodeOf, phaseCodeOf, packedLength, wordEnd, wordOf, wordsOf, numbersOf, packedOf, allSmall, smallOf, packsOf, packInto, placeIn, slotIn, failedIn, phaseIn, joinedOf, numberIn, driverIn, phaseRightOf, codesRightOf, holdsOf, unpackedOf}
+use Rattle.pack_driver.specs.Promises.{Fits, PacksBack, UnpacksBack}
 use Rattle.pack_driver.proofs.Laws.{holds-length}
 
 -- ---- tests
@@ -77,18 +79,10 @@ place-below : (p : Place) → placeCodeOf p < 2
 place-below (Array a) = omega arith
 place-below (Ident i) = omega arith
 
-flag-below : (b : Bool) → flagOf b < 2
-flag-below false = omega arith
-flag-below true = omega arith
-
 place-back : (p : Place) → placeIn (placeCodeOf p) (fromOf p) ≡ p
 unfolding placeIn
 place-back (Array a) = refl
 place-back (Ident i) = refl
-
-flag-back : (b : Bool) → eqb (flagOf b) 1 ≡ b
-flag-back false = refl
-flag-back true = refl
 
 phase-back : (p : Phase) → phaseIn (phaseCodeOf p) (clocksOf p) ≡ p
 unfolding phaseIn slotIn failedIn
@@ -219,11 +213,6 @@ packs-back d out f h =
 
 -- ---- unpacked, and packed again
 
-below-at : (l : List ℕ) → AllBelow 256 l → (i : ℕ) → getD l i 0 < 256
-below-at [] h i = omega arith
-below-at (x ∷ l) h zero = h .0
-below-at (x ∷ l) h (suc i) = below-at l (h .1) i
-
 -- the list of the first k of them
 abbrev rowOf : (ℕ → ℕ) → ℕ → List ℕ
 rowOf f zero = []
@@ -244,11 +233,6 @@ place-code-in (suc (suc c)) x h = absurd (omega arith)
 from-in : (c x : ℕ) → fromOf (placeIn c x) ≡ x
 unfolding placeIn
 from-in c x = branch (λ (p : Place). fromOf p ≡ x) (eqb c 0) (λ e. refl) (λ e. refl)
-
-flag-in : (c : ℕ) → c < 2 → flagOf (eqb c 1) ≡ c
-flag-in zero h = refl
-flag-in (suc zero) h = refl
-flag-in (suc (suc c)) h = absurd (omega arith)
 
 slot-code-in : (n : ℕ) → n < 7 → slotCodeOf (slotIn n) ≡ n
 unfolding slotIn

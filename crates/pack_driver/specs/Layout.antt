@@ -8,6 +8,7 @@ use mathlib.Core.Bool.{Bool, true, false, cond}
 use mathlib.Core.List.{List, [], _∷_, _++_}
 use lib.ListN.{length, getD}
 use lib.Dec.{eqb, ltb}
+use Rattle.parts.specs.Bytes.{flagOf}
 use Rattle.driver.specs.declared.Place.{Place}
 use Rattle.driver.specs.declared.Place.the-variants.{Array, Ident}
 use Rattle.driver.specs.declared.Request.{Request}
@@ -23,10 +24,6 @@ use Rattle.driver.specs.Request.{fromOf}
 use Rattle.driver.specs.Step.{clocksOf}
 
 -- ---- the codes
-
-abbrev pub flagOf : Bool → ℕ
-flagOf false = 0
-flagOf true = 1
 
 abbrev pub placeCodeOf : Place → ℕ
 placeCodeOf (Array a) = 0

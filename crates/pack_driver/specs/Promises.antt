@@ -4,17 +4,14 @@
 use Prim.Native.Nat.{ℕ, _<_}
 use mathlib.Core.Path.{_≡_}
 use mathlib.Core.Bool.{true, false}
-use mathlib.Core.List.{List, [], _∷_}
+use mathlib.Core.List.{List}
 use lib.ListN.{length}
 use Rattle.parts.specs.declared.Refusal.the-variants.{BadState}
+use Rattle.parts.specs.Bytes.{AllBelow}
 use Rattle.driver.specs.declared.Driver.{Driver}
 use Rattle.driver.specs.declared.Answer.the-variants.{Refused}
 use Rattle.driver.specs.Step.{clocksOf, rangeOf, nextOf, bufferOf}
 use Rattle.pack_driver.specs.Layout.{packedLength, wordEnd, smallOf, packsOf, holdsOf}
-
-abbrev pub AllBelow : ℕ → List ℕ → Type 0
-AllBelow n [] = Unit {0}
-AllBelow n (x ∷ xs) = (x < n) × AllBelow n xs
 
 -- a state whose bytes fit their types
 pub record Fits (d : Driver) : Type 0 where

@@ -3,10 +3,10 @@ ghost use mathlib.Core.Path.{_≡_};
 ghost use Prim.Native.Nat.{_+_, _/_, _%_, _<_, _≤_};
 ghost use lib.ListN.{length};
 ghost use lib.Seq.{sets};
+ghost use Rattle.parts.specs.Bytes.{flagOf};
 ghost use Rattle.driver.specs.Request.{fromOf};
 ghost use Rattle.driver.specs.Step.{clocksOf};
 ghost use Rattle.pack_driver.specs.Layout.{
-  flagOf,
   placeCodeOf,
   slotCodeOf,
   failedCodeOf,
