@@ -15,6 +15,8 @@ use Rattle.parts.specs.declared.Facts.{Facts}
 use Rattle.parts.specs.declared.Event.{Event}
 use Rattle.parts.specs.declared.Event.the-variants.{Clock, Start, Stop}
 use Rattle.parts.specs.Events.{eventOf, eventRightOf}
+use Rattle.parts.specs.Bytes.{flagOf}
+use Rattle.parts.proofs.Bytes.{flag-in}
 use Rattle.line.specs.declared.Target.{Target}
 use Rattle.line.specs.declared.Recv.{Recv}
 use Rattle.line.specs.declared.Cycle.{Cycle}
@@ -23,7 +25,7 @@ use Rattle.line.specs.declared.Phase.the-variants.{Idle, Receive, Send, Busy}
 use Rattle.line.specs.declared.Act.the-variants.{Keep}
 use Rattle.line.specs.declared.Core.{Core}
 use Rattle.line.specs.declared.Line.{Line}
-use Rattle.line.specs.Rules.{bitNumber, sentOf, clockedOf, clockActOf, clockLevelOf, startedOf, startActOf, stoppedOf, stopActOf, stopBegunOf, nextOf, actOf, levelOf, begunOf}
+use Rattle.line.specs.Rules.{sentOf, clockedOf, clockActOf, clockLevelOf, startedOf, startActOf, stoppedOf, stopActOf, stopBegunOf, nextOf, actOf, levelOf, begunOf}
 use Rattle.line.proofs.Laws.{received-bit}
 use Rattle.state.specs.declared.Chip.{Chip}
 use Rattle.chip.specs.declared.Scan.the-variants.{Clean}
@@ -84,14 +86,9 @@ clock-code zero h = refl
 clock-code (suc zero) h = refl
 clock-code (suc (suc e)) h = absurd (omega arith)
 
-clock-bit : (e : ℕ) → e < 2 → bitNumber (eqb e 1) ≡ e
-clock-bit zero h = refl
-clock-bit (suc zero) h = refl
-clock-bit (suc (suc e)) h = absurd (omega arith)
-
 -- ---- a bit that comes in
 
-bit-in : (f : Facts) (m : Mem) (c : Core) (r : Recv) (n x : ℕ) (v : Bool) → 0 < n → Passes f m (taking c r n x) (Clock v) (taking c r (n - 1) (x % 128 * 2 + bitNumber v)) 1
+bit-in : (f : Facts) (m : Mem) (c : Core) (r : Recv) (n x : ℕ) (v : Bool) → 0 < n → Passes f m (taking c r n x) (Clock v) (taking c r (n - 1) (x % 128 * 2 + flagOf v)) 1
 unfolding nextOf actOf levelOf begunOf clockedOf clockActOf clockLevelOf
 bit-in f m c r n x v h =
     record {
@@ -103,12 +100,12 @@ bit-in f m c r n x v h =
     }
 
 pub passes-in : (f : Facts) (m : Mem) (c : Core) (r : Recv) (n x e : ℕ) → 0 < n → e < 2 → Passes f m (taking c r n x) (eventOf e) (taking c r (n - 1) (x % 128 * 2 + e)) 1
-passes-in f m c r n x e h k = rw (clock-code e k) (rw (clock-bit e k) at (bit-in f m c r n x (eqb e 1) h))
+passes-in f m c r n x e h k = rw (clock-code e k) (rw (flag-in e k) at (bit-in f m c r n x (eqb e 1) h))
 
 -- ---- a bit that goes out
 
 -- only the ninth clock reads the master's level, and a read that goes on stays a read
-sent-on : (f : Facts) (l : Line) (v : Bool) (t : Target) (n : ℕ) → bitNumber v ≤ n
+sent-on : (f : Facts) (l : Line) (v : Bool) (t : Target) (n : ℕ) → flagOf v ≤ n
     → sentOf f l v t n ≡ sending (sentOf f l false t n .core) t (sentOf f l false t n .left) (sentOf f l false t n .shift)
 unfolding sentOf
 sent-on f l false t zero h = refl
@@ -117,14 +114,14 @@ sent-on f l true t zero h = absurd (omega arith)
 sent-on f l true t (suc k) h = refl
 
 module _ (f : Facts) (m : Mem) (c : Core) (t : Target) (n x : ℕ) (s : Sent) (q : s ≡ sentOn f c t n x (shownOf f (c .counter) m t)) where
-  bit-out : (v : Bool) → bitNumber v ≤ n → Passes f m (sending c t n x) (Clock v) (sending (s .core) t (s .left) (s .shift)) (s .level)
+  bit-out : (v : Bool) → flagOf v ≤ n → Passes f m (sending c t n x) (Clock v) (sending (s .core) t (s .left) (s .shift)) (s .level)
   unfolding nextOf actOf levelOf begunOf clockedOf clockActOf clockLevelOf seenOf sentOn
   bit-out v h =
       rw q
       (record { next = λ en. sent-on f (sending c t n x) v t n h; act = λ en. refl; level = λ en. refl; begun = refl; stays = refl })
 
   pub passes-out : (e : ℕ) → e < 2 → e ≤ n → Passes f m (sending c t n x) (eventOf e) (sending (s .core) t (s .left) (s .shift)) (s .level)
-  passes-out e k h = rw (clock-code e k) (bit-out (eqb e 1) (rw (clock-bit e k) h))
+  passes-out e k h = rw (clock-code e k) (bit-out (eqb e 1) (rw (flag-in e k) h))
 
 -- ---- such an event in a run
 

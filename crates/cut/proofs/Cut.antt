@@ -12,6 +12,7 @@ use Rattle.parts.specs.declared.Facts.{Facts}
 use Rattle.parts.specs.declared.Event.{Event}
 use Rattle.parts.specs.Table.{addressBytesOf}
 use Rattle.parts.specs.Events.{eventOf}
+use Rattle.parts.specs.Bytes.{flagOf}
 use Rattle.line.specs.declared.Target.{Target}
 use Rattle.line.specs.declared.Target.the-variants.{Array, Ident}
 use Rattle.line.specs.declared.Recv.{Recv}
@@ -24,7 +25,7 @@ use Rattle.line.specs.declared.Act.{Act}
 use Rattle.line.specs.declared.Act.the-variants.{Keep, Drop, Put}
 use Rattle.line.specs.declared.After.{After}
 use Rattle.line.specs.declared.Heard.the-variants.{Hit}
-use Rattle.line.specs.Rules.{isHigh, at, goes, marking, bitNumber, rollOf, counting, decodeOf, firstOf, selectedOf, loadArrayOf, loadIdOf, loadedOf, refusesOf, latchedOf, filledOf, takenOf, landed, receivedOf, receiveActOf, clockedOf, clockActOf, opened, startedOf, startActOf, asksOf, placedOf, dueOf, begunBy, stopBegunOf, nextOf, actOf, begunOf}
+use Rattle.line.specs.Rules.{isHigh, at, goes, marking, rollOf, counting, decodeOf, firstOf, selectedOf, loadArrayOf, loadIdOf, loadedOf, refusesOf, latchedOf, filledOf, takenOf, landed, receivedOf, receiveActOf, clockedOf, clockActOf, opened, startedOf, startActOf, asksOf, placedOf, dueOf, begunBy, stopBegunOf, nextOf, actOf, begunOf}
 use Rattle.state.specs.declared.Chip.{Chip}
 use Rattle.chip.specs.Memory.{mem, chip, latchOf, noLatch, stateOf}
 use Rattle.chip.specs.Runs.{afterOf, cyclesOf}
@@ -73,7 +74,7 @@ stop-inside f en c r k (suc i) p x [] h a b = absurd h
 stop-inside f en c r k (suc i) zero x (y ∷ ys) h a b = absurd (omega arith)
 stop-inside f en c r k (suc i) (suc p) x (y ∷ ys) h a b =
     let d = chip (taking c r (suc p) x) k in
-    let x′ = x % 128 * 2 + bitNumber (eqb y 1) in
+    let x′ = x % 128 * 2 + flagOf (eqb y 1) in
     subst (λ (e : Event). begunOf (d .line) e + cyclesOf f en (stateOf f en d e) (ys ++ (3 ∷ [])) ≡ 0) (sym (code-clock y (h .0)))
     (zero-plus (cyclesOf f en (chip (taking c r p x′) k) (ys ++ (3 ∷ []))) ∙ stop-inside f en c r k i p x′ ys (h .1) (omega arith) (omega arith))
 

@@ -1,16 +1,16 @@
 -- What the chip does with one event, by its phase: one law for each that the driver meets. `Q` is whatever is to hold of the
 -- line, the latches, the memory, the level and the cycles begun after the event.
 -- Assumes nothing.
-use Prim.Native.Nat.{ℕ, zero, suc, _+_, _*_, _%_, _<_}
+use Prim.Native.Nat.{ℕ, suc, _+_, _*_, _%_, _<_}
 use mathlib.Core.Path.{_≡_, refl, sym, _∙_, ap, subst}
 use mathlib.Core.Bool.{Bool, true, false, cond, not, _&&_}
 use mathlib.Core.List.{List}
 use lib.Dec.{eqb}
-use native.Mathlib.Omega.{arith}
 use Rattle.parts.specs.declared.Facts.{Facts}
 use Rattle.parts.specs.declared.Event.{Event}
 use Rattle.parts.specs.declared.Event.the-variants.{Ends}
 use Rattle.parts.specs.Events.{eventOf}
+use Rattle.parts.proofs.Bytes.{flag-in}
 use Rattle.line.specs.declared.Target.{Target}
 use Rattle.line.specs.declared.Recv.{Recv}
 use Rattle.line.specs.declared.Cycle.{Cycle}
@@ -19,15 +19,10 @@ use Rattle.line.specs.declared.Asked.the-variants.{NoCycle, For}
 use Rattle.line.specs.declared.Phase.{Phase}
 use Rattle.line.specs.declared.Phase.the-variants.{Idle, Receive, Send, Busy}
 use Rattle.line.specs.declared.Line.{Line}
-use Rattle.line.specs.Rules.{at, bitNumber, opened, takenOf, landed, receivedOf, receiveActOf, receiveLevelOf, releasedIn, movedOf, sentOf, sendLevelOf, clockedOf, clockActOf, clockLevelOf, startedOf, startActOf, asksOf, placedOf, dueOf, stoppedBy, stopActBy, begunBy, stoppedOf, stopActOf, stopBegunOf, endedByOf, endedOf, endActOf, nextOf, actOf, levelOf, begunOf}
+use Rattle.line.specs.Rules.{at, opened, takenOf, landed, receivedOf, receiveActOf, receiveLevelOf, releasedIn, movedOf, sentOf, sendLevelOf, clockedOf, clockActOf, clockLevelOf, startedOf, startActOf, asksOf, placedOf, dueOf, stoppedBy, stopActBy, begunBy, stoppedOf, stopActOf, stopBegunOf, endedByOf, endedOf, endActOf, nextOf, actOf, levelOf, begunOf}
 use Rattle.state.specs.declared.Chip.{Chip}
 use Rattle.chip.specs.Memory.{Mem, noLatch, latchOf, cycleStoredOf, storedOf, storeOf, shownOf, seenOf, stateOf, answerOf}
 use Rattle.laws.proofs.Bytes.{code-clock}
-
-bit-value : (x : ℕ) → x < 2 → bitNumber (eqb x 1) ≡ x
-bit-value zero h = refl
-bit-value (suc zero) h = refl
-bit-value (suc (suc x)) h = absurd (omega arith)
 
 -- no cycle runs
 abbrev pub Free : Phase → Type 0
@@ -62,7 +57,7 @@ module _ (f : Facts) (en : ℕ) (c : Chip) (m : Mem) (Q : Line → List ℕ → 
   bit-heard x n rc h e z q =
       clock-heard x (Receive rc) h e
       (subst (λ (k : ℕ). Q (receivedOf f en (c .line) (eqb x 1) rc k) (latchOf (c .latch) (receiveActOf f en (c .line) rc k)) m (receiveLevelOf f en (c .line) rc k) 0) (sym z)
-      (subst (λ (y : ℕ). Q (record { core = c .line .core; phase = Receive rc; left = n; shift = c .line .shift % 128 * 2 + y }) (c .latch) m 1 0) (sym (bit-value x h)) q))
+      (subst (λ (y : ℕ). Q (record { core = c .line .core; phase = Receive rc; left = n; shift = c .line .shift % 128 * 2 + y }) (c .latch) m 1 0) (sym (flag-in x h)) q))
 
   -- its ninth clock
   pub ninth-heard : (x : ℕ) (rc : Recv) → x < 2 → c .line .phase ≡ Receive rc → c .line .left ≡ 0

@@ -14,6 +14,8 @@ use Rattle.parts.specs.declared.Facts.{Facts}
 use Rattle.parts.specs.declared.Event.{Event}
 use Rattle.parts.specs.declared.Event.the-variants.{Clock}
 use Rattle.parts.specs.Events.{eventOf}
+use Rattle.parts.specs.Bytes.{flagOf}
+use Rattle.parts.proofs.Bytes.{flag-below, flag-in}
 use Rattle.line.specs.declared.Target.{Target}
 use Rattle.line.specs.declared.Target.the-variants.{Array, Ident}
 use Rattle.line.specs.declared.Recv.{Recv}
@@ -23,7 +25,7 @@ use Rattle.line.specs.declared.Core.{Core}
 use Rattle.line.specs.declared.Line.{Line}
 use Rattle.line.specs.declared.Act.{Act}
 use Rattle.line.specs.declared.Act.the-variants.{Keep}
-use Rattle.line.specs.Rules.{at, bitNumber, takenOf, landed, releasedIn, receivedOf, receiveActOf, receiveLevelOf, movedOf, sentOf, sendLevelOf, clockedOf, clockActOf, clockLevelOf, nextOf, actOf, levelOf, begunOf}
+use Rattle.line.specs.Rules.{at, takenOf, landed, releasedIn, receivedOf, receiveActOf, receiveLevelOf, movedOf, sentOf, sendLevelOf, clockedOf, clockActOf, clockLevelOf, nextOf, actOf, levelOf, begunOf}
 use Rattle.state.specs.declared.Chip.{Chip}
 use Rattle.chip.specs.Memory.{Mem, chip, latchOf, shownOf, seenOf, stateOf, storeOf, answerOf}
 use Rattle.chip.specs.Runs.{afterOf, memoryOf, levelsOf, cyclesOf}
@@ -81,19 +83,10 @@ code-clock zero h = refl
 code-clock (suc zero) h = refl
 code-clock (suc (suc x)) h = absurd (omega arith)
 
-pub code-of : (v : Bool) → eventOf (bitNumber v) ≡ Clock v
+pub code-of : (v : Bool) → eventOf (flagOf v) ≡ Clock v
 unfolding eventOf
 code-of true = refl
 code-of false = refl
-
-code-small : (v : Bool) → bitNumber v < 2
-code-small true = omega arith
-code-small false = omega arith
-
-bit-value : (x : ℕ) → x < 2 → bitNumber (eqb x 1) ≡ x
-bit-value zero h = refl
-bit-value (suc zero) h = refl
-bit-value (suc (suc x)) h = absurd (omega arith)
 
 pub bits-clocks : (k b : ℕ) → Clocks k (bitsFrom k b)
 bits-clocks zero b = tt
@@ -103,8 +96,8 @@ pub bytes-are-clocks : BytesAreClocks
 unfolding bitsOf byteOf
 bytes-are-clocks b v = (bits-clocks 8 b, clocks-more 8 (bitsFrom 8 b) (bits-clocks 8 b))
   where
-    clocks-more : (k : ℕ) (xs : List ℕ) → Clocks k xs → Clocks (suc k) (xs ++ (bitNumber v ∷ []))
-    clocks-more zero [] h = (code-small v, tt)
+    clocks-more : (k : ℕ) (xs : List ℕ) → Clocks k xs → Clocks (suc k) (xs ++ (flagOf v ∷ []))
+    clocks-more zero [] h = (flag-below v, tt)
     clocks-more zero (x ∷ xs) h = absurd h
     clocks-more (suc k) [] h = absurd h
     clocks-more (suc k) (x ∷ xs) h = (h .0, clocks-more k xs (h .1))
@@ -120,7 +113,7 @@ next-bit : (f : Facts) (en : ℕ) (c : Core) (r : Recv) (k x y : ℕ) → y < 2 
 unfolding nextOf clockedOf receivedOf
 next-bit f en c r k x y h small =
     ap (nextOf f en (taking c r (suc k) x)) (code-clock y h)
-    ∙ ap (taking c r k) (omega (arith, mod-eq-of-lt small, bit-value y h))
+    ∙ ap (taking c r k) (omega (arith, mod-eq-of-lt small, flag-in y h))
 
 act-bit : (f : Facts) (en : ℕ) (c : Core) (r : Recv) (k x y : ℕ) → y < 2 → actOf f en (taking c r (suc k) x) (eventOf y) ≡ Keep
 unfolding actOf clockActOf receiveActOf
@@ -158,11 +151,11 @@ eight-in f en c r b h =
     (w .0 ∙ ap (taking c r 0) (omega arith), w .1)
 
 -- the ninth clock
-ninth-in : (f : Facts) (en : ℕ) (c : Core) (r : Recv) (b : ℕ) (v : Bool) → nextOf f en (taking c r 0 b) (eventOf (bitNumber v)) ≡ landed (takenOf f en c r b)
+ninth-in : (f : Facts) (en : ℕ) (c : Core) (r : Recv) (b : ℕ) (v : Bool) → nextOf f en (taking c r 0 b) (eventOf (flagOf v)) ≡ landed (takenOf f en c r b)
 unfolding nextOf clockedOf receivedOf
 ninth-in f en c r b v = ap (nextOf f en (taking c r 0 b)) (code-of v)
 
-ninth-act : (f : Facts) (en : ℕ) (c : Core) (r : Recv) (b : ℕ) (v : Bool) → actOf f en (taking c r 0 b) (eventOf (bitNumber v)) ≡ takenOf f en c r b .act
+ninth-act : (f : Facts) (en : ℕ) (c : Core) (r : Recv) (b : ℕ) (v : Bool) → actOf f en (taking c r 0 b) (eventOf (flagOf v)) ≡ takenOf f en c r b .act
 unfolding actOf clockActOf receiveActOf
 ninth-act f en c r b v = ap (actOf f en (taking c r 0 b)) (code-of v)
 
@@ -170,12 +163,12 @@ pub line-in : LineIn
 unfolding byteOf lineOf actsOf
 line-in f en c r b v h =
     let w = eight-in f en c r b h in (
-      line-append f en (at c (Receive r)) (bitsOf b) (bitNumber v ∷ [])
-          ∙ ap (λ (l : Line). nextOf f en l (eventOf (bitNumber v))) (w .0)
+      line-append f en (at c (Receive r)) (bitsOf b) (flagOf v ∷ [])
+          ∙ ap (λ (l : Line). nextOf f en l (eventOf (flagOf v))) (w .0)
           ∙ ninth-in f en c r b v,
-      acts-append f en (at c (Receive r)) (bitsOf b) (bitNumber v ∷ [])
-          ∙ ap (λ (a : List Act). a ++ (actOf f en (lineOf f en (at c (Receive r)) (bitsOf b)) (eventOf (bitNumber v)) ∷ [])) (w .1)
-          ∙ ap (λ (l : Line). replicate 8 Keep ++ (actOf f en l (eventOf (bitNumber v)) ∷ [])) (w .0)
+      acts-append f en (at c (Receive r)) (bitsOf b) (flagOf v ∷ [])
+          ∙ ap (λ (a : List Act). a ++ (actOf f en (lineOf f en (at c (Receive r)) (bitsOf b)) (eventOf (flagOf v)) ∷ [])) (w .1)
+          ∙ ap (λ (l : Line). replicate 8 Keep ++ (actOf f en l (eventOf (flagOf v)) ∷ [])) (w .0)
           ∙ ap (λ (a : Act). replicate 8 Keep ++ (a ∷ [])) (ninth-act f en c r b v),
     )
 
@@ -210,7 +203,7 @@ levels-in f en c r k m (suc n) x [] h = absurd h
 levels-in f en c r k m (suc n) x (y ∷ ys) h =
     let d = chip (taking c r (suc n) x) k in
     subst (λ (e : Event). answerOf f en d m e ∷ levelsOf f en (stateOf f en d e) (storeOf f d m e) ys ≡ 1 ∷ replicate n 1) (sym (code-clock y (h .0)))
-    (ap (λ (l : List ℕ). 1 ∷ l) (levels-in f en c r k m n (x % 128 * 2 + bitNumber (eqb y 1)) ys (h .1)))
+    (ap (λ (l : List ℕ). 1 ∷ l) (levels-in f en c r k m n (x % 128 * 2 + flagOf (eqb y 1)) ys (h .1)))
 
 pub eight-after : (f : Facts) (en : ℕ) (c : Core) (r : Recv) (k : List ℕ) (b : ℕ) → b < 256
     → afterOf f en (chip (at c (Receive r)) k) (bitsOf b) ≡ chip (taking c r 0 b) k
@@ -221,7 +214,7 @@ eight-after f en c r k b h =
     ∙ ap (λ (a : List Act). chip (taking c r 0 b) (latchesOf k a)) (w .1)
 
 ninth-level : (f : Facts) (en : ℕ) (c : Core) (r : Recv) (k : List ℕ) (m : Mem) (b : ℕ) (v : Bool)
-    → answerOf f en (chip (taking c r 0 b) k) m (eventOf (bitNumber v)) ≡ releasedIn (takenOf f en c r b .phase)
+    → answerOf f en (chip (taking c r 0 b) k) m (eventOf (flagOf v)) ≡ releasedIn (takenOf f en c r b .phase)
 unfolding answerOf levelOf clockLevelOf receiveLevelOf
 ninth-level f en c r k m b v = ap (answerOf f en (chip (taking c r 0 b) k) m) (code-of v)
 
@@ -234,9 +227,9 @@ byte-in f en c r k m b v h =
       after-is-line f en l k (byteOf b v)
           ∙ ap (λ (l′ : Line). chip l′ (latchesOf k (actsOf f en l (byteOf b v)))) (w .0)
           ∙ ap (λ (a : List Act). chip (landed (takenOf f en c r b)) (latchesOf k a)) (w .1),
-      levels-append f en (chip l k) m (bitsOf b) (bitNumber v ∷ [])
-          ∙ ap (λ (z : List ℕ). z ++ (answerOf f en (afterOf f en (chip l k) (bitsOf b)) m′ (eventOf (bitNumber v)) ∷ [])) (levels-in f en c r k m 8 0 (bitsOf b) (bytes-are-clocks b v .0))
-          ∙ ap (λ (d : Chip). replicate 8 1 ++ (answerOf f en d m′ (eventOf (bitNumber v)) ∷ [])) (eight-after f en c r k b h)
+      levels-append f en (chip l k) m (bitsOf b) (flagOf v ∷ [])
+          ∙ ap (λ (z : List ℕ). z ++ (answerOf f en (afterOf f en (chip l k) (bitsOf b)) m′ (eventOf (flagOf v)) ∷ [])) (levels-in f en c r k m 8 0 (bitsOf b) (bytes-are-clocks b v .0))
+          ∙ ap (λ (d : Chip). replicate 8 1 ++ (answerOf f en d m′ (eventOf (flagOf v)) ∷ [])) (eight-after f en c r k b h)
           ∙ ap (λ (n : ℕ). replicate 8 1 ++ (n ∷ [])) (ninth-level f en c r k m′ b v),
     )
 
@@ -275,7 +268,7 @@ bits-out f en c t (suc k) (x ∷ xs) h =
           ∙ ap (λ (a : List Act). Keep ∷ a) (i .1),
     )
 
-ninth-out : (f : Facts) (en : ℕ) (c : Core) (t : Target) (v : Bool) → nextOf f en (sending c t 0) (eventOf (bitNumber v)) ≡ at c (cond v Idle (Send t))
+ninth-out : (f : Facts) (en : ℕ) (c : Core) (t : Target) (v : Bool) → nextOf f en (sending c t 0) (eventOf (flagOf v)) ≡ at c (cond v Idle (Send t))
 unfolding nextOf clockedOf sentOf
 ninth-out f en c t v = ap (nextOf f en (sending c t 0)) (code-of v)
 
@@ -284,13 +277,13 @@ unfolding lineOf actsOf
 line-out f en c t xs v h =
     let w = bits-out f en c t 7 xs h in
     let l = at c (Send t) in (
-      line-append f en l xs (bitNumber v ∷ [])
-          ∙ ap (λ (l′ : Line). nextOf f en l′ (eventOf (bitNumber v))) (w .0)
+      line-append f en l xs (flagOf v ∷ [])
+          ∙ ap (λ (l′ : Line). nextOf f en l′ (eventOf (flagOf v))) (w .0)
           ∙ ninth-out f en (movedOf f c t 0) t v,
-      acts-append f en l xs (bitNumber v ∷ [])
-          ∙ ap (λ (a : List Act). a ++ (actOf f en (lineOf f en l xs) (eventOf (bitNumber v)) ∷ [])) (w .1)
-          ∙ ap (λ (l′ : Line). replicate 8 Keep ++ (actOf f en l′ (eventOf (bitNumber v)) ∷ [])) (w .0)
-          ∙ ap (λ (a : Act). replicate 8 Keep ++ (a ∷ [])) (act-sent f en (movedOf f c t 0) t 0 (bitNumber v) (code-small v)),
+      acts-append f en l xs (flagOf v ∷ [])
+          ∙ ap (λ (a : List Act). a ++ (actOf f en (lineOf f en l xs) (eventOf (flagOf v)) ∷ [])) (w .1)
+          ∙ ap (λ (l′ : Line). replicate 8 Keep ++ (actOf f en l′ (eventOf (flagOf v)) ∷ [])) (w .0)
+          ∙ ap (λ (a : Act). replicate 8 Keep ++ (a ∷ [])) (act-sent f en (movedOf f c t 0) t 0 (flagOf v) (flag-below v)),
     )
 
 -- the level of a bit is the byte's
@@ -328,7 +321,7 @@ eight-out f en c t k xs h =
     ∙ ap (λ (l : Line). chip l (latchesOf k (actsOf f en (at c (Send t)) xs))) (w .0)
     ∙ ap (λ (a : List Act). chip (sending (movedOf f c t 0) t 0) (latchesOf k a)) (w .1)
 
-ninth-released : (f : Facts) (en : ℕ) (c : Core) (t : Target) (k : List ℕ) (m : Mem) (v : Bool) → answerOf f en (chip (sending c t 0) k) m (eventOf (bitNumber v)) ≡ 1
+ninth-released : (f : Facts) (en : ℕ) (c : Core) (t : Target) (k : List ℕ) (m : Mem) (v : Bool) → answerOf f en (chip (sending c t 0) k) m (eventOf (flagOf v)) ≡ 1
 unfolding answerOf seenOf levelOf clockLevelOf sendLevelOf
 ninth-released f en c t k m v = ap (answerOf f en (chip (sending c t 0) k) m) (code-of v)
 
@@ -337,15 +330,15 @@ unfolding bitsOf levelsOf
 byte-out f en c t k m xs v h =
     let w = line-out f en c t xs v h in
     let l = at c (Send t) in
-    let e = bitNumber v ∷ [] in
+    let e = flagOf v ∷ [] in
     let m′ = memoryOf f en (chip l k) m xs in
     let b = bitsOf (shownOf f (c .counter) m t) in (
       after-is-line f en l k (xs ++ e)
           ∙ ap (λ (l′ : Line). chip l′ (latchesOf k (actsOf f en l (xs ++ e)))) (w .0)
           ∙ ap (λ (a : List Act). chip (at (movedOf f c t 0) (cond v Idle (Send t))) (latchesOf k a)) (w .1),
       levels-append f en (chip l k) m xs e
-          ∙ ap (λ (z : List ℕ). z ++ (answerOf f en (afterOf f en (chip l k) xs) m′ (eventOf (bitNumber v)) ∷ [])) (levels-out f en c t k m 7 xs h)
-          ∙ ap (λ (d : Chip). b ++ (answerOf f en d m′ (eventOf (bitNumber v)) ∷ [])) (eight-out f en c t k xs h)
+          ∙ ap (λ (z : List ℕ). z ++ (answerOf f en (afterOf f en (chip l k) xs) m′ (eventOf (flagOf v)) ∷ [])) (levels-out f en c t k m 7 xs h)
+          ∙ ap (λ (d : Chip). b ++ (answerOf f en d m′ (eventOf (flagOf v)) ∷ [])) (eight-out f en c t k xs h)
           ∙ ap (λ (n : ℕ). b ++ (n ∷ [])) (ninth-released f en (movedOf f c t 0) t k m′ v),
     )
 

@@ -17,6 +17,7 @@ use Rattle.parts.specs.Table.{factsOf}
 use Rattle.parts.specs.Sound.{Sound}
 use Rattle.parts.specs.Events.{eventOf, eventRightOf}
 use Rattle.parts.proofs.Laws.{branch, sound}
+use Rattle.parts.proofs.Bytes.{flag-below}
 use Rattle.line.specs.declared.Pin.{Pin}
 use Rattle.line.specs.declared.Pin.the-variants.{Absent, Low, High, Floating}
 use Rattle.line.specs.declared.Target.{Target}
@@ -34,7 +35,7 @@ use Rattle.line.specs.declared.Heard.{Heard}
 use Rattle.line.specs.declared.Heard.the-variants.{Miss, Hit}
 use Rattle.line.specs.declared.Asked.{Asked}
 use Rattle.line.specs.declared.Asked.the-variants.{NoCycle, For}
-use Rattle.line.specs.Rules.{isHigh, at, counting, marking, bitOn, bitNumber, rollOf, onwardOf, enabledOf, namedOf, decodeOf, firstOf, selectedOf, loadArrayOf, loadIdOf, loadedOf, refusesOf, latchedOf, filledOf, lockedByOf, takenOf, landed, receivedOf, receiveActOf, movedOf, sentOf, clockedOf, clockActOf, opened, startedOf, startActOf, asksOf, placedOf, dueOf, stoppedBy, stopActBy, stoppedOf, stopActOf, lockedNow, endedByOf, endedOf, endActOf, pinnedOf, resetOf, nextOf, actOf}
+use Rattle.line.specs.Rules.{isHigh, at, counting, marking, bitOn, rollOf, onwardOf, enabledOf, namedOf, decodeOf, firstOf, selectedOf, loadArrayOf, loadIdOf, loadedOf, refusesOf, latchedOf, filledOf, lockedByOf, takenOf, landed, receivedOf, receiveActOf, movedOf, sentOf, clockedOf, clockActOf, opened, startedOf, startActOf, asksOf, placedOf, dueOf, stoppedBy, stopActBy, stoppedOf, stopActOf, lockedNow, endedByOf, endedOf, endActOf, pinnedOf, resetOf, nextOf, actOf}
 use Rattle.line.proofs.Laws.{page-room}
 use Rattle.state.specs.declared.Chip.{Chip}
 use Rattle.state.specs.Range.{emptyOf, marksRightOf, pinRightOf, markRightOf, targetRightOf, lockRightOf, locationRightOf, lastRightOf, ackedRightOf, openRightOf, fillRightOf, unlockedRightOf, recvRightOf, writingRightOf, cycleRightOf, phaseRightOf, restRightOf, inRangeOf}
@@ -551,15 +552,11 @@ module _ (f : Facts) where
 
 -- ---- a byte stays a byte, and the latches are 64
 
-bit-small : (v : Bool) → bitNumber v < 2
-bit-small true = omega arith
-bit-small false = omega arith
-
 module _ (f : Facts) (en : ℕ) (l : Line) (byte : l .shift < 256) where
   received-byte : (v : Bool) (r : Recv) (n : ℕ) → receivedOf f en l v r n .shift < 256
   unfolding receivedOf
   received-byte v r zero = omega arith
-  received-byte v r (suc n) = omega (arith, bit-small v)
+  received-byte v r (suc n) = omega (arith, flag-below v)
 
   sent-byte : (v : Bool) (t : Target) (n : ℕ) → sentOf f l v t n .shift < 256
   unfolding sentOf

@@ -8,6 +8,7 @@ use mathlib.Core.List.{List, [], _∷_, _++_}
 use lib.ListN.{replicate}
 use Rattle.parts.specs.declared.Facts.{Facts}
 use Rattle.parts.specs.Events.{eventOf}
+use Rattle.parts.specs.Bytes.{flagOf}
 use Rattle.line.specs.declared.Target.{Target}
 use Rattle.line.specs.declared.Recv.{Recv}
 use Rattle.line.specs.declared.Phase.{Phase}
@@ -16,7 +17,7 @@ use Rattle.line.specs.declared.Core.{Core}
 use Rattle.line.specs.declared.Line.{Line}
 use Rattle.line.specs.declared.Act.{Act}
 use Rattle.line.specs.declared.Act.the-variants.{Keep}
-use Rattle.line.specs.Rules.{at, bitNumber, takenOf, landed, releasedIn, movedOf, nextOf, actOf}
+use Rattle.line.specs.Rules.{at, takenOf, landed, releasedIn, movedOf, nextOf, actOf}
 use Rattle.state.specs.declared.Chip.{Chip}
 use Rattle.chip.specs.Memory.{Mem, chip, latchOf, shownOf}
 use Rattle.chip.specs.Runs.{afterOf, memoryOf, levelsOf, cyclesOf}
@@ -33,7 +34,7 @@ bitsOf b = bitsFrom 8 b
 
 -- the eight bits, and then the master's level on the ninth clock
 unfoldable pub byteOf : ℕ → Bool → List ℕ
-byteOf b v = bitsOf b ++ (bitNumber v ∷ [])
+byteOf b v = bitsOf b ++ (flagOf v ∷ [])
 
 -- k clocks, of any levels
 abbrev pub Clocks : ℕ → List ℕ → Type 0
@@ -78,14 +79,14 @@ ByteIn = (f : Facts) (enable : ℕ) (c : Core) (r : Recv) (k : List ℕ) (m : Me
 -- a byte sent, on the line, whatever the master's eight levels: the counter has moved, and its ninth level goes on or ends
 abbrev pub LineOut : Type 0
 LineOut = (f : Facts) (enable : ℕ) (c : Core) (t : Target) (xs : List ℕ) (v : Bool) → Clocks 8 xs
-    → (lineOf f enable (at c (Send t)) (xs ++ (bitNumber v ∷ [])) ≡ at (movedOf f c t 0) (cond v Idle (Send t)))
-    × (actsOf f enable (at c (Send t)) (xs ++ (bitNumber v ∷ [])) ≡ replicate 9 Keep)
+    → (lineOf f enable (at c (Send t)) (xs ++ (flagOf v ∷ [])) ≡ at (movedOf f c t 0) (cond v Idle (Send t)))
+    × (actsOf f enable (at c (Send t)) (xs ++ (flagOf v ∷ [])) ≡ replicate 9 Keep)
 
 -- a byte sent: the bits of the byte at the counter, highest first, and a release
 abbrev pub ByteOut : Type 0
 ByteOut = (f : Facts) (enable : ℕ) (c : Core) (t : Target) (k : List ℕ) (m : Mem) (xs : List ℕ) (v : Bool) → Clocks 8 xs
-    → (afterOf f enable (chip (at c (Send t)) k) (xs ++ (bitNumber v ∷ [])) ≡ chip (at (movedOf f c t 0) (cond v Idle (Send t))) k)
-    × (levelsOf f enable (chip (at c (Send t)) k) m (xs ++ (bitNumber v ∷ [])) ≡ bitsOf (shownOf f (c .counter) m t) ++ (1 ∷ []))
+    → (afterOf f enable (chip (at c (Send t)) k) (xs ++ (flagOf v ∷ [])) ≡ chip (at (movedOf f c t 0) (cond v Idle (Send t))) k)
+    × (levelsOf f enable (chip (at c (Send t)) k) m (xs ++ (flagOf v ∷ [])) ≡ bitsOf (shownOf f (c .counter) m t) ++ (1 ∷ []))
 
 -- "released until the next Start", and "ignored and released" in a cycle (rules 1 and 7)
 abbrev pub Deaf : Phase → Type 0

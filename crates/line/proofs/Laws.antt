@@ -6,6 +6,7 @@ use native.Mathlib.Nat.{mod-lt, div-lt-iff-lt-mul, mul-le-mul-right, div-eq-of-l
 use native.Mathlib.Omega.{arith}
 use mathlib.Core.Bool.{Bool}
 use Rattle.parts.specs.declared.Facts.{Facts}
+use Rattle.parts.specs.Bytes.{flagOf}
 use Rattle.line.specs.declared.Core.{Core}
 use Rattle.line.specs.declared.Line.{Line}
 use Rattle.line.specs.declared.Recv.{Recv}
@@ -13,7 +14,7 @@ use Rattle.line.specs.declared.Target.{Target}
 use Rattle.line.specs.declared.Target.the-variants.{Array, Ident}
 use Rattle.line.specs.declared.Phase.the-variants.{Receive, Send}
 use Rattle.line.specs.declared.Act.the-variants.{Keep}
-use Rattle.line.specs.Rules.{receivedOf, receiveActOf, receiveLevelOf, sentOf, sendLevelOf, movedOf, bitNumber, beforeOf}
+use Rattle.line.specs.Rules.{receivedOf, receiveActOf, receiveLevelOf, sentOf, sendLevelOf, movedOf, beforeOf}
 
 -- a page of a number below a whole number of pages lies below it too
 pub page-room : (whole P c : ℕ) → 0 < P → whole ≡ whole / P * P → c < whole → c / P * P + P ≤ whole
@@ -26,7 +27,7 @@ one-less k = omega arith
 
 -- a bit is still to come
 pub received-bit : (f : Facts) (en : ℕ) (l : Line) (v : Bool) (r : Recv) (n : ℕ) → 0 < n
-    → (receivedOf f en l v r n ≡ record { core = l .core; phase = Receive r; left = n - 1; shift = l .shift % 128 * 2 + bitNumber v })
+    → (receivedOf f en l v r n ≡ record { core = l .core; phase = Receive r; left = n - 1; shift = l .shift % 128 * 2 + flagOf v })
     × (receiveActOf f en l r n ≡ Keep)
     × (receiveLevelOf f en l r n ≡ 1)
 unfolding receivedOf receiveActOf receiveLevelOf

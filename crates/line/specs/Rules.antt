@@ -8,6 +8,7 @@ use lib.Dec.{eqb}
 use Rattle.parts.specs.declared.Facts.{Facts}
 use Rattle.parts.specs.declared.Event.{Event}
 use Rattle.parts.specs.declared.Event.the-variants.{Clock, Start, Stop, Ends, PinLow, PinHigh, PinFloat, Reset, Unknown}
+use Rattle.parts.specs.Bytes.{flagOf}
 use Rattle.line.specs.declared.Pin.{Pin}
 use Rattle.line.specs.declared.Pin.the-variants.{Absent, Low, High, Floating}
 use Rattle.line.specs.declared.Target.{Target}
@@ -52,10 +53,6 @@ marking c v i = record { counter = c .counter; pin = v; inhibited = i; locked = 
 
 abbrev pub bitOn : ℕ → ℕ → Bool
 bitOn n weight = eqb (n / weight % 2) 1
-
-abbrev pub bitNumber : Bool → ℕ
-bitNumber false = 0
-bitNumber true = 1
 
 -- ---- the page rule (rule 3), once over P: the next place, the place before, and past the last modified address (rule 7)
 
@@ -144,7 +141,7 @@ landed a = at (a .core) (a .phase)
 -- eight bits, highest first, then the acknowledge: `left` bits are still to come before it
 unfoldable pub receivedOf : Facts → ℕ → Line → Bool → Recv → ℕ → Line
 receivedOf f enable l v r zero = landed (takenOf f enable (l .core) r (l .shift))
-receivedOf f enable l v r (suc k) = record { core = l .core; phase = Receive r; left = k; shift = l .shift % 128 * 2 + bitNumber v }
+receivedOf f enable l v r (suc k) = record { core = l .core; phase = Receive r; left = k; shift = l .shift % 128 * 2 + flagOf v }
 
 unfoldable pub receiveActOf : Facts → ℕ → Line → Recv → ℕ → Act
 receiveActOf f enable l r zero = takenOf f enable (l .core) r (l .shift) .act

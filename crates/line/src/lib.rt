@@ -2,7 +2,8 @@
 ghost use mathlib.Core.Path.{_≡_};
 ghost use Prim.Native.Nat.{_+_, _*_, _<_};
 ghost use Rattle.parts.specs.Table.{factsOf};
-ghost use Rattle.line.specs.Rules.{isHigh, at, givenUp, rollOf, beforeOf, onwardOf, enabledOf, namedOf, decodeOf, firstOf, selectedOf, loadArrayOf, loadIdOf, loadedOf, refusesOf, latchedOf, takenOf, filledOf, lockedByOf, endedByOf, markedIn, receivedOf, receiveActOf, receiveLevelOf, releasedIn, movedOf, sentOf, sendLevelOf, clockedOf, clockActOf, clockLevelOf, startedOf, startActOf, asksOf, placedOf, dueOf, stoppedOf, stopActOf, stopBegunOf, endedOf, endActOf, pinnedOf, resetOf, opened, marked, quietly, bitNumber, moveOf};
+ghost use Rattle.parts.specs.Bytes.{flagOf};
+ghost use Rattle.line.specs.Rules.{isHigh, at, givenUp, rollOf, beforeOf, onwardOf, enabledOf, namedOf, decodeOf, firstOf, selectedOf, loadArrayOf, loadIdOf, loadedOf, refusesOf, latchedOf, takenOf, filledOf, lockedByOf, endedByOf, markedIn, receivedOf, receiveActOf, receiveLevelOf, releasedIn, movedOf, sentOf, sendLevelOf, clockedOf, clockActOf, clockLevelOf, startedOf, startActOf, asksOf, placedOf, dueOf, stoppedOf, stopActOf, stopBegunOf, endedOf, endActOf, pinnedOf, resetOf, opened, marked, quietly, moveOf};
 use parts::ArrayAddress;
 use parts::Event;
 use parts::IdLocation;
@@ -386,7 +387,7 @@ fn released(phase: Phase) -> u8
 }
 
 fn bit_number(value: bool) -> u8
-    ensures { λ r. ⌜ r ≡ bitNumber value ⌝ }
+    ensures { λ r. ⌜ r ≡ flagOf value ⌝ }
     ensures range { λ r. ⌜ r < 2 ⌝ }
 {
     if value { 1 } else { 0 }

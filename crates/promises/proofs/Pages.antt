@@ -18,7 +18,9 @@ use Rattle.parts.specs.declared.Event.{Event}
 use Rattle.parts.specs.declared.Event.the-variants.{Clock, Start, Stop, Ends, PinLow, PinHigh, PinFloat, Reset, Unknown}
 use Rattle.parts.specs.Table.{factsOf, pagesOf}
 use Rattle.parts.specs.Events.{eventOf}
+use Rattle.parts.specs.Bytes.{flagOf}
 use Rattle.parts.proofs.Laws.{branch}
+use Rattle.parts.proofs.Bytes.{flag-below}
 use Rattle.line.specs.declared.Pin.{Pin}
 use Rattle.line.specs.declared.Pin.the-variants.{Low, High, Floating}
 use Rattle.line.specs.declared.Target.{Target}
@@ -31,7 +33,7 @@ use Rattle.line.specs.declared.Core.{Core}
 use Rattle.line.specs.declared.Line.{Line}
 use Rattle.line.specs.declared.Asked.{Asked}
 use Rattle.line.specs.declared.Asked.the-variants.{NoCycle, For}
-use Rattle.line.specs.Rules.{bitNumber, receivedOf, sentOf, clockedOf, startedOf, stoppedBy, begunBy, dueOf, placedOf, asksOf, stoppedOf, stopBegunOf, endedByOf, endedOf, pinnedOf, resetOf, nextOf, begunOf, takenOf}
+use Rattle.line.specs.Rules.{receivedOf, sentOf, clockedOf, startedOf, stoppedBy, begunBy, dueOf, placedOf, asksOf, stoppedOf, stopBegunOf, endedByOf, endedOf, pinnedOf, resetOf, nextOf, begunOf, takenOf}
 use Rattle.state.specs.declared.Chip.{Chip}
 use Rattle.chip.specs.Memory.{Mem, mem, oneOf, enteredOf, pageStartOf, committedOf, cycleStoredOf, storedOf, storeOf, stateOf}
 use Rattle.chip.specs.Delivery.{standbyOf, deliveredOf}
@@ -44,14 +46,10 @@ use Rattle.promises.proofs.Steps.{taken-free}
 
 -- ---- counting
 
-bit-le : (b : Bool) → bitNumber b ≤ 1
-bit-le true = omega arith
-bit-le false = omega arith
-
 count-same : (p q : ℕ → Bool) (n : ℕ) → ((k : ℕ) → k < n → p k ≡ q k) → countOf p n ≡ countOf q n
 unfolding countOf
 count-same p q zero h = refl
-count-same p q (suc n) h = omega (arith, count-same p q n (λ k l. h k (omega arith)), ap bitNumber (h n (omega arith)))
+count-same p q (suc n) h = omega (arith, count-same p q n (λ k l. h k (omega arith)), ap flagOf (h n (omega arith)))
 
 -- a change at one place only raises a count by one at most
 count-one : (p q : ℕ → Bool) (x n : ℕ) → ((k : ℕ) → k ≢ x → p k ≡ q k) → countOf p n ≤ countOf q n + 1
@@ -59,14 +57,14 @@ unfolding countOf
 count-one p q x zero h = omega arith
 count-one p q x (suc n) h = go (count-one p q x n h) (ℕ-discrete n x)
   where
-    go : countOf p n ≤ countOf q n + 1 → Dec (n ≡ x) → countOf p n + bitNumber (p n) ≤ countOf q n + bitNumber (q n) + 1
-    go ih (yes e) = omega (arith, count-same p q n (λ k l. h k (omega arith)), bit-le (p n))
-    go ih (no d) = omega (arith, ap bitNumber (h n d))
+    go : countOf p n ≤ countOf q n + 1 → Dec (n ≡ x) → countOf p n + flagOf (p n) ≤ countOf q n + flagOf (q n) + 1
+    go ih (yes e) = omega (arith, count-same p q n (λ k l. h k (omega arith)), flag-below (p n))
+    go ih (no d) = omega (arith, ap flagOf (h n d))
 
 count-none : (p : ℕ → Bool) (n : ℕ) → ((k : ℕ) → p k ≡ false) → countOf p n ≡ 0
 unfolding countOf
 count-none p zero h = refl
-count-none p (suc n) h = omega (arith, count-none p n h, ap bitNumber (h n))
+count-none p (suc n) h = omega (arith, count-none p n h, ap flagOf (h n))
 
 same-refl : (xs : List ℕ) → sameOf xs xs ≡ true
 unfolding sameOf
@@ -79,7 +77,7 @@ differing-none f m =
     omega (
       arith,
       count-none (λ k. not (sameOf (pageOf (f .page) k (m .cells)) (pageOf (f .page) k (m .cells)))) (pagesOf f) (λ k. ap not (same-refl (pageOf (f .page) k (m .cells)))),
-      ap (λ (b : Bool). bitNumber (not b)) (same-refl (m .ident)),
+      ap (λ (b : Bool). flagOf (not b)) (same-refl (m .ident)),
     )
 
 -- ---- what entering a page leaves alone
@@ -141,7 +139,7 @@ stored-one f l k m m₀ (Receive r) = omega arith
 stored-one f l k m m₀ (Send t) = omega arith
 stored-one f l k m m₀ (Busy Locking) = omega arith
 stored-one f l k m m₀ (Busy (Writing Ident)) =
-    omega (arith, bit-le (not (sameOf (enteredOf (m .ident) (l .core .counter / f .page * f .page) (take (f .page) k)) (m₀ .ident))))
+    omega (arith, flag-below (not (sameOf (enteredOf (m .ident) (l .core .counter / f .page * f .page) (take (f .page) k)) (m₀ .ident))))
 stored-one f l k m m₀ (Busy (Writing Array)) =
     omega (
       arith,
@@ -274,16 +272,16 @@ same-eq (x ∷ xs) (y ∷ ys) e =
     and-both true b e = (refl, e)
     and-both false b e = (e, cc)
 
-count-zero : (p : ℕ → Bool) (n k : ℕ) → countOf p n ≡ 0 → k < n → bitNumber (p k) ≡ 0
+count-zero : (p : ℕ → Bool) (n k : ℕ) → countOf p n ≡ 0 → k < n → flagOf (p k) ≡ 0
 unfolding countOf
 count-zero p zero k e h = absurd (omega arith)
 count-zero p (suc n) k e h = go (ℕ-discrete k n) (λ l. count-zero p n k (omega arith) l)
   where
-    go : Dec (k ≡ n) → (k < n → bitNumber (p k) ≡ 0) → bitNumber (p k) ≡ 0
-    go (yes q) ih = ap (λ (i : ℕ). bitNumber (p i)) q ∙ omega arith
+    go : Dec (k ≡ n) → (k < n → flagOf (p k) ≡ 0) → flagOf (p k) ≡ 0
+    go (yes q) ih = ap (λ (i : ℕ). flagOf (p i)) q ∙ omega arith
     go (no d) ih = ih (omega arith)
 
-bit-zero : (b : Bool) → bitNumber (not b) ≡ 0 → b ≡ true
+bit-zero : (b : Bool) → flagOf (not b) ≡ 0 → b ≡ true
 bit-zero true e = refl
 bit-zero false e = absurd (omega arith)
 

@@ -19,7 +19,9 @@ use Rattle.parts.specs.declared.Verdict.{Verdict}
 use Rattle.parts.specs.declared.Verdict.the-variants.{Fine, Refused}
 use Rattle.parts.specs.Table.{factsOf, addressBytesOf}
 use Rattle.parts.specs.Events.{eventOf}
+use Rattle.parts.specs.Bytes.{flagOf}
 use Rattle.parts.proofs.Laws.{branch}
+use Rattle.parts.proofs.Bytes.{flag-below}
 use Rattle.line.specs.declared.Pin.{Pin}
 use Rattle.line.specs.declared.Pin.the-variants.{Low, High, Floating}
 use Rattle.line.specs.declared.Target.{Target}
@@ -36,7 +38,7 @@ use Rattle.line.specs.declared.Heard.{Heard}
 use Rattle.line.specs.declared.Heard.the-variants.{Miss, Hit}
 use Rattle.line.specs.declared.Asked.{Asked}
 use Rattle.line.specs.declared.Asked.the-variants.{NoCycle, For}
-use Rattle.line.specs.Rules.{isHigh, at, opened, marked, markedIn, bitOn, bitNumber, enabledOf, namedOf, decodeOf, firstOf, selectedOf, loadArrayOf, loadIdOf, loadedOf, refusesOf, latchedOf, filledOf, lockedByOf, takenOf, landed, releasedIn, receivedOf, receiveLevelOf, sentOf, sendLevelOf, clockedOf, clockLevelOf, startedOf, stoppedBy, begunBy, dueOf, placedOf, asksOf, stoppedOf, stopBegunOf, endedByOf, endedOf, pinnedOf, resetOf, nextOf, levelOf, begunOf}
+use Rattle.line.specs.Rules.{isHigh, at, opened, marked, markedIn, bitOn, enabledOf, namedOf, decodeOf, firstOf, selectedOf, loadArrayOf, loadIdOf, loadedOf, refusesOf, latchedOf, filledOf, lockedByOf, takenOf, landed, releasedIn, receivedOf, receiveLevelOf, sentOf, sendLevelOf, clockedOf, clockLevelOf, startedOf, stoppedBy, begunBy, dueOf, placedOf, asksOf, stoppedOf, stopBegunOf, endedByOf, endedOf, pinnedOf, resetOf, nextOf, levelOf, begunOf}
 use Rattle.state.specs.declared.Chip.{Chip}
 use Rattle.chip.specs.Runs.{levelsOf}
 use Rattle.chip.specs.Memory.{Mem, stateOf, answerOf, seenOf}
@@ -231,10 +233,6 @@ landed-side f l r h bs a i kept free asks goes =
     go (Send t) o e = e
     go (Busy y) o e = absurd o
 
-bit-small : (v : Bool) → bitNumber v < 2
-bit-small true = omega arith
-bit-small false = omega arith
-
 received-side : (f : Facts) (en : ℕ) (l : Line) (v : Bool) (r : Recv) (left : ℕ) (h : Bool) (bs : List Byte) (k n : ℕ)
     → l .left ≡ left → Hears f l r h bs k n
     → Side f (receivedOf f en l v r left) (receivedOf f en l v r left .phase) (clockSeen v (receiveLevelOf f en l r left) (since h bs k n))
@@ -243,7 +241,7 @@ received-side f en l v r zero h bs k n e o =
     let full : eqb k 8 ≡ true = eq-eqb k 8 (omega (arith, o .bits)) in
     let a : After = takenOf f en (l .core) r (l .shift) in
     subst
-    (λ (b : Bool). Side f (landed a) (a .phase) (cond b (since h (bs ++ (byteOf n (eqb (releasedIn (a .phase)) 0) ∷ [])) 0 0) (since h bs (k + 1) (n * 2 + bitNumber v))))
+    (λ (b : Bool). Side f (landed a) (a .phase) (cond b (since h (bs ++ (byteOf n (eqb (releasedIn (a .phase)) 0) ∷ [])) 0 0) (since h bs (k + 1) (n * 2 + flagOf v))))
     (sym full)
     (subst
     (λ (i : ℕ). Side f (landed a) (a .phase) (since h (bs ++ (byteOf i (eqb (releasedIn (a .phase)) 0) ∷ [])) 0 0))
@@ -255,9 +253,9 @@ received-side f en l v r (suc left) h bs k n e o =
     let fits : n % 128 ≡ n = mod-eq-of-lt (omega (arith, room, o .small)) in
     let grows : 2 ^ (k + 1) ≡ 2 ^ k * 2 = ap (λ (j : ℕ). 2 ^ j) (add-one k) ∙ pow-suc 2 k in
     subst
-    (λ (b : Bool). Side f (record { core = l .core; phase = Receive r; left = left; shift = l .shift % 128 * 2 + bitNumber v }) (Receive r) (cond b (since h (bs ++ (byteOf n (eqb 1 0) ∷ [])) 0 0) (since h bs (k + 1) (n * 2 + bitNumber v))))
+    (λ (b : Bool). Side f (record { core = l .core; phase = Receive r; left = left; shift = l .shift % 128 * 2 + flagOf v }) (Receive r) (cond b (since h (bs ++ (byteOf n (eqb 1 0) ∷ [])) 0 0) (since h bs (k + 1) (n * 2 + flagOf v))))
     (sym part)
-    record { mark = o .mark; bits = omega (arith, o .bits); value = ap (λ (i : ℕ). i % 128 * 2 + bitNumber v) (o .value) ∙ ap (λ (i : ℕ). i * 2 + bitNumber v) fits; small = omega (arith, grows, o .small, bit-small v); asks = o .asks }
+    record { mark = o .mark; bits = omega (arith, o .bits); value = ap (λ (i : ℕ). i % 128 * 2 + flagOf v) (o .value) ∙ ap (λ (i : ℕ). i * 2 + flagOf v) fits; small = omega (arith, grows, o .small, flag-below v); asks = o .asks }
 
 sent-side : (f : Facts) (l : Line) (v : Bool) (t : Target) (left x : ℕ) (h : Bool) (bs : List Byte) (k n : ℕ) → Never f bs
     → Side f (sentOf f l v t left) (sentOf f l v t left .phase) (clockSeen v x (since h bs k n))
@@ -326,7 +324,7 @@ asks-now f (LockTaken true) = refl
 asks-now f (LockTaken false) = refl
 
 abbrev Stops : Facts → Line → ℕ → Bool → Type 0
-Stops f l n u = Side f l (l .phase) (cond u cycling quiet) × (n ≡ bitNumber u)
+Stops f l n u = Side f l (l .phase) (cond u cycling quiet) × (n ≡ flagOf u)
 
 by-stops : (f : Facts) (c : Core) (p : Bool) (a : Asked) → Stops f (stoppedBy c (dueOf p a)) (begunBy (dueOf p a)) (p && isFor a)
 by-stops f c true NoCycle = (tt, refl)
@@ -353,7 +351,7 @@ placed-is f l r h bs k n o =
     ∙ ap (λ (b : Bool). (eqb (l .left) 8 && not (l .core .inhibited)) && b) (ap (askedOf f) (sym (append-nil bs)) ∙ o .asks [] ∙ asks-now f r)
 
 stopped-side : (f : Facts) (l : Line) (ph : Phase) (s : Seen) → l .phase ≡ ph → Side f l ph s
-    → Side f (stoppedOf l ph) (stoppedOf l ph .phase) (stopSeen f s) × (stopBegunOf l ph ≡ bitNumber (wellPlacedOf f s))
+    → Side f (stoppedOf l ph) (stoppedOf l ph .phase) (stopSeen f s) × (stopBegunOf l ph ≡ flagOf (wellPlacedOf f s))
 unfolding stoppedOf stopBegunOf stopSeen wellPlacedOf
 stopped-side f l Idle quiet e o = (tt, refl)
 stopped-side f l Idle cycling e o = absurd o

@@ -11,7 +11,7 @@ use Rattle.parts.specs.declared.Facts.{Facts}
 use Rattle.parts.specs.declared.Verdict.the-variants.{Fine}
 use Rattle.parts.specs.Table.{factsOf, pagesOf}
 use Rattle.parts.specs.Sound.{Sound}
-use Rattle.line.specs.Rules.{bitNumber}
+use Rattle.parts.specs.Bytes.{flagOf}
 use Rattle.state.specs.declared.Chip.{Chip}
 use Rattle.chip.specs.Memory.{Mem}
 use Rattle.chip.specs.Delivery.{standbyOf, deliveredOf}
@@ -33,13 +33,13 @@ sameOf (x ∷ xs) (y ∷ ys) = eqb x y && sameOf xs ys
 -- how many of the numbers below n have the property
 unfoldable pub countOf : (ℕ → Bool) → ℕ → ℕ
 countOf q zero = 0
-countOf q (suc n) = countOf q n + bitNumber (q n)
+countOf q (suc n) = countOf q n + flagOf (q n)
 
 -- of the array's pages, as many as the part table says, and the identification page as one
 unfoldable pub differingOf : Facts → Mem → Mem → ℕ
 differingOf f m m₀ =
     countOf (λ k. not (sameOf (pageOf (f .page) k (m .cells)) (pageOf (f .page) k (m₀ .cells)))) (pagesOf f)
-    + bitNumber (not (sameOf (m .ident) (m₀ .ident)))
+    + flagOf (not (sameOf (m .ident) (m₀ .ident)))
 
 -- ---- of any chip
 

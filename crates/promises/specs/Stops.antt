@@ -13,9 +13,10 @@ use Rattle.parts.specs.declared.Event.the-variants.{Clock, Start, Stop, Ends, P
 use Rattle.parts.specs.declared.Verdict.the-variants.{Fine}
 use Rattle.parts.specs.Table.{factsOf, addressBytesOf}
 use Rattle.parts.specs.Events.{eventOf}
+use Rattle.parts.specs.Bytes.{flagOf}
 use Rattle.line.specs.declared.Phase.{Phase}
 use Rattle.line.specs.declared.Phase.the-variants.{Idle, Receive, Send, Busy}
-use Rattle.line.specs.Rules.{isHigh, bitOn, bitNumber}
+use Rattle.line.specs.Rules.{isHigh, bitOn}
 use Rattle.state.specs.declared.Chip.{Chip}
 use Rattle.chip.specs.Memory.{Mem}
 use Rattle.chip.specs.Delivery.{standbyOf, deliveredOf}
@@ -93,7 +94,7 @@ unfoldable pub clockSeen : Bool → ℕ → Seen → Seen
 clockSeen v level quiet = quiet
 clockSeen v level cycling = cycling
 clockSeen v level (since high bs k n) =
-    cond (eqb k 8) (since high (bs ++ (byteOf n (eqb level 0) ∷ [])) 0 0) (since high bs (k + 1) (n * 2 + bitNumber v))
+    cond (eqb k 8) (since high (bs ++ (byteOf n (eqb level 0) ∷ [])) 0 0) (since high bs (k + 1) (n * 2 + flagOf v))
 
 -- a Stop ends the transfer
 unfoldable pub stopSeen : Facts → Seen → Seen
@@ -134,7 +135,7 @@ watchOf f w Unknown level = w
 unfoldable pub stopOf : Facts → Seen → Event → ℕ
 stopOf f s (Clock v) = 0
 stopOf f s Start = 0
-stopOf f s Stop = bitNumber (wellPlacedOf f s)
+stopOf f s Stop = flagOf (wellPlacedOf f s)
 stopOf f s Ends = 0
 stopOf f s PinLow = 0
 stopOf f s PinHigh = 0
