@@ -19,7 +19,7 @@ use Rattle.chip.specs.Delivery.{pinAtFirstOf, standbyOf}
 use Rattle.driver.specs.declared.Place.the-variants.{Array}
 use Rattle.driver.specs.declared.Request.{Request}
 use Rattle.driver.specs.Request.{kOf, beyondAt, limitOf}
-use Rattle.driver.specs.Split.{pagesOf}
+use Rattle.driver.specs.Split.{pagesMetOf}
 use Rattle.driver.specs.Step.{fine}
 use Rattle.bench.specs.Calls.{benchVerdictOf}
 use Rattle.demands.specs.Ground.{Bytes}
@@ -81,7 +81,7 @@ module _ (B : Bench) (p : BenchPromises B) where
   read = ap (λ (l : List ℕ). getD l 0 0) (p .reads (one true) 1 chip₀ mem₀ byte (called true) refl .buffer)
 
 one-page : kOf (one false) ≡ 1
-unfolding kOf pagesOf factsOf
+unfolding kOf pagesMetOf factsOf
 one-page = refl
 
 none : BenchPromises untold → 0 ≡ ours .report (one false) (one false .enable) 1 chip₀ mem₀ byte .cycles

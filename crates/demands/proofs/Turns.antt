@@ -34,7 +34,7 @@ use Rattle.driver.specs.declared.Counts.{Counts}
 use Rattle.driver.specs.declared.Answer.{Answer}
 use Rattle.driver.specs.declared.Answer.the-variants.{Send, Done, Refused}
 use Rattle.driver.specs.declared.Move.{Move}
-use Rattle.driver.specs.Split.{pagesOf}
+use Rattle.driver.specs.Split.{pagesMetOf}
 use Rattle.driver.specs.Request.{fromOf, roomOf, allowedOf, kOf, GoodRequest}
 use Rattle.driver.specs.Step.{fine, bitOf, wireOf, bufferOf}
 use Rattle.driver.proofs.Facts.{good-request, pages-suc, room-most}
@@ -336,7 +336,7 @@ unfolding idSizeOf
 room-few n (Array a) = page-few n
 room-few n (Ident i) = branch (λ (x : ℕ). x ≤ 512 * factsOf n .page) (factsOf n .ident) (λ _. omega arith) (λ _. omega arith)
 
-pages-few : (P a n : ℕ) → 0 < P → a + n ≤ 512 * P → pagesOf P a n ≤ 512
+pages-few : (P a n : ℕ) → 0 < P → a + n ≤ 512 * P → pagesMetOf P a n ≤ 512
 pages-few P a zero h o = omega (arith, pages-none P a)
 pages-few P a (suc n) h o =
     omega (arith, pages-suc P a n, div-lt-iff-lt-mul {k = P} {x = a % P + n} {y = 512} h .1 (omega (arith, mod-le a P)))

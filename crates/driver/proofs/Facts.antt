@@ -13,7 +13,7 @@ use Rattle.parts.specs.declared.Verdict.{Verdict}
 use Rattle.parts.specs.Table.{factsOf, idSizeOf, enableRightOf}
 use Rattle.parts.specs.Refusals.{givenOf}
 use Rattle.parts.proofs.Laws.{sound, branch}
-use Rattle.driver.specs.Split.{firstOf, pagesOf}
+use Rattle.driver.specs.Split.{firstOf, pagesMetOf}
 use Rattle.driver.specs.declared.Place.{Place}
 use Rattle.driver.specs.declared.Place.the-variants.{Array, Ident}
 use Rattle.driver.specs.declared.Request.{Request}
@@ -54,12 +54,12 @@ wire-small d v g =
     let r = d .request in
     omega (arith, select-most (nameOf (r .place)) (r .enable) (hereOf d) (factsOf (r .part) .wide) (name-most (r .place)) (enable-most r g))
 
-pub pages-suc : (P a n : ℕ) → pagesOf P a (suc n) ≡ (a % P + n) / P + 1
-unfolding pagesOf
+pub pages-suc : (P a n : ℕ) → pagesMetOf P a (suc n) ≡ (a % P + n) / P + 1
+unfolding pagesMetOf
 pages-suc P a n = simp eqb·suc-zero (ap (λ (k : ℕ). (a % P + k) / P + 1) (omega arith))
 
-pages-most : (P a n : ℕ) → pagesOf P a n ≤ a + n
-unfolding pagesOf
+pages-most : (P a n : ℕ) → pagesMetOf P a n ≤ a + n
+unfolding pagesMetOf
 pages-most P a zero = omega arith
 pages-most P a (suc n) = omega (arith, pages-suc P a n, mod-le a P, div-le-self (a % P + n) P)
 

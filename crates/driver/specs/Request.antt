@@ -9,7 +9,7 @@ use Rattle.parts.specs.declared.Faults.{Faults}
 use Rattle.parts.specs.declared.Verdict.{Verdict}
 use Rattle.parts.specs.Table.{factsOf, idSizeOf, enableRightOf}
 use Rattle.parts.specs.Refusals.{givenOf}
-use Rattle.driver.specs.Split.{pagesOf}
+use Rattle.driver.specs.Split.{pagesMetOf}
 use Rattle.driver.specs.declared.Place.{Place}
 use Rattle.driver.specs.declared.Place.the-variants.{Array, Ident}
 use Rattle.driver.specs.declared.Request.{Request}
@@ -64,7 +64,7 @@ allowedOf r = cond (r .reads) 0 (r .budget)
 
 -- the pages that the request meets: k of document 01
 unfoldable pub kOf : Request → ℕ
-kOf r = pagesOf (factsOf (r .part) .page) (fromOf (r .place)) (r .length)
+kOf r = pagesMetOf (factsOf (r .part) .page) (fromOf (r .place)) (r .length)
 
 -- what a request has that nothing refuses
 pub record GoodRequest (r : Request) : Type 0 where

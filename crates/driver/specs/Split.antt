@@ -10,8 +10,8 @@ unfoldable pub firstOf : ℕ → ℕ → ℕ → ℕ
 firstOf P a n = cond (leb n (P - a % P)) n (P - a % P)
 
 -- the pages that n bytes at address a meet: the last page less the first, and one
-unfoldable pub pagesOf : ℕ → ℕ → ℕ → ℕ
-pagesOf P a n = cond (eqb n 0) 0 ((a % P + (n - 1)) / P + 1)
+unfoldable pub pagesMetOf : ℕ → ℕ → ℕ → ℕ
+pagesMetOf P a n = cond (eqb n 0) 0 ((a % P + (n - 1)) / P + 1)
 
 -- the lengths of all parts, each cut by the splitter; at most `most` of them
 abbrev pub partsOf : ℕ → ℕ → ℕ → ℕ → List ℕ

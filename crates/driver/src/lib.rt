@@ -3,7 +3,7 @@ ghost use mathlib.Core.Path.{_≡_};
 ghost use mathlib.Core.Bool.{true};
 ghost use Prim.Native.Nat.{_+_, _*_, _≤_, _<_};
 ghost use lib.ListN.{length, getD};
-ghost use Rattle.driver.specs.Split.{firstOf, pagesOf};
+ghost use Rattle.driver.specs.Split.{firstOf, pagesMetOf};
 ghost use Rattle.driver.specs.Request.{
   fromOf,
   roomOf,
@@ -148,7 +148,7 @@ fn first(address: usize, length: usize, page: usize) -> usize
 // How many pages the bytes meet.
 fn pages(address: usize, length: usize, page: usize) -> usize
     requires { ⌜ (0 < page) × (address + length ≤ 65536) ⌝ }
-    ensures { λ r. ⌜ r ≡ pagesOf page address length ⌝ }
+    ensures { λ r. ⌜ r ≡ pagesMetOf page address length ⌝ }
 {
     if length == 0 {
         return 0;

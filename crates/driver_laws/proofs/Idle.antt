@@ -11,7 +11,7 @@ use Rattle.parts.specs.Refusals.{givenOf}
 use Rattle.parts.specs.Table.{factsOf, enableRightOf, addressBytesOf}
 use Rattle.driver.specs.declared.Place.the-variants.{Array}
 use Rattle.driver.specs.declared.Request.{Request}
-use Rattle.driver.specs.Split.{pagesOf}
+use Rattle.driver.specs.Split.{pagesMetOf}
 use Rattle.driver.specs.Request.{beyondAt, limitOf, faultsOf, judgeOf, allowedOf, kOf}
 use Rattle.driver.specs.Step.{readyOf, stepOf, countsRight, rangeOf, nextOf}
 use Rattle.driver_laws.specs.Promises.{Accepted, Promises}
@@ -41,7 +41,7 @@ unfolding addressBytesOf factsOf
 endless-breaks p = p .one-each (reading 0) [] none (replicate 31 0) 0 .bound (omega arith)
 
 inventing-breaks : Promises inventing → ⊥
-unfolding nextOf rangeOf judgeOf givenOf faultsOf factsOf enableRightOf beyondAt limitOf countsRight allowedOf kOf pagesOf stepOf readyOf
+unfolding nextOf rangeOf judgeOf givenOf faultsOf factsOf enableRightOf beyondAt limitOf countsRight allowedOf kOf pagesMetOf stepOf readyOf
 inventing-breaks p = let e = p .polls-sent (reading 0) [] none [] 0 .done 1 0 refl in omega arith
 
 pub idle-drivers-break : IdleDriversBreak

@@ -18,7 +18,7 @@ use Rattle.driver.specs.declared.Phase.{Phase}
 use Rattle.driver.specs.declared.Phase.the-variants.{Ready, Bits, Heard, Rest, Over}
 use Rattle.driver.specs.declared.Counts.{Counts}
 use Rattle.driver.specs.declared.Move.{Move}
-use Rattle.driver.specs.Split.{pagesOf}
+use Rattle.driver.specs.Split.{pagesMetOf}
 use Rattle.driver.specs.Request.{fromOf, judgeOf, allowedOf, kOf}
 use Rattle.driver.specs.Step.{withByte, takenOf, clocksOf, phaseRight, fine, GoodCounts}
 use Rattle.driver.proofs.Facts.{good-request}
@@ -59,12 +59,12 @@ module _ (r : Request) where
   left-all =
       let e : fromOf (r .place) + 0 ≡ fromOf (r .place) = omega arith in
       let f : r .length - 0 ≡ r .length = omega arith in
-      ap (λ (x : ℕ). pagesOf (factsOf (r .part) .page) x (r .length - 0)) e ∙ ap (pagesOf (factsOf (r .part) .page) (fromOf (r .place))) f
+      ap (λ (x : ℕ). pagesMetOf (factsOf (r .part) .page) x (r .length - 0)) e ∙ ap (pagesMetOf (factsOf (r .part) .page) (fromOf (r .place))) f
 
   pub left-none : leftOf r (r .length) ≡ 0
   left-none =
       let f : r .length - r .length ≡ 0 = omega arith in
-      ap (pagesOf (factsOf (r .part) .page) (fromOf (r .place) + r .length)) f ∙ pages-none (factsOf (r .part) .page) (fromOf (r .place) + r .length)
+      ap (pagesMetOf (factsOf (r .part) .page) (fromOf (r .place) + r .length)) f ∙ pages-none (factsOf (r .part) .page) (fromOf (r .place) + r .length)
 
   pub left-cut : (s : ℕ) → s < r .length → leftOf r s ≡ suc (leftOf r (stop r s))
   left-cut s h =
@@ -73,7 +73,7 @@ module _ (r : Request) where
       let e : fromOf (r .place) + s + m ≡ fromOf (r .place) + (s + m) = omega arith in
       let f : r .length - s - m ≡ r .length - (s + m) = omega arith in
       cut-first P (placeOf r s) (r .length - s) page-pos (omega arith)
-      ∙ (ap (λ (x : ℕ). suc (pagesOf P x (r .length - s - m))) e ∙ ap (λ (x : ℕ). suc (pagesOf P (fromOf (r .place) + (s + m)) x)) f)
+      ∙ (ap (λ (x : ℕ). suc (pagesMetOf P x (r .length - s - m))) e ∙ ap (λ (x : ℕ). suc (pagesMetOf P (fromOf (r .place) + (s + m)) x)) f)
 
   pub stop-most : (s : ℕ) → s ≤ r .length → stop r s ≤ r .length
   stop-most s h = omega (arith, first-is (factsOf (r .part) .page) (placeOf r s) (r .length - s) page-pos .low)

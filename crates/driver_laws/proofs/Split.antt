@@ -8,7 +8,7 @@ use borrow.Author.Tests.{leb-true, leb-false}
 use lib.Dec.{leb}
 use lib.ListN.{length}
 use Rattle.parts.proofs.Laws.{branch}
-use Rattle.driver.specs.Split.{firstOf, pagesOf, partsOf, sum}
+use Rattle.driver.specs.Split.{firstOf, pagesMetOf, partsOf, sum}
 use Rattle.driver.proofs.Facts.{pages-suc}
 use Rattle.driver_laws.specs.Promises.{Splits}
 
@@ -33,15 +33,15 @@ first-pos P a n h o = go (firstOf P a n) (first-is P a n h)
     go zero r = let e = r .full (omega arith) in omega (arith, mod-lt a h)
     go (suc m) r = omega arith
 
-pub pages-none : (P a : ℕ) → pagesOf P a 0 ≡ 0
-unfolding pagesOf
+pub pages-none : (P a : ℕ) → pagesMetOf P a 0 ≡ 0
+unfolding pagesMetOf
 pages-none P a = refl
 
 -- one part more is one page more
-cut : (P a n m : ℕ) → 0 < P → First P a (suc n) m → pagesOf P a (suc n) ≡ suc (pagesOf P (a + m) (suc n - m))
+cut : (P a n m : ℕ) → 0 < P → First P a (suc n) m → pagesMetOf P a (suc n) ≡ suc (pagesMetOf P (a + m) (suc n - m))
 cut P a n m h r = go (suc n - m) refl
   where
-    go : (k : ℕ) → suc n - m ≡ k → pagesOf P a (suc n) ≡ suc (pagesOf P (a + m) k)
+    go : (k : ℕ) → suc n - m ≡ k → pagesMetOf P a (suc n) ≡ suc (pagesMetOf P (a + m) k)
     go zero e =
         let d = div-eq-of-lt {n = a % P + n} {m = P} (let l = r .low in let q = r .room in omega arith) in
         omega (arith, pages-suc P a n, pages-none P (a + m))
@@ -60,7 +60,7 @@ cut P a n m h r = go (suc n - m) refl
           ap (λ (x : ℕ). x / P) (let p : 0 + k ≡ k = omega arith in p),
         )
 
-pub cut-first : (P a n : ℕ) → 0 < P → 0 < n → pagesOf P a n ≡ suc (pagesOf P (a + firstOf P a n) (n - firstOf P a n))
+pub cut-first : (P a n : ℕ) → 0 < P → 0 < n → pagesMetOf P a n ≡ suc (pagesMetOf P (a + firstOf P a n) (n - firstOf P a n))
 cut-first P a zero h o = absurd (omega arith)
 cut-first P a (suc n) h o = cut P a n (firstOf P a (suc n)) h (first-is P a (suc n) h)
 
@@ -74,7 +74,7 @@ parts-sum P (suc most) a (suc n) h l =
     omega (arith, parts-sum P most (a + firstOf P a (suc n)) (suc n - firstOf P a (suc n)) h (omega arith))
 
 -- there are as many parts as pages met
-pub parts-count : (P most a n : ℕ) → 0 < P → n ≤ most → length (partsOf P most a n) ≡ pagesOf P a n
+pub parts-count : (P most a n : ℕ) → 0 < P → n ≤ most → length (partsOf P most a n) ≡ pagesMetOf P a n
 parts-count P zero a zero h l = sym (pages-none P a)
 parts-count P zero a (suc n) h l = absurd (omega arith)
 parts-count P (suc most) a zero h l = sym (pages-none P a)
@@ -88,14 +88,14 @@ parts-count P (suc most) a (suc n) h l =
     )
 
 -- the last page less the first, and one
-pub pages-formula : (P a n : ℕ) → 0 < P → 0 < n → pagesOf P a n ≡ (a + (n - 1)) / P - a / P + 1
+pub pages-formula : (P a n : ℕ) → 0 < P → 0 < n → pagesMetOf P a n ≡ (a + (n - 1)) / P - a / P + 1
 pages-formula P a zero h o = absurd (omega arith)
 pages-formula P a (suc n) h o =
     let e : a / P * P + (a % P + n) ≡ a + (suc n - 1) = omega (arith, div-add-mod' a P) in
     omega (arith, pages-suc P a n, mul-add-div-right h (a / P) (a % P + n), ap (λ (x : ℕ). x / P) e)
 
 -- what is within one page is one part
-pub one-page : (P a n : ℕ) → 0 < P → 0 < n → a + n ≤ P → pagesOf P a n ≡ 1
+pub one-page : (P a n : ℕ) → 0 < P → 0 < n → a + n ≤ P → pagesMetOf P a n ≡ 1
 one-page P a zero h o l = absurd (omega arith)
 one-page P a (suc n) h o l =
     omega (arith, pages-suc P a n, div-eq-of-lt {n = a % P + n} {m = P} (omega (arith, mod-le a P)))

@@ -12,7 +12,7 @@ use Rattle.driver.specs.declared.Request.{Request}
 use Rattle.driver.specs.declared.Failed.{Failed}
 use Rattle.driver.specs.declared.Answer.{Answer}
 use Rattle.driver.specs.declared.Answer.the-variants.{Send, Done, Refused}
-use Rattle.driver.specs.Split.{sum, partsOf, pagesOf}
+use Rattle.driver.specs.Split.{sum, partsOf, pagesMetOf}
 use Rattle.driver.specs.Request.{judgeOf, allowedOf, kOf}
 use Rattle.driver.specs.Step.{refusalOf}
 use Rattle.driver_laws.specs.Run.{Machine, Held, begun, answerOf, told, afterAll, eventsOf, Finished, clocksIn, pollsIn, addressBytes, boundOf, clockOfByte, toldByte}
@@ -23,8 +23,8 @@ use Rattle.driver_laws.specs.Where.{Within, Stopped}
 -- from the page of the first byte to the page of the last
 pub record Splits (P a n : ℕ) : Type 0 where
   pub whole : sum (partsOf P n a n) ≡ n
-  pub count : length (partsOf P n a n) ≡ pagesOf P a n
-  pub formula : 0 < n → pagesOf P a n ≡ (a + (n - 1)) / P - a / P + 1
+  pub count : length (partsOf P n a n) ≡ pagesMetOf P a n
+  pub formula : 0 < n → pagesMetOf P a n ≡ (a + (n - 1)) / P - a / P + 1
 
 -- `begin` does not refuse, and the buffer is as long as asked
 pub record Accepted (r : Request) (xs : List ℕ) : Type 0 where

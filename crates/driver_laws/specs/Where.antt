@@ -10,13 +10,13 @@ use Rattle.parts.specs.Table.{factsOf}
 use Rattle.driver.specs.declared.Request.{Request}
 use Rattle.driver.specs.declared.Failed.{Failed}
 use Rattle.driver.specs.declared.Failed.the-variants.{AtSelect, AtData, AtPolls}
-use Rattle.driver.specs.Split.{sum, pagesOf}
+use Rattle.driver.specs.Split.{sum, pagesMetOf}
 use Rattle.driver.specs.Request.{allowedOf, kOf}
 use Rattle.driver_laws.specs.Plan.{thenStart, thenStop, thenByte, thenPolls, thenData, placeOf, selectOf, thenSelect, thenHigh, thenHead, lengthOf, thenParts, bytesOf, readPlan}
 
 -- the pages that the bytes from number o on meet
 abbrev pub leftOf : Request → ℕ → ℕ
-leftOf r o = pagesOf (factsOf (r .part) .page) (placeOf r o) (r .length - o)
+leftOf r o = pagesMetOf (factsOf (r .part) .page) (placeOf r o) (r .length - o)
 
 -- each page takes at least one poll, and no more than the budget
 abbrev pub Within : ℕ → List ℕ → Type 0

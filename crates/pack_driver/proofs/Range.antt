@@ -20,7 +20,7 @@ use Rattle.driver.specs.declared.Driver.{Driver}
 use Rattle.driver.specs.declared.Move.{Move}
 use Rattle.driver.specs.declared.Asked.{Asked}
 use Rattle.driver.specs.Request.{beyondAt, limitOf, faultsOf, judgeOf, allowedOf, kOf}
-use Rattle.driver.specs.Split.{pagesOf}
+use Rattle.driver.specs.Split.{pagesMetOf}
 use Rattle.driver.specs.Step.{
   countsRight,
   fresh,
@@ -103,7 +103,7 @@ abbrev reader : Driver
 reader = fresh (record { part = 0; enable = 0; place = Array (record { 0 = 0 }); reads = true; length = 0; budget = wordEnd })
 
 pub some-not-packed : SomeNotPacked
-unfolding rangeOf countsRight judgeOf givenOf faultsOf beyondAt limitOf enableRightOf factsOf kOf pagesOf allowedOf smallOf
+unfolding rangeOf countsRight judgeOf givenOf faultsOf beyondAt limitOf enableRightOf factsOf kOf pagesMetOf allowedOf smallOf
 some-not-packed = (reader, refl, refl, refl)
 
 -- ---- a step adds at most one to a number, or sets it to another

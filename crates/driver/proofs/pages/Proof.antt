@@ -3,12 +3,12 @@ use native.Mathlib.Nat.{mod-le, div-le-self}
 use native.Mathlib.Omega.{arith}
 use borrow.Author.Needs.{needs}
 use Rattle.parts.proofs.Kit.{tests}
-use Rattle.driver.specs.Split.{pagesOf}
+use Rattle.driver.specs.Split.{pagesMetOf}
 use Rattle.driver.proofs.pages.Statement.{statement}
 use Rattle.driver.proofs.pages.Tie as tie
 
 returns : tie.Need-returns
-unfolding pagesOf
+unfolding pagesMetOf
 returns c = simp (c .if1 .taken)
 
 rem-result : tie.Need-rem-result
@@ -27,7 +27,7 @@ add-result-2 : tie.Need-add-result-2
 add-result-2 c = let a = c .before .args in omega (arith, mod-le (a .address) (a .page), div-le-self (a .address % a .page + (a .length - 1)) (a .page))
 
 returns-2 : tie.Need-returns-2
-unfolding pagesOf
+unfolding pagesMetOf
 returns-2 c = simp (tests, c .if1 .left)
 
 pub pages-spec : {M : Type 1} → statement M
