@@ -9,7 +9,6 @@ ghost use Rattle.parts.specs.Table.{factsOf, enableRightOf};
 ghost use Rattle.parts.specs.declared.Event.the-variants.{Ends};
 ghost use Rattle.parts.specs.Events.{eventOf};
 ghost use Rattle.chip.specs.Memory.{mem, storeOf};
-ghost use Rattle.driver.specs.Request.{allowedOf};
 ghost use Rattle.driver.specs.Step.{nextOf};
 ghost use Rattle.bench.specs.Together.{
   clockOf,
@@ -226,13 +225,6 @@ fn due(phase: Phase, tries: usize, allowed: usize, level: u8, d: usize) -> bool
     }
 }
 
-// The polls allowed for a page: a read sends none.
-fn allowed(request: Request) -> usize
-    ensures { λ r. ⌜ r ≡ allowedOf request ⌝ }
-{
-    if request.reads { 0 } else { request.budget }
-}
-
 // The cycle ends where its poll number d comes next; then the driver is asked.
 fn turn(
     part: u8,
@@ -251,7 +243,7 @@ fn turn(
 {
     let driver = held.driver;
     let phase = driver.phase;
-    let most = allowed(driver.request);
+    let most = driver::allowed(driver.request);
     let ended = due(phase, driver.counts.tries, most, held.level, d);
     let ready = end(ended, part, enable, held, array, id);
     ask(ended, part, enable, ready, array, id, buffer)

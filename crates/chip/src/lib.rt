@@ -1,7 +1,7 @@
 // The chip: a part as delivered, one event, a list of events. Nobody has to check first.
 ghost use mathlib.Core.Path.{_≡_};
 ghost use Prim.Native.Nat.{_+_, _<_, _≤_};
-ghost use lib.ListN.{length, set, take, drop, getD, replicate};
+ghost use lib.ListN.{length, set, take, drop, replicate};
 ghost use Rattle.parts.specs.Table.{factsOf, idSizeOf};
 ghost use Rattle.chip.specs.Runs.{afterOf, memoryOf, levelsOf, cyclesOf};
 ghost use Rattle.chip.specs.Onward.{Coasts, taking, sending, sentOn, ignoresOf, allLowOf};
@@ -190,15 +190,6 @@ fn store_at(part: u8, line: Line, latch: &[u16; 64], array: &mut [u8], id: &mut 
     }
 }
 
-fn byte_at(s: &[u8], at: usize) -> u8
-    ensures { λ r. ⌜ r ≡ getD (now (s .entry)) at 0 ⌝ }
-{
-    if at < s.len() {
-        return s[at];
-    }
-    0
-}
-
 fn shown(part: u8, counter: u16, target: Target, array: &[u8], id: &[u8]) -> u8
     ensures { λ r. ⌜ r ≡ shownOf (factsOf part) counter (mem (now (array .entry)) (now (id .entry))) target ⌝ }
 {
@@ -206,8 +197,8 @@ fn shown(part: u8, counter: u16, target: Target, array: &[u8], id: &[u8]) -> u8
     let p = f.page;
     let c = counter as usize;
     match target {
-        Target::Array => byte_at(array, c),
-        Target::Ident => byte_at(id, c % p),
+        Target::Array => parts::byte_at(array, c),
+        Target::Ident => parts::byte_at(id, c % p),
     }
 }
 

@@ -38,6 +38,8 @@ use Rattle.determined.specs.Functions.{
   EnableRightDetermined,
   EventOfDetermined,
   EventRightDetermined,
+  FlagDetermined,
+  ByteAtDetermined,
   NumberDetermined,
   VerdictNumberDetermined,
   GivenDetermined,
@@ -58,6 +60,8 @@ use Rattle.determined.specs.Functions.{
   CodeOfDetermined,
   TraceDetermined,
   JudgeDetermined,
+  FromDetermined,
+  AllowedDetermined,
   BeginDetermined,
   NextDetermined,
   BenchRecordDetermined,
@@ -87,6 +91,12 @@ event-of-determined = plainly (λ κs a u v. refl)
 
 pub event-right-determined : EventRightDetermined
 event-right-determined = plainly (λ κs a u v. refl)
+
+pub flag-determined : FlagDetermined
+flag-determined = plainly (λ κs a u v. refl)
+
+pub byte-at-determined : ByteAtDetermined
+byte-at-determined = plainly (λ κs a u v. refl)
 
 pub number-determined : NumberDetermined
 number-determined = plainly (λ κs a u v. refl)
@@ -177,6 +187,12 @@ trace-determined = record {
 
 pub judge-determined : JudgeDetermined
 judge-determined = plainly (λ κs a u v. refl)
+
+pub from-determined : FromDetermined
+from-determined = plainly (λ κs a u v. refl)
+
+pub allowed-determined : AllowedDetermined
+allowed-determined = plainly (λ κs a u v. refl)
 
 pub begin-determined : BeginDetermined
 begin-determined = plainly (λ κs a u v. refl)

@@ -8,6 +8,8 @@ use Rattle.parts.proofs.address_bytes as address-bytes
 use Rattle.parts.proofs.enable_right as enable-right
 use Rattle.parts.proofs.event_of as event-of
 use Rattle.parts.proofs.event_right as event-right
+use Rattle.parts.proofs.flag as flag
+use Rattle.parts.proofs.byte_at as byte-at
 use Rattle.parts.proofs.number as number
 use Rattle.parts.proofs.verdict_number as verdict-number
 use Rattle.parts.proofs.given as given
@@ -28,6 +30,8 @@ use Rattle.trace.proofs.letters as letters
 use Rattle.trace.proofs.code_of as code-of
 use Rattle.trace.proofs.trace as trace
 use Rattle.driver.proofs.judge as judge
+use Rattle.driver.proofs.from as from
+use Rattle.driver.proofs.allowed as allowed
 use Rattle.driver.proofs.begin as begin
 use Rattle.driver.proofs.next as next
 use Rattle.bench.proofs.record as bench-record
@@ -86,6 +90,12 @@ EventOfDetermined = Determined event-of.ended event-of.Reads.Asked event-of.Read
 
 abbrev pub EventRightDetermined : Type 0
 EventRightDetermined = Determined event-right.ended event-right.Reads.Asked event-right.Reads.Learnt
+
+abbrev pub FlagDetermined : Type 0
+FlagDetermined = Determined flag.ended flag.Reads.Asked flag.Reads.Learnt
+
+abbrev pub ByteAtDetermined : Type 0
+ByteAtDetermined = Determined byte-at.ended byte-at.Reads.Asked byte-at.Reads.Learnt
 
 abbrev pub NumberDetermined : Type 0
 NumberDetermined = Determined number.ended number.Reads.Asked number.Reads.Learnt
@@ -162,6 +172,12 @@ TraceDetermined = Determined trace.ended trace.Reads.Asked trace.Reads.Learnt
 
 abbrev pub JudgeDetermined : Type 0
 JudgeDetermined = Determined judge.ended judge.Reads.Asked judge.Reads.Learnt
+
+abbrev pub FromDetermined : Type 0
+FromDetermined = Determined from.ended from.Reads.Asked from.Reads.Learnt
+
+abbrev pub AllowedDetermined : Type 0
+AllowedDetermined = Determined allowed.ended allowed.Reads.Asked allowed.Reads.Learnt
 
 abbrev pub BeginDetermined : Type 0
 BeginDetermined = Determined begin.ended begin.Reads.Asked begin.Reads.Learnt

@@ -156,7 +156,8 @@ fn pages(address: usize, length: usize, page: usize) -> usize
     (address % page + (length - 1)) / page + 1
 }
 
-fn from(place: Place) -> usize
+// Where the bytes of a request begin.
+pub fn from(place: Place) -> usize
     ensures { λ r. ⌜ r ≡ fromOf place ⌝ }
 {
     match place {
@@ -262,8 +263,8 @@ pub fn begin(request: Request) -> Begun
     }
 }
 
-// The polls allowed for a page.
-fn allowed(request: Request) -> usize
+// The polls allowed for a page: none for a read.
+pub fn allowed(request: Request) -> usize
     ensures { λ r. ⌜ r ≡ allowedOf request ⌝ }
 {
     if request.reads { 0 } else { request.budget }

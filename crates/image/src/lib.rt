@@ -1,7 +1,7 @@
 // The stored image of a chip: saved into a lent buffer, loaded from one. Nobody has to check first.
 ghost use mathlib.Core.Path.{_≡_};
 ghost use Prim.Native.Nat.{_+_, _≤_};
-ghost use lib.ListN.{length, getD, drop};
+ghost use lib.ListN.{length, drop};
 ghost use mathlib.Core.List.{_++_};
 ghost use Rattle.parts.specs.Table.{factsOf};
 ghost use Rattle.chip.specs.Memory.{mem};
@@ -121,45 +121,36 @@ pub fn save(part: u8, chip: Chip, array: &[u8], id: &[u8], out: &mut [u8]) -> Sa
 
 // ---- loading
 
-fn byte_at(s: &[u8], at: usize) -> u8
-    ensures { λ r. ⌜ r ≡ getD (now (s .entry)) at 0 ⌝ }
-{
-    if at < s.len() {
-        return s[at];
-    }
-    0
-}
-
 // The part byte; 0 where the image is too short to hold one.
 fn part_in(image: &[u8]) -> u8
     ensures { λ r. ⌜ r ≡ partIn (now (image .entry)) ⌝ }
 {
-    byte_at(image, 5)
+    parts::byte_at(image, 5)
 }
 
 fn lock_in(image: &[u8]) -> bool
     ensures { λ r. ⌜ r ≡ lockIn (now (image .entry)) ⌝ }
 {
-    byte_at(image, 6) == 1
+    parts::byte_at(image, 6) == 1
 }
 
 // The mark `EPR` and the version 0001h.
 fn mark_right(image: &[u8]) -> bool
     ensures { λ r. ⌜ r ≡ markRightOf (now (image .entry)) ⌝ }
 {
-    if byte_at(image, 0) != 0x45 {
+    if parts::byte_at(image, 0) != 0x45 {
         return false;
     }
-    if byte_at(image, 1) != 0x50 {
+    if parts::byte_at(image, 1) != 0x50 {
         return false;
     }
-    if byte_at(image, 2) != 0x52 {
+    if parts::byte_at(image, 2) != 0x52 {
         return false;
     }
-    if byte_at(image, 3) != 0x00 {
+    if parts::byte_at(image, 3) != 0x00 {
         return false;
     }
-    byte_at(image, 4) == 0x01
+    parts::byte_at(image, 4) == 0x01
 }
 
 fn lock_byte_right(part: u8, byte: u8) -> bool
@@ -184,7 +175,7 @@ fn formed(part: u8, image: &[u8]) -> bool
     }
     let marked = mark_right(image);
     if marked {
-        let flag = byte_at(image, 6);
+        let flag = parts::byte_at(image, 6);
         return lock_byte_right(part, flag);
     }
     false

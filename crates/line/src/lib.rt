@@ -1,8 +1,7 @@
 // One bus event on the state of a chip, without its latches and its memory: they stand in the layer above.
 ghost use mathlib.Core.Path.{_≡_};
-ghost use Prim.Native.Nat.{_+_, _*_, _<_};
+ghost use Prim.Native.Nat.{_+_, _*_};
 ghost use Rattle.parts.specs.Table.{factsOf};
-ghost use Rattle.parts.specs.Bytes.{flagOf};
 ghost use Rattle.line.specs.Rules.{isHigh, at, givenUp, rollOf, beforeOf, onwardOf, enabledOf, namedOf, decodeOf, firstOf, selectedOf, loadArrayOf, loadIdOf, loadedOf, refusesOf, latchedOf, takenOf, filledOf, lockedByOf, endedByOf, markedIn, receivedOf, receiveActOf, receiveLevelOf, releasedIn, movedOf, sentOf, sendLevelOf, clockedOf, clockActOf, clockLevelOf, startedOf, startActOf, asksOf, placedOf, dueOf, stoppedOf, stopActOf, stopBegunOf, endedOf, endActOf, pinnedOf, resetOf, opened, marked, quietly, moveOf};
 use parts::ArrayAddress;
 use parts::Event;
@@ -386,13 +385,6 @@ fn released(phase: Phase) -> u8
     }
 }
 
-fn bit_number(value: bool) -> u8
-    ensures { λ r. ⌜ r ≡ flagOf value ⌝ }
-    ensures range { λ r. ⌜ r < 2 ⌝ }
-{
-    if value { 1 } else { 0 }
-}
-
 fn receive(part: u8, enable: u8, line: Line, recv: Recv, value: bool) -> Move
     ensures { λ r. ⌜ r ≡ record { line = receivedOf (factsOf part) enable line value recv (line .left); act = receiveActOf (factsOf part) enable line recv (line .left); level = receiveLevelOf (factsOf part) enable line recv (line .left); cycles = 0 } ⌝ }
 {
@@ -413,7 +405,7 @@ fn receive(part: u8, enable: u8, line: Line, recv: Recv, value: bool) -> Move
             cycles: 0,
         };
     }
-    let bit = bit_number(value);
+    let bit = parts::flag(value);
     Move {
         line: Line {
             core: core,

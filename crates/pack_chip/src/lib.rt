@@ -3,7 +3,6 @@ ghost use mathlib.Core.Path.{_≡_};
 ghost use Prim.Native.Nat.{_/_, _%_};
 ghost use lib.ListN.{length, drop};
 ghost use lib.Seq.{sets};
-ghost use Rattle.parts.specs.Bytes.{flagOf};
 ghost use Rattle.pack_chip.specs.Layout.{
   pinCodeOf,
   eitherOf,
@@ -38,12 +37,6 @@ use line::Target;
 use state::Chip;
 
 // ---- the codes
-
-fn flag(on: bool) -> u8
-    ensures { λ r. ⌜ r ≡ flagOf on ⌝ }
-{
-    if on { 1 } else { 0 }
-}
 
 fn pin_code(pin: Pin) -> u8
     ensures { λ r. ⌜ r ≡ pinCodeOf pin ⌝ }
@@ -157,8 +150,8 @@ fn put_line(line: Line, out: &mut [u8])
     out[0] = high_byte(counter);
     out[1] = low_byte(counter);
     out[2] = pin_code(pin);
-    out[3] = flag(core.inhibited);
-    out[4] = flag(core.locked);
+    out[3] = parts::flag(core.inhibited);
+    out[4] = parts::flag(core.locked);
     out[5] = phase_code(phase);
     out[6] = phase_high(phase);
     out[7] = line.left;

@@ -3,8 +3,6 @@ ghost use mathlib.Core.Path.{_≡_};
 ghost use Prim.Native.Nat.{_+_, _/_, _%_, _<_, _≤_};
 ghost use lib.ListN.{length};
 ghost use lib.Seq.{sets};
-ghost use Rattle.parts.specs.Bytes.{flagOf};
-ghost use Rattle.driver.specs.Request.{fromOf};
 ghost use Rattle.driver.specs.Step.{clocksOf};
 ghost use Rattle.pack_driver.specs.Layout.{
   placeCodeOf,
@@ -44,27 +42,12 @@ use parts::IdLocation;
 
 // ---- the codes
 
-fn flag(on: bool) -> u8
-    ensures { λ r. ⌜ r ≡ flagOf on ⌝ }
-{
-    if on { 1 } else { 0 }
-}
-
 fn place_code(place: Place) -> u8
     ensures { λ r. ⌜ r ≡ placeCodeOf place ⌝ }
 {
     match place {
         Place::Array(_) => 0,
         Place::Ident(_) => 1,
-    }
-}
-
-fn from(place: Place) -> usize
-    ensures { λ r. ⌜ r ≡ fromOf place ⌝ }
-{
-    match place {
-        Place::Array(a) => a.0,
-        Place::Ident(i) => i.0,
     }
 }
 
@@ -148,7 +131,7 @@ fn put_head(driver: Driver, out: &mut [u8])
     out[0] = request.part;
     out[1] = request.enable;
     out[2] = place_code(place);
-    out[3] = flag(request.reads);
+    out[3] = parts::flag(request.reads);
     out[4] = phase_code(phase);
     out[5] = clocks(phase);
     out[6] = counts.byte;
@@ -161,7 +144,7 @@ fn put_numbers(driver: Driver, out: &mut [u8])
     let request = driver.request;
     let place = request.place;
     let counts = driver.counts;
-    put_number(out, 7, from(place));
+    put_number(out, 7, driver::from(place));
     put_number(out, 11, request.length);
     put_number(out, 15, request.budget);
     put_number(out, 19, counts.at);
@@ -176,7 +159,7 @@ fn small(driver: Driver) -> bool
     let request = driver.request;
     let place = request.place;
     let counts = driver.counts;
-    if 4294967296 <= from(place) {
+    if 4294967296 <= driver::from(place) {
         return false;
     }
     if 4294967296 <= request.length {

@@ -1,9 +1,11 @@
 // The six parts, the two numberings, the bus events and the refusals of document 01.
 ghost use mathlib.Core.Path.{_≡_};
+ghost use lib.ListN.{getD};
 ghost use Rattle.parts.specs.Table.{factsOf, idSizeOf, buffersRightOf, addressBytesOf, enableRightOf};
 ghost use Rattle.parts.specs.Sound.{Sound};
 ghost use Rattle.parts.specs.Events.{eventOf, eventRightOf};
 ghost use Rattle.parts.specs.Refusals.{numberOf, verdictNumberOf, givenOf};
+ghost use Rattle.parts.specs.Bytes.{flagOf};
 
 // The address of a byte of the array.
 pub struct ArrayAddress(pub usize);
@@ -180,6 +182,23 @@ pub fn event_right(pin: bool, code: u8) -> bool
         return true;
     }
     code == 8
+}
+
+// The byte of a buffer, and 0 beyond its end.
+pub fn byte_at(s: &[u8], at: usize) -> u8
+    ensures { λ r. ⌜ r ≡ getD (now (s .entry)) at 0 ⌝ }
+{
+    if at < s.len() {
+        return s[at];
+    }
+    0
+}
+
+// A flag, or the level of a clock, as a number.
+pub fn flag(on: bool) -> u8
+    ensures { λ r. ⌜ r ≡ flagOf on ⌝ }
+{
+    if on { 1 } else { 0 }
 }
 
 pub enum Refusal {
