@@ -18,6 +18,7 @@ use Rattle.parts.specs.Events.{eventOf, eventRightOf}
 use Rattle.parts.specs.Refusals.{verdictNumberOf, givenOf}
 use Rattle.parts.proofs.Laws.{branch, sound, faultless}
 use Rattle.parts.specs.declared.Faults.{Faults}
+use Rattle.parts.proofs.Tests.{neither}
 use Rattle.state.specs.declared.Chip.{Chip}
 use Rattle.state.specs.Range.{inRangeOf}
 use Rattle.chip.specs.declared.Stepped.{Stepped}
@@ -230,15 +231,11 @@ still-by f en s d b (Send e) h = absurd (false≢true (sym h))
 still-by f en s d b (Done polls bytes) h = refl
 still-by f en s d b (Refused r polls bytes) h = refl
 
-pub not-due : (b x : Bool) → cond b true x ≡ false → (b ≡ false) × (x ≡ false)
-not-due true x h = absurd (false≢true (sym h))
-not-due false x h = (refl, h)
-
 -- where neither an end is due nor an event is sent, nothing changes
 pub still : (f : Facts) (en d : ℕ) (s : System) → goingOf d s ≡ false → turnOf f en d s ≡ s
 unfolding goingOf turnOf askedOf
 still f en d s h =
-    let w = not-due (dueOf d s) _ h in
+    let w = neither (dueOf d s) _ h in
     rw (w .0) (still-by f en s (gives s .driver) (keeps s) (gives s .answer) (w .1))
 
 pub turns-still : (f : Facts) (en d : ℕ) (s : System) → turnOf f en d s ≡ s → (n : ℕ) → turnsOf f en d n s ≡ s

@@ -9,6 +9,7 @@ use lib.Seq.{sets, set-out, set-append-seam, take-nil}
 use native.Mathlib.Numerals.{add-one}
 use native.Mathlib.Omega.{arith}
 use Rattle.parts.specs.declared.Facts.{Facts}
+use Rattle.parts.proofs.Tests.{neither}
 use Rattle.state.specs.declared.Chip.{Chip}
 use Rattle.chip.specs.Memory.{Mem}
 use Rattle.driver.specs.declared.Request.{Request}
@@ -17,7 +18,7 @@ use Rattle.driver.specs.Step.{nextOf, begunOf}
 use Rattle.bench.specs.Together.{System, startOf, dueOf, turnOf}
 use Rattle.bench.specs.Tape.{sendsOf, codeOf, tapeBy, turnEvents, turnLevels, eventsOf, heardOf, laidOf}
 use Rattle.bench.specs.Held.{whole, goingOf}
-use Rattle.bench.proofs.Laws.{not-due, still}
+use Rattle.bench.proofs.Laws.{still}
 
 -- ---- a list stored from a place on
 
@@ -142,7 +143,7 @@ module _ (f : Facts) (en d : ℕ) where
     -- neither an end nor an event: nothing comes any more
     none-now : cond ended true sends ≡ false → (turnEvents d s ≡ []) × (turnLevels f en d s ≡ [])
     none-now h =
-        let w = not-due ended sends h in
+        let w = neither ended sends h in
         let e = turn-tape in
         (sym (e .0) ∙ empty ended sends 4 code (w .0) (w .1), sym (e .1) ∙ empty ended sends 2 (t .level) (w .0) (w .1))
       where

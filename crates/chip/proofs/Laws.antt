@@ -1,12 +1,12 @@
 -- Laws that the proofs of the code share: walks along latches, buffers and events.
 -- Assumes nothing.
-use Prim.Native.Nat.{ℕ, _+_, _≤_, _<_}
+use Prim.Native.Nat.{ℕ, suc, _+_, _≤_, _<_}
 use mathlib.Core.Path.{_≡_, _∙_, refl}
-use mathlib.Core.List.{List, _++_, append-nil}
-use mathlib.Core.Bool.{Bool, true, false, cond}
-use lib.Dec.{eqb}
+use mathlib.Core.List.{List, [], _∷_, _++_, append-nil}
+use mathlib.Core.Bool.{Bool, true, false}
+use lib.Dec.{eqb, ltb}
 use borrow.Author.Tests.{eqb-true, ltb-false, not-false}
-use Rattle.parts.proofs.Laws.{faultless}
+use Rattle.parts.proofs.Laws.{branch, faultless}
 use Rattle.parts.specs.declared.Facts.{Facts}
 use Rattle.parts.specs.declared.Verdict.the-variants.{Fine}
 use Rattle.state.specs.declared.Chip.{Chip}
@@ -17,11 +17,13 @@ use lib.ListN.{length, getD, take, drop, length-take, length-set, drop-of-length
 use lib.Seq.{drop-cons, getD-take, length-take-le}
 use Rattle.parts.specs.Table.{factsOf, idSizeOf, buffersRightOf}
 use Rattle.parts.specs.Events.{eventRightOf}
+use Rattle.parts.proofs.Tests.{both}
 use Rattle.chip.specs.declared.Scan.the-variants.{Clean, BadAt}
 use Rattle.chip.specs.Calls.{scanOf, deliverVerdictOf, runVerdictOf}
 use Rattle.line.specs.declared.Act.{Act}
 use Rattle.line.specs.declared.Act.the-variants.{Keep, Drop, Put}
-use Rattle.chip.specs.Memory.{oneOf, enteredOf, latchOf, noLatch}
+use Rattle.chip.specs.Memory.{Mem, oneOf, enteredOf, latchOf, noLatch}
+use Rattle.chip.specs.Runs.{levelsOf}
 
 module _ (s : List ℕ) (g i p : ℕ) (k : List ℕ) (hp : p ≤ length k) (hi : i < p) where
   pub enter-step : enteredOf (oneOf s (g + i) (getD k i 0)) (g + (i + 1)) (drop (i + 1) (take p k)) ≡ enteredOf s (g + i) (drop i (take p k))
@@ -66,10 +68,6 @@ coded-room part e = rw e
 
 -- ---- what a call that is not refused has
 
-both : (a b : Bool) → cond a b false ≡ true → (a ≡ true) × (b ≡ true)
-both true b h = (refl, h)
-both false b h = (h, cc)
-
 pub buffers-are : (f : Facts) (n d : ℕ) → buffersRightOf f n d ≡ true → (n ≡ f .size) × (d ≡ idSizeOf f)
 unfolding buffersRightOf
 buffers-are f n d h =
@@ -85,3 +83,18 @@ unfolding runVerdictOf
 run-fine part en c n d es room h =
     let l = faultless _ h in
     (ltb-false 32768 (length es) (l .many), ltb-false room (length es) (l .short))
+
+-- ---- lengths
+
+pub one-length : (s : List ℕ) (i x : ℕ) → length (oneOf s i x) ≡ length s
+unfolding oneOf
+one-length s i x = branch (λ (l : List ℕ). length l ≡ length s) (ltb x 256) (λ _. length-set s i x) (λ _. refl)
+
+pub entered-length : (s : List ℕ) (i : ℕ) (xs : List ℕ) → length (enteredOf s i xs) ≡ length s
+entered-length s i [] = refl
+entered-length s i (x ∷ xs) = entered-length (oneOf s i x) (suc i) xs ∙ one-length s i x
+
+pub levels-length : (f : Facts) (en : ℕ) (c : Chip) (m : Mem) (es : List ℕ) → length (levelsOf f en c m es) ≡ length es
+unfolding levelsOf
+levels-length f en c m [] = refl
+levels-length f en c m (e ∷ es) = rw (levels-length f en _ _ es)

@@ -17,6 +17,7 @@ use Rattle.parts.specs.declared.Event.the-variants.{Clock, Start, Stop}
 use Rattle.parts.specs.Events.{eventOf, eventRightOf}
 use Rattle.parts.specs.Bytes.{flagOf}
 use Rattle.parts.proofs.Bytes.{flag-in}
+use Rattle.parts.proofs.Laws.{clock-code}
 use Rattle.line.specs.declared.Target.{Target}
 use Rattle.line.specs.declared.Recv.{Recv}
 use Rattle.line.specs.declared.Cycle.{Cycle}
@@ -79,12 +80,6 @@ module _ (f : Facts) (m : Mem) (l : Line) where
   passes-ignored e h = ignored-in (l .phase) e refl h
 
 -- ---- codes of clocks
-
-clock-code : (e : ℕ) → e < 2 → eventOf e ≡ Clock (eqb e 1)
-unfolding eventOf
-clock-code zero h = refl
-clock-code (suc zero) h = refl
-clock-code (suc (suc e)) h = absurd (omega arith)
 
 -- ---- a bit that comes in
 

@@ -13,6 +13,7 @@ use Rattle.parts.specs.declared.Event.{Event}
 use Rattle.parts.specs.Table.{addressBytesOf}
 use Rattle.parts.specs.Events.{eventOf}
 use Rattle.parts.specs.Bytes.{flagOf}
+use Rattle.parts.proofs.Laws.{clock-code}
 use Rattle.line.specs.declared.Target.{Target}
 use Rattle.line.specs.declared.Target.the-variants.{Array, Ident}
 use Rattle.line.specs.declared.Recv.{Recv}
@@ -30,7 +31,7 @@ use Rattle.state.specs.declared.Chip.{Chip}
 use Rattle.chip.specs.Memory.{mem, chip, latchOf, noLatch, stateOf}
 use Rattle.chip.specs.Runs.{afterOf, cyclesOf}
 use Rattle.laws.specs.Bytes.{byteOf, Clocks}
-use Rattle.laws.proofs.Bytes.{taking, code-clock, bytes-are-clocks, cycles-append, clocks-quiet, byte-in}
+use Rattle.laws.proofs.Bytes.{taking, bytes-are-clocks, cycles-append, clocks-quiet, byte-in}
 use Rattle.cut.specs.Cut.{bytesOf, Bytes, sentBy, aboveOf, Permitted, CutByStop}
 
 -- a Stop after n clocks of bytes of which the first g are to pass before one begins a cycle
@@ -75,7 +76,7 @@ stop-inside f en c r k (suc i) zero x (y ∷ ys) h a b = absurd (omega arith)
 stop-inside f en c r k (suc i) (suc p) x (y ∷ ys) h a b =
     let d = chip (taking c r (suc p) x) k in
     let x′ = x % 128 * 2 + flagOf (eqb y 1) in
-    subst (λ (e : Event). begunOf (d .line) e + cyclesOf f en (stateOf f en d e) (ys ++ (3 ∷ [])) ≡ 0) (sym (code-clock y (h .0)))
+    subst (λ (e : Event). begunOf (d .line) e + cyclesOf f en (stateOf f en d e) (ys ++ (3 ∷ [])) ≡ 0) (sym (clock-code y (h .0)))
     (zero-plus (cyclesOf f en (chip (taking c r p x′) k) (ys ++ (3 ∷ []))) ∙ stop-inside f en c r k i p x′ ys (h .1) (omega arith) (omega arith))
 
 -- ---- the first clocks of a list

@@ -17,6 +17,7 @@ use Rattle.parts.specs.declared.Verdict.the-variants.{Fine, Refused as Judged}
 use Rattle.parts.specs.Table.{factsOf, idSizeOf, enableRightOf, buffersRightOf}
 use Rattle.parts.specs.Refusals.{givenOf}
 use Rattle.parts.proofs.Laws.{Faultless, faultless}
+use Rattle.parts.proofs.Tests.{both, neither}
 use Rattle.line.specs.declared.Target.{Target}
 use Rattle.line.specs.declared.Target.the-variants.{Array as TheArray, Ident as TheIdent}
 use Rattle.line.specs.declared.Phase.the-variants.{Idle}
@@ -54,14 +55,6 @@ either TheArray TheIdent = inr refl
 either TheIdent TheArray = inr refl
 either TheIdent TheIdent = inl refl
 
-or-no : (a b : Bool) → cond a true b ≡ false → (a ≡ false) × (b ≡ false)
-or-no true b e = absurd (false≢true (sym e))
-or-no false b e = (refl, e)
-
-and-yes : (a b : Bool) → cond a b false ≡ true → (a ≡ true) × (b ≡ true)
-and-yes true b e = (refl, e)
-and-yes false b e = absurd (false≢true e)
-
 right : (a : Bool) → cond a (not a) true ≡ false → a ≡ true
 right true e = refl
 right false e = absurd (false≢true (sym e))
@@ -95,15 +88,15 @@ module _ (r : Request) (d : ℕ) (c : Chip) (m : Mem) (ys : List ℕ) (k : Calle
 
   judged : judgeOf r ≡ Fine
   unfolding judgeOf givenOf faultsOf
-  judged = simp (none .part, enabled, none .beyond, or-no (limitOf (r .reads) (r .budget)) _ (none .limit) .0)
+  judged = simp (none .part, enabled, none .beyond, neither (limitOf (r .reads) (r .budget)) _ (none .limit) .0)
 
   low-d : 1 ≤ d
-  low-d = ltb-false d 1 (or-no (ltb d 1) _ (or-no (limitOf (r .reads) (r .budget)) _ (none .limit) .1) .0)
+  low-d = ltb-false d 1 (neither (ltb d 1) _ (neither (limitOf (r .reads) (r .budget)) _ (none .limit) .1) .0)
 
   sizes : (length (m .cells) ≡ factsOf (r .part) .size) × (length (m .ident) ≡ idSizeOf (factsOf (r .part)))
   unfolding buffersRightOf
   sizes =
-      let e = and-yes (eqb (length (m .cells)) (factsOf (r .part) .size)) _ (not-false _ (none .buffer)) in
+      let e = both (eqb (length (m .cells)) (factsOf (r .part) .size)) _ (not-false _ (none .buffer)) in
       (eqb-true _ _ (e .0), eqb-true _ _ (e .1))
 
   -- the buffer is long enough, and a write's is as long as asked

@@ -1,6 +1,6 @@
 -- The bytes that the driver sends are what the chip hears: select codes and addresses.
 -- Assumes nothing.
-use Prim.Native.Nat.{ℕ, suc, _+_, _-_, _*_, _/_, _%_, _^_, _≤_, _<_}
+use Prim.Native.Nat.{ℕ, _+_, _-_, _*_, _/_, _%_, _^_, _≤_, _<_}
 use mathlib.Core.Path.{_≡_, refl, sym, _∙_, ap, subst}
 use mathlib.Core.Bool.{Bool, true, false, cond, false≢true}
 use lib.ListN.{getD}
@@ -130,11 +130,6 @@ module _ (n : ℕ) where
   unfolding movedOf idSizeOf
   moved-last c (Array a) t = refl
   moved-last c (Ident i) t = simp t
-
-pub moved-later : (f : Facts) (c : Core) (t : Target) (k : ℕ) → movedOf f c t (suc k) ≡ c
-unfolding movedOf
-moved-later f c TheArray k = refl
-moved-later f c TheIdent k = refl
 
 -- ---- the register
 

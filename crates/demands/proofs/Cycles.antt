@@ -10,11 +10,12 @@ use lib.Dec.{eqb}
 use native.Mathlib.Omega.{arith}
 use Rattle.parts.specs.Events.{eventOf}
 use Rattle.parts.proofs.Laws.{branch}
+use Rattle.parts.proofs.Tests.{not-yes}
+use Rattle.laws.proofs.Bytes.{clock-begins}
 use Rattle.line.specs.declared.Line.{Line}
 use Rattle.line.specs.Rules.{begunOf}
 use Rattle.state.specs.declared.Chip.{Chip}
 use Rattle.chip.specs.Memory.{Mem}
-use Rattle.laws.proofs.Bytes.{code-clock}
 use Rattle.driver.specs.declared.Request.{Request}
 use Rattle.driver.specs.declared.Slot.{Slot}
 use Rattle.driver.specs.declared.Slot.the-variants.{Select, High, Low, Data, Poll, Turn, Take}
@@ -30,7 +31,7 @@ use Rattle.driver.specs.Request.{kOf}
 use Rattle.driver.specs.Step.{wireOf, byteOf, sentOf, bufferOf}
 use Rattle.driver_laws.specs.Where.{leftOf}
 use Rattle.driver_laws.proofs.View.{at, leads, Way, w-done, w-open, w-bit, w-ninth, w-got, w-nack, w-high, w-only, w-low, w-turn, w-data, w-more, w-close, w-drop, w-poll, w-again, w-give, w-page, w-take, w-next, w-end, w-over}
-use Rattle.driver_laws.proofs.Inv.{left-all, left-cut, Inv, inv-step, taken-elim, not-yes}
+use Rattle.driver_laws.proofs.Inv.{left-all, left-cut, Inv, inv-step, taken-elim}
 use Rattle.driver_laws.proofs.Grow.{bit-lt}
 use Rattle.bench.specs.Together.{System, answeredBy, askedOf, endedOf, togetherOf}
 use Rattle.demands.proofs.Rel.{Given, F, InHeard, Rel}
@@ -44,10 +45,6 @@ rests (Bits s b) = 0
 rests (Heard s) = 0
 rests Rest = 1
 rests (Over f) = 0
-
-clock-begun : (l : Line) (x : ℕ) → x < 2 → begunOf l (eventOf x) ≡ 0
-unfolding begunOf
-clock-begun l x h = ap (begunOf l) (code-clock x h)
 
 start-begun : (l : Line) → begunOf l (eventOf 2) ≡ 0
 unfolding begunOf eventOf
@@ -72,16 +69,16 @@ module _ (g : Given) (s : Sane g) (ch : Chip) (m : Mem) (c : Counts) (ys : List 
   begun-is : {p : Phase} {mv : Move} {zs : List ℕ} → Inv r p c → Rel g p c ys l (ch .latch) m v → Way r c v ys p mv zs → Begun mv (mv .answer)
   begun-is i o (w-done e) = tt
   begun-is i o (w-open f) = start-begun l
-  begun-is i o (w-bit sl b h) = clock-begun l _ (bit-lt (byteOf (wireOf (at r Ready c) (getD ys (c .at) 0)) sl) b)
-  begun-is i o (w-ninth sl b e h) = clock-begun l 1 (omega arith)
-  begun-is i o (w-got b e h) = clock-begun l _ (branch (λ (x : ℕ). x < 2) (eqb (c .at + 1) (r .length)) (λ _. omega arith) (λ _. omega arith))
+  begun-is i o (w-bit sl b h) = clock-begins l _ (bit-lt (byteOf (wireOf (at r Ready c) (getD ys (c .at) 0)) sl) b)
+  begun-is i o (w-ninth sl b e h) = clock-begins l 1 (omega arith)
+  begun-is i o (w-got b e h) = clock-begins l _ (branch (λ (x : ℕ). x < 2) (eqb (c .at + 1) (r .length)) (λ _. omega arith) (λ _. omega arith))
   begun-is i o (w-nack sl e h) = absurd (no-nack g s ch m c ys v sl e o h)
-  begun-is i o (w-high z e) = clock-begun l _ (bit-lt (byteOf (wireOf (at r Ready c) (getD ys (c .at) 0)) High) 0)
-  begun-is i o (w-only z e) = clock-begun l _ (bit-lt (byteOf (wireOf (at r Ready c) (getD ys (c .at) 0)) Low) 0)
-  begun-is i o (w-low z) = clock-begun l _ (bit-lt (byteOf (wireOf (at r Ready c) (getD ys (c .at) 0)) Low) 0)
+  begun-is i o (w-high z e) = clock-begins l _ (bit-lt (byteOf (wireOf (at r Ready c) (getD ys (c .at) 0)) High) 0)
+  begun-is i o (w-only z e) = clock-begins l _ (bit-lt (byteOf (wireOf (at r Ready c) (getD ys (c .at) 0)) Low) 0)
+  begun-is i o (w-low z) = clock-begins l _ (bit-lt (byteOf (wireOf (at r Ready c) (getD ys (c .at) 0)) Low) 0)
   begun-is i o (w-turn z e) = start-begun l
-  begun-is i o (w-data z e) = clock-begun l _ (bit-lt (byteOf (wireOf (at r Ready c) (getD ys (c .at) 0)) Data) 0)
-  begun-is i o (w-more z f) = clock-begun l _ (bit-lt (byteOf (wireOf (at r Ready c) (getD ys (c .at) 0)) Data) 0)
+  begun-is i o (w-data z e) = clock-begins l _ (bit-lt (byteOf (wireOf (at r Ready c) (getD ys (c .at) 0)) Data) 0)
+  begun-is i o (w-more z f) = clock-begins l _ (bit-lt (byteOf (wireOf (at r Ready c) (getD ys (c .at) 0)) Data) 0)
   begun-is i o (w-close z e) = go (o .place)
     where
       go : InHeard g Data c l (ch .latch) m v → begunOf l (eventOf 3) ≡ 1
@@ -104,8 +101,8 @@ module _ (g : Given) (s : Sane g) (ch : Chip) (m : Mem) (c : Counts) (ys : List 
       go : InHeard g Poll c l (ch .latch) m v → begunOf l (eventOf 3) ≡ 0
       go (inl (p, k)) = absurd (omega arith)
       go (inr (p, k)) = k-page g s ch m (λ n k y w q. q ≡ 0) (c .at) (c .seen) (same o) p (λ n u y. refl)
-  begun-is i o (w-take z) = clock-begun l _ (bit-lt (byteOf (wireOf (at r Ready c) (getD ys (c .at) 0)) Take) 0)
-  begun-is i o (w-next f) = clock-begun l _ (bit-lt (byteOf (wireOf (at r Ready c) (getD ys (c .at) 0)) Take) 0)
+  begun-is i o (w-take z) = clock-begins l _ (bit-lt (byteOf (wireOf (at r Ready c) (getD ys (c .at) 0)) Take) 0)
+  begun-is i o (w-next f) = clock-begins l _ (bit-lt (byteOf (wireOf (at r Ready c) (getD ys (c .at) 0)) Take) 0)
   begun-is i o (w-end e) = k-end g s ch m (λ n k y w q. q ≡ 0) (c .at) (same o) (o .place .last e) (o .place .mem) (λ n u y. refl)
   begun-is i o (w-over f) = tt
 

@@ -11,6 +11,7 @@ use Rattle.parts.specs.declared.Event.{Event}
 use Rattle.parts.specs.declared.Event.the-variants.{Ends}
 use Rattle.parts.specs.Events.{eventOf}
 use Rattle.parts.proofs.Bytes.{flag-in}
+use Rattle.parts.proofs.Laws.{clock-code}
 use Rattle.line.specs.declared.Target.{Target}
 use Rattle.line.specs.declared.Recv.{Recv}
 use Rattle.line.specs.declared.Cycle.{Cycle}
@@ -22,7 +23,6 @@ use Rattle.line.specs.declared.Line.{Line}
 use Rattle.line.specs.Rules.{at, opened, takenOf, landed, receivedOf, receiveActOf, receiveLevelOf, releasedIn, movedOf, sentOf, sendLevelOf, clockedOf, clockActOf, clockLevelOf, startedOf, startActOf, asksOf, placedOf, dueOf, stoppedBy, stopActBy, begunBy, stoppedOf, stopActOf, stopBegunOf, endedByOf, endedOf, endActOf, nextOf, actOf, levelOf, begunOf}
 use Rattle.state.specs.declared.Chip.{Chip}
 use Rattle.chip.specs.Memory.{Mem, noLatch, latchOf, cycleStoredOf, storedOf, storeOf, shownOf, seenOf, stateOf, answerOf}
-use Rattle.laws.proofs.Bytes.{code-clock}
 
 -- no cycle runs
 abbrev pub Free : Phase → Type 0
@@ -47,7 +47,7 @@ module _ (f : Facts) (en : ℕ) (c : Chip) (m : Mem) (Q : Line → List ℕ → 
       → After (eventOf x)
   unfolding stateOf storeOf answerOf nextOf actOf levelOf begunOf
   clock-heard x ph h e q =
-      subst After (sym (code-clock x h))
+      subst After (sym (clock-code x h))
       (subst (λ (p : Phase). Q (clockedOf f en (c .line) (eqb x 1) p) (latchOf (c .latch) (clockActOf f en (c .line) p)) m (clockLevelOf f en (c .line) (seenOf f (c .line) m p) p) 0) (sym e) q)
 
   -- one bit of a byte that is received

@@ -15,6 +15,8 @@ use borrow.Author.Tests.{eqb-true, eqb-false, lt-ltb}
 use Rattle.parts.specs.declared.Event.the-variants.{Ends}
 use Rattle.parts.specs.Events.{eventOf}
 use Rattle.parts.proofs.Laws.{sound, branch}
+use Rattle.parts.proofs.Tests.{not-yes}
+use Rattle.laws.proofs.Bytes.{moved-more}
 use Rattle.line.specs.declared.Pin.{Pin}
 use Rattle.line.specs.declared.Target.{Target}
 use Rattle.line.specs.declared.Target.the-variants.{Array as TheArray, Ident as TheIdent}
@@ -43,13 +45,13 @@ use Rattle.driver.specs.Step.{nameOf, selectAt, wireOf, bitOf, shiftOf, withByt
 use Rattle.driver.proofs.Facts.{enable-most, name-most, select-most}
 use Rattle.driver_laws.proofs.Split.{first-is}
 use Rattle.driver_laws.proofs.View.{leads, takes, clockOf, Way, w-done, w-open, w-bit, w-ninth, w-got, w-nack, w-high, w-only, w-low, w-turn, w-data, w-more, w-close, w-drop, w-poll, w-again, w-give, w-page, w-take, w-next, w-end, w-over}
-use Rattle.driver_laws.proofs.Inv.{stop, Inv, not-yes, less}
+use Rattle.driver_laws.proofs.Inv.{stop, Inv, less}
 use Rattle.driver_laws.proofs.Grow.{bit-lt}
 use Rattle.driver_laws.proofs.Bytes.{register, register-none, register-all, shift-next}
 use Rattle.demands.specs.Ground.{Bytes}
 use Rattle.demands.proofs.Hears.{Free, Deaf, After, bit-heard, ninth-heard, deaf-heard, sent-heard, end-heard, start-free, start-busy, stop-idle, stop-busy, stop-none, stop-begins, end-free, end-busy}
 use Rattle.demands.proofs.Wrote.{wrote, less-or-same, commit-none, commit-more, roll-next, cells-with, with-with}
-use Rattle.demands.proofs.Codes.{decode-hit, asks-none, first-wide, first-narrow, Placed, room-most, load-is, shown-is, moved-last, moved-later, register-step, inside-page}
+use Rattle.demands.proofs.Codes.{decode-hit, asks-none, first-wide, first-narrow, Placed, room-most, load-is, shown-is, moved-last, register-step, inside-page}
 use Rattle.line.specs.declared.Heard.{Heard as Named}
 use Rattle.line.specs.declared.Phase.{Phase as ChipPhase}
 use Rattle.line.specs.declared.After.{After as Outcome}
@@ -318,7 +320,7 @@ module _ (g : Given) (s : Sane g) where
         let e = moved-last (r .part) (l .core) (r .place) (s .good .there) in
         record { pin = ap (λ (c : Core). c .pin) e ∙ i .pin; lock = ap (λ (c : Core). c .locked) e ∙ i .lock }
     moved-same (suc k) n i =
-        let e = moved-later (F g) (l .core) (T g) k in
+        let e = moved-more (F g) (l .core) (T g) k in
         record { pin = ap (λ (c : Core). c .pin) e ∙ i .pin; lock = ap (λ (c : Core). c .locked) e ∙ i .lock }
 
     bit-is : (v b : ℕ) → b < 8 → bitOf v b ≡ v / 2 ^ (7 - b) % 2
@@ -331,7 +333,7 @@ module _ (g : Given) (s : Sane g) where
     unfolding sendLevelOf
     k-sent Q b a y x o h w lt i ph lf ct me re q =
         let byte = there g a in
-        let stay : (b + 1 < 8) → movedOf (F g) (l .core) (T g) (7 - b) .counter ≡ from g + a = λ k. (let z : 7 - b ≡ suc (6 - b) = omega arith in ap (λ (j : ℕ). movedOf (F g) (l .core) (T g) j .counter) z ∙ (ap (λ (c : Core). c .counter) (moved-later (F g) (l .core) (T g) (6 - b)) ∙ ct)) in
+        let stay : (b + 1 < 8) → movedOf (F g) (l .core) (T g) (7 - b) .counter ≡ from g + a = λ k. (let z : 7 - b ≡ suc (6 - b) = omega arith in ap (λ (j : ℕ). movedOf (F g) (l .core) (T g) j .counter) z ∙ (ap (λ (c : Core). c .counter) (moved-more (F g) (l .core) (T g) (6 - b)) ∙ ct)) in
         let go : (b + 1 ≡ 8) → movedOf (F g) (l .core) (T g) (7 - b) .counter ≡ (from g + a + 1) % roomOf (F g) (r .place) = λ k. (let z : 7 - b ≡ 0 = omega arith in ap (λ (j : ℕ). movedOf (F g) (l .core) (T g) j .counter) z ∙ (ap (λ (c : Core). c .counter) (moved-last (r .part) (l .core) (r .place) (s .good .there)) ∙ ap (λ (j : ℕ). (j + 1) % roomOf (F g) (r .place)) ct)) in
         let sh : shownOf (F g) (l .core .counter) m (T g) ≡ byte = ap (λ (j : ℕ). shownOf (F g) j m (T g)) ct ∙ (shown-is (r .part) m (r .place) (from g + a) (in-place a lt) ∙ ap (λ (k : Mem). getD (cellsOf (T g) k) (from g + a) 0) (me ∙ W-read a w)) in
         let back : b + 1 - 1 ≡ b = omega arith in

@@ -19,7 +19,8 @@ use Rattle.driver.specs.declared.Move.{Move}
 use Rattle.driver.specs.Step.{shiftOf, takenOf}
 use Rattle.driver_laws.specs.Run.{clockOfByte, toldByte}
 use Rattle.driver_laws.proofs.View.{takes, Way, w-done, w-open, w-bit, w-ninth, w-got, w-nack, w-high, w-only, w-low, w-turn, w-data, w-more, w-close, w-drop, w-poll, w-again, w-give, w-page, w-take, w-next, w-end, w-over}
-use Rattle.driver_laws.proofs.Inv.{Inv, less, not-yes}
+use Rattle.driver_laws.proofs.Inv.{Inv, less}
+use Rattle.parts.proofs.Tests.{not-yes}
 
 -- the first n bytes of the buffer were told
 abbrev pub Bytes : Request → ℕ → List ℕ → List ℕ → Type 0

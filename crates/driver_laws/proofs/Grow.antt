@@ -11,6 +11,7 @@ use native.Mathlib.Nat.{mod-lt}
 use borrow.Author.Tests.{lt-ltb, eq-eqb, ne-eqb}
 use Rattle.parts.specs.Table.{addressBytesOf}
 use Rattle.parts.proofs.Laws.{branch}
+use Rattle.parts.proofs.Tests.{not-yes}
 use Rattle.driver.specs.declared.Request.{Request}
 use Rattle.driver.specs.declared.Slot.{Slot}
 use Rattle.driver.specs.declared.Slot.the-variants.{Select, High, Low, Data, Poll, Turn, Take}
@@ -27,7 +28,7 @@ use Rattle.driver.specs.Step.{both, wireOf, byteOf, bitOf, goes, withByte}
 use Rattle.driver_laws.specs.Run.{addressBytes}
 use Rattle.driver_laws.specs.Where.{leftOf}
 use Rattle.driver_laws.proofs.View.{at, clockOf, leads, Way, w-done, w-open, w-bit, w-ninth, w-got, w-nack, w-high, w-only, w-low, w-turn, w-data, w-more, w-close, w-drop, w-poll, w-again, w-give, w-page, w-take, w-next, w-end, w-over}
-use Rattle.driver_laws.proofs.Inv.{wide, left-cut, Common, Closed, Inv, taken-elim, not-yes}
+use Rattle.driver_laws.proofs.Inv.{wide, left-cut, Common, Closed, Inv, taken-elim}
 
 abbrev pub A : Request → ℕ
 A r = addressBytes r

@@ -11,6 +11,7 @@ use native.Mathlib.Omega.{arith}
 use native.Mathlib.Nat.{mul-le-mul-right}
 use Rattle.parts.specs.Table.{factsOf}
 use Rattle.parts.proofs.Laws.{sound}
+use Rattle.parts.proofs.Tests.{not-yes}
 use Rattle.driver.specs.declared.Request.{Request}
 use Rattle.driver.specs.declared.Slot.{Slot}
 use Rattle.driver.specs.declared.Slot.the-variants.{Select, High, Low, Data, Poll, Turn, Take}
@@ -194,10 +195,6 @@ in-byte Data r c x v = v
 in-byte Poll r c x v = v
 in-byte Turn r c x v = v
 in-byte Take r c x v = v
-
-pub not-yes : (b : Bool) → not b ≡ true → b ≡ false
-not-yes true e = absurd (false≢true e)
-not-yes false e = refl
 
 -- the polls that a part may still take are there
 room-polls : (r : Request) (a s t q : ℕ) → Common r a s t q → s < r .length → t < B r → q + 1 ≤ all r

@@ -26,7 +26,8 @@ use Rattle.driver_laws.specs.Run.{sentBy}
 use Rattle.driver_laws.specs.Plan.{thenStart, thenStop, thenBits, thenByte, thenPolls, thenData, thenTaken, selectOf, thenSelect, thenHigh, thenHead, lengthOf, thenPart, thenParts, bytesOf, readPlan}
 use Rattle.driver_laws.specs.Where.{leftOf, Within, Parts, Before, Byte, the-select, the-high, the-low, the-turn, the-data, the-poll, Stopped}
 use Rattle.driver_laws.proofs.View.{at, clockOf, leads, Way, w-done, w-open, w-bit, w-ninth, w-got, w-nack, w-high, w-only, w-low, w-turn, w-data, w-more, w-close, w-drop, w-poll, w-again, w-give, w-page, w-take, w-next, w-end, w-over}
-use Rattle.driver_laws.proofs.Inv.{wide, stop, left-cut, Closed, Inv, taken-elim, not-yes}
+use Rattle.driver_laws.proofs.Inv.{wide, stop, left-cut, Closed, Inv, taken-elim}
+use Rattle.parts.proofs.Tests.{not-yes}
 
 -- ---- the events before the byte of a slot, after it, and at a phase; past: those before the part
 module _ (r : Request) (xs past : List ℕ) (a s t : ℕ) where

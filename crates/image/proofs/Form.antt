@@ -11,18 +11,22 @@ use lib.Dec.{eqb, ltb, leb}
 use borrow.Author.Tests.{eqb-true, eq-eqb, le-ltb, lt-ltb}
 use Rattle.parts.specs.declared.Facts.{Facts}
 use Rattle.parts.specs.declared.Verdict.the-variants.{Fine}
-use Rattle.parts.specs.Table.{factsOf, idSizeOf, enableRightOf, buffersRightOf}
+use Rattle.parts.specs.Table.{factsOf, enableRightOf}
 use Rattle.parts.specs.Sound.{Sound}
 use Rattle.parts.specs.Refusals.{givenOf}
+use Rattle.parts.proofs.Tests.{both}
+use Rattle.parts.proofs.Laws.{buffers-right}
+use Rattle.parts.specs.Bytes.{flagOf}
+use Rattle.parts.proofs.Bytes.{flag-back}
 use Rattle.line.specs.declared.Pin.the-variants.{Absent, Floating}
 use Rattle.state.specs.declared.Chip.{Chip}
 use Rattle.state.specs.Range.{emptyOf, marksRightOf, pinRightOf, lockRightOf, phaseRightOf, restRightOf, inRangeOf}
 use Rattle.chip.specs.Memory.{Mem, noLatch}
 use Rattle.chip.specs.Delivery.{pinAtFirstOf, standbyOf}
-use Rattle.image.specs.Layout.{lockByteOf, headOf, imageOf, imageLengthOf, partIn, lockIn, storedIn, markRightOf, lockByteRightOf, formedOf}
+use Rattle.image.specs.Layout.{headOf, imageOf, imageLengthOf, partIn, lockIn, storedIn, markRightOf, lockByteRightOf, formedOf}
 use Rattle.image.specs.Calls.{saveVerdictOf, judgedOf, loadVerdictOf}
 use Rattle.image.specs.Promises.{Fits}
-use Rattle.image.proofs.Laws.{both, CanLoad}
+use Rattle.image.proofs.Laws.{CanLoad}
 
 -- ---- an image taken apart
 
@@ -35,14 +39,9 @@ module _ (part : ℕ) (lock : Bool) (m : Mem) where
   unfolding markRightOf imageOf
   mark-of-image = refl
 
-  pub flag-of-image : getD (imageOf part lock m) 6 0 ≡ lockByteOf lock
+  pub flag-of-image : getD (imageOf part lock m) 6 0 ≡ flagOf lock
   unfolding imageOf
   flag-of-image = refl
-
-flag-back : (lock : Bool) → eqb (lockByteOf lock) 1 ≡ lock
-unfolding lockByteOf
-flag-back true = refl
-flag-back false = refl
 
 pub lock-of-image : (part : ℕ) (lock : Bool) (m : Mem) → lockIn (imageOf part lock m) ≡ lock
 unfolding lockIn
@@ -61,14 +60,10 @@ stored-of-image part lock m t =
 
 -- ---- it is accepted
 
-lockable-right : (f : Facts) (lock : Bool) → (lock ≡ true → f .ident ≡ true) → lockByteRightOf f (lockByteOf lock) ≡ true
-unfolding lockByteRightOf lockByteOf
+lockable-right : (f : Facts) (lock : Bool) → (lock ≡ true → f .ident ≡ true) → lockByteRightOf f (flagOf lock) ≡ true
+unfolding lockByteRightOf
 lockable-right f true h = h refl
 lockable-right f false h = refl
-
-buffers-right : (f : Facts) (n d : ℕ) → n ≡ f .size → d ≡ idSizeOf f → buffersRightOf f n d ≡ true
-unfolding buffersRightOf
-buffers-right f n d a b = rw (eq-eqb n (f .size) a, eq-eqb d (idSizeOf f) b)
 
 module _ (part : ℕ) (lock : Bool) (m : Mem) (known : factsOf part .known ≡ true) (t : Fits part m) (h : lock ≡ true → factsOf part .ident ≡ true) where
   formed : formedOf (factsOf part) (imageOf part lock m) ≡ true
@@ -97,11 +92,11 @@ seven l h =
     ∙ ap (λ (t : List ℕ). getD l 4 0 ∷ t) (at 5 (omega arith)
     ∙ ap (λ (t : List ℕ). getD l 5 0 ∷ t) (at 6 (omega arith)))))))
 
-flag-known : (f : Facts) (b : ℕ) → lockByteRightOf f b ≡ true → b ≡ lockByteOf (eqb b 1)
-unfolding lockByteRightOf lockByteOf
+flag-known : (f : Facts) (b : ℕ) → lockByteRightOf f b ≡ true → b ≡ flagOf (eqb b 1)
+unfolding lockByteRightOf
 flag-known f b h = by (eqb b 0) (eqb b 1) refl refl h
   where
-    by : (x y : Bool) → eqb b 0 ≡ x → eqb b 1 ≡ y → cond x true (cond y (f .ident) false) ≡ true → b ≡ cond y 1 0
+    by : (x y : Bool) → eqb b 0 ≡ x → eqb b 1 ≡ y → cond x true (cond y (f .ident) false) ≡ true → b ≡ flagOf y
     by true true p q k = eqb-true b 1 q
     by true false p q k = eqb-true b 0 p
     by false true p q k = eqb-true b 1 q

@@ -22,7 +22,7 @@ use Rattle.image.proofs.Laws.{load-fine, CanLoad}
 use Rattle.image.proofs.Form.{part-of-image, lock-of-image, length-of-image, stored-of-image, accepted, stored-fits, is-image, lock-allowed, standby-in-range, range-lockable, saves}
 
 -- the verdict that is answered is the one that was judged
-load-verdict : (l : List ℕ) (v : Verdict) → loadBy l v .verdict ≡ v
+pub load-verdict : (l : List ℕ) (v : Verdict) → loadBy l v .verdict ≡ v
 load-verdict l Fine = refl
 load-verdict l (Refused r) = refl
 

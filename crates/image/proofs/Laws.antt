@@ -12,11 +12,10 @@ use lib.Seq.{paste, paste-suc, take-all, take-at, drop-append-add, drop-drop}
 use lib.Dec.{ltb, eqb}
 use borrow.Author.Tests.{eqb-true, ltb-false, not-false}
 use Rattle.parts.specs.declared.Facts.{Facts}
-use Rattle.parts.specs.declared.Refusal.{Refusal}
-use Rattle.parts.specs.declared.Verdict.{Verdict}
-use Rattle.parts.specs.declared.Verdict.the-variants.{Fine, Refused}
+use Rattle.parts.specs.declared.Verdict.the-variants.{Fine}
 use Rattle.parts.specs.Table.{factsOf, idSizeOf, enableRightOf}
-use Rattle.parts.proofs.Laws.{faultless}
+use Rattle.parts.proofs.Laws.{faultless, passed}
+use Rattle.parts.proofs.Tests.{both}
 use Rattle.state.specs.declared.Chip.{Chip}
 use Rattle.state.specs.Range.{inRangeOf}
 use Rattle.chip.specs.Memory.{mem}
@@ -87,14 +86,6 @@ part-ident f l s n e h =
     rw (take-all (length l - (7 + n)) (drop (7 + n) l) short, ← e) (put-whole s (drop (7 + n) l) long)
 
 -- ---- what a call that is not refused has
-
-pub both : (a b : Bool) → cond a b false ≡ true → (a ≡ true) × (b ≡ true)
-both true b h = (refl, h)
-both false b h = (h, cc)
-
-passed : (b : Bool) (r : Refusal) (v : Verdict) → cond b (Refused r) v ≡ Fine → (b ≡ false) × (v ≡ Fine)
-passed true r v h = let z : _≡_ {A = ℕ} 0 1 = cc in absurd (omega arith)
-passed false r v h = (refl, h)
 
 pub id-most : (f : Facts) → f .page ≤ 64 → idSizeOf f ≤ 64
 unfolding idSizeOf

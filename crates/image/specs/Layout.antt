@@ -7,17 +7,14 @@ use lib.ListN.{length, getD, take, drop}
 use lib.Dec.{eqb}
 use Rattle.parts.specs.declared.Facts.{Facts}
 use Rattle.parts.specs.Table.{idSizeOf}
+use Rattle.parts.specs.Bytes.{flagOf}
 use Rattle.chip.specs.Memory.{Mem, mem}
 
 -- ---- what is written
 
--- "lock (0 or 1)"
-unfoldable pub lockByteOf : Bool → ℕ
-lockByteOf lock = cond lock 1 0
-
--- mark `EPR`, version 0001h high byte first, part, lock
+-- mark `EPR`, version 0001h high byte first, part, lock (0 or 1)
 abbrev pub headOf : ℕ → Bool → List ℕ
-headOf part lock = 0x45 ∷ 0x50 ∷ 0x52 ∷ 0x00 ∷ 0x01 ∷ part ∷ lockByteOf lock ∷ []
+headOf part lock = 0x45 ∷ 0x50 ∷ 0x52 ∷ 0x00 ∷ 0x01 ∷ part ∷ flagOf lock ∷ []
 
 -- then the array and the identification page
 unfoldable pub imageOf : ℕ → Bool → Mem → List ℕ

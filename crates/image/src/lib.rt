@@ -5,7 +5,7 @@ ghost use lib.ListN.{length, drop};
 ghost use mathlib.Core.List.{_++_};
 ghost use Rattle.parts.specs.Table.{factsOf};
 ghost use Rattle.chip.specs.Memory.{mem};
-ghost use Rattle.image.specs.Layout.{lockByteOf, headOf, imageOf, imageLengthOf, putOf, partIn, lockIn, storedIn, markRightOf, lockByteRightOf, formedOf};
+ghost use Rattle.image.specs.Layout.{headOf, imageOf, imageLengthOf, putOf, partIn, lockIn, storedIn, markRightOf, lockByteRightOf, formedOf};
 ghost use Rattle.image.specs.Calls.{saveVerdictOf, judgedOf, loadVerdictOf, saving, loading};
 use parts::Faults;
 use parts::Refusal;
@@ -48,16 +48,10 @@ fn image_length(part: u8) -> usize
 
 // ---- saving
 
-fn lock_byte(lock: bool) -> u8
-    ensures { λ r. ⌜ r ≡ lockByteOf lock ⌝ }
-{
-    if lock { 1 } else { 0 }
-}
-
 fn head(part: u8, lock: bool) -> [u8; 7]
     ensures { λ r. ⌜ r ≡ headOf part lock ⌝ }
 {
-    let flag = lock_byte(lock);
+    let flag = parts::flag(lock);
     [0x45, 0x50, 0x52, 0x00, 0x01, part, flag]
 }
 

@@ -16,6 +16,7 @@ use Rattle.parts.specs.declared.Event.the-variants.{Clock}
 use Rattle.parts.specs.Events.{eventOf}
 use Rattle.parts.specs.Bytes.{flagOf}
 use Rattle.parts.proofs.Bytes.{flag-below, flag-in}
+use Rattle.parts.proofs.Laws.{clock-code}
 use Rattle.line.specs.declared.Target.{Target}
 use Rattle.line.specs.declared.Target.the-variants.{Array, Ident}
 use Rattle.line.specs.declared.Recv.{Recv}
@@ -76,13 +77,6 @@ after-is-line f en l k (x ∷ xs) = after-is-line f en (nextOf f en l (eventOf x
 
 -- ---- codes of clocks
 
--- 0 and 1 are clocks
-pub code-clock : (x : ℕ) → x < 2 → eventOf x ≡ Clock (eqb x 1)
-unfolding eventOf
-code-clock zero h = refl
-code-clock (suc zero) h = refl
-code-clock (suc (suc x)) h = absurd (omega arith)
-
 pub code-of : (v : Bool) → eventOf (flagOf v) ≡ Clock v
 unfolding eventOf
 code-of true = refl
@@ -112,12 +106,12 @@ next-bit : (f : Facts) (en : ℕ) (c : Core) (r : Recv) (k x y : ℕ) → y < 2 
     → nextOf f en (taking c r (suc k) x) (eventOf y) ≡ taking c r k (x * 2 + y)
 unfolding nextOf clockedOf receivedOf
 next-bit f en c r k x y h small =
-    ap (nextOf f en (taking c r (suc k) x)) (code-clock y h)
+    ap (nextOf f en (taking c r (suc k) x)) (clock-code y h)
     ∙ ap (taking c r k) (omega (arith, mod-eq-of-lt small, flag-in y h))
 
 act-bit : (f : Facts) (en : ℕ) (c : Core) (r : Recv) (k x y : ℕ) → y < 2 → actOf f en (taking c r (suc k) x) (eventOf y) ≡ Keep
 unfolding actOf clockActOf receiveActOf
-act-bit f en c r k x y h = ap (actOf f en (taking c r (suc k) x)) (code-clock y h)
+act-bit f en c r k x y h = ap (actOf f en (taking c r (suc k) x)) (clock-code y h)
 
 shift-value : (x k b : ℕ) → (x * 2 + b / 2 ^ k % 2) * 2 ^ k + b % 2 ^ k ≡ x * 2 ^ suc k + b % 2 ^ suc k
 shift-value x k b =
@@ -176,11 +170,11 @@ line-in f en c r b v h =
 
 clock-stores : (f : Facts) (c : Chip) (m : Mem) (x : ℕ) → x < 2 → storeOf f c m (eventOf x) ≡ m
 unfolding storeOf
-clock-stores f c m x h = ap (storeOf f c m) (code-clock x h)
+clock-stores f c m x h = ap (storeOf f c m) (clock-code x h)
 
-clock-begins : (l : Line) (x : ℕ) → x < 2 → begunOf l (eventOf x) ≡ 0
+pub clock-begins : (l : Line) (x : ℕ) → x < 2 → begunOf l (eventOf x) ≡ 0
 unfolding begunOf
-clock-begins l x h = ap (begunOf l) (code-clock x h)
+clock-begins l x h = ap (begunOf l) (clock-code x h)
 
 pub clocks-quiet : ClocksQuiet
 unfolding memoryOf cyclesOf
@@ -202,7 +196,7 @@ levels-in f en c r k m zero x (y ∷ ys) h = absurd h
 levels-in f en c r k m (suc n) x [] h = absurd h
 levels-in f en c r k m (suc n) x (y ∷ ys) h =
     let d = chip (taking c r (suc n) x) k in
-    subst (λ (e : Event). answerOf f en d m e ∷ levelsOf f en (stateOf f en d e) (storeOf f d m e) ys ≡ 1 ∷ replicate n 1) (sym (code-clock y (h .0)))
+    subst (λ (e : Event). answerOf f en d m e ∷ levelsOf f en (stateOf f en d e) (storeOf f d m e) ys ≡ 1 ∷ replicate n 1) (sym (clock-code y (h .0)))
     (ap (λ (l : List ℕ). 1 ∷ l) (levels-in f en c r k m n (x % 128 * 2 + flagOf (eqb y 1)) ys (h .1)))
 
 pub eight-after : (f : Facts) (en : ℕ) (c : Core) (r : Recv) (k : List ℕ) (b : ℕ) → b < 256
@@ -240,14 +234,14 @@ sending c t k = record { core = c; phase = Send t; left = k; shift = 0 }
 
 next-sent : (f : Facts) (en : ℕ) (c : Core) (t : Target) (k x : ℕ) → x < 2 → nextOf f en (sending c t (suc k)) (eventOf x) ≡ sending (movedOf f c t k) t k
 unfolding nextOf clockedOf sentOf
-next-sent f en c t k x h = ap (nextOf f en (sending c t (suc k))) (code-clock x h)
+next-sent f en c t k x h = ap (nextOf f en (sending c t (suc k))) (clock-code x h)
 
 act-sent : (f : Facts) (en : ℕ) (c : Core) (t : Target) (k x : ℕ) → x < 2 → actOf f en (sending c t k) (eventOf x) ≡ Keep
 unfolding actOf clockActOf
-act-sent f en c t k x h = ap (actOf f en (sending c t k)) (code-clock x h)
+act-sent f en c t k x h = ap (actOf f en (sending c t k)) (clock-code x h)
 
 -- only the eighth bit moves the counter
-moved-more : (f : Facts) (c : Core) (t : Target) (k : ℕ) → movedOf f c t (suc k) ≡ c
+pub moved-more : (f : Facts) (c : Core) (t : Target) (k : ℕ) → movedOf f c t (suc k) ≡ c
 unfolding movedOf
 moved-more f c Array k = refl
 moved-more f c Ident k = refl
@@ -290,7 +284,7 @@ line-out f en c t xs v h =
 level-sent : (f : Facts) (en : ℕ) (c : Core) (t : Target) (k : List ℕ) (m : Mem) (n x : ℕ) → x < 2
     → answerOf f en (chip (sending c t (suc n)) k) m (eventOf x) ≡ shownOf f (c .counter) m t / 2 ^ n % 2
 unfolding answerOf seenOf levelOf clockLevelOf sendLevelOf
-level-sent f en c t k m n x h = ap (answerOf f en (chip (sending c t (suc n)) k) m) (code-clock x h)
+level-sent f en c t k m n x h = ap (answerOf f en (chip (sending c t (suc n)) k) m) (clock-code x h)
 
 state-sent : (f : Facts) (en : ℕ) (c : Core) (t : Target) (k : List ℕ) (n x : ℕ) → x < 2
     → stateOf f en (chip (sending c t (suc (suc n))) k) (eventOf x) ≡ chip (sending c t (suc n)) k
@@ -363,8 +357,8 @@ deaf-clock : (f : Facts) (en : ℕ) (c : Chip) (m : Mem) (x : ℕ) → x < 2 →
     → (stateOf f en c (eventOf x) ≡ c) × (answerOf f en c m (eventOf x) ≡ 1)
 unfolding stateOf nextOf actOf answerOf levelOf
 deaf-clock f en c m x s h = (
-  ap (stateOf f en c) (code-clock x s) ∙ deaf-state f en (c .line) (c .latch) (eqb x 1) (c .line .phase) h,
-  ap (answerOf f en c m) (code-clock x s) ∙ deaf-level f en (c .line) (seenOf f (c .line) m (c .line .phase)) (c .line .phase) h,
+  ap (stateOf f en c) (clock-code x s) ∙ deaf-state f en (c .line) (c .latch) (eqb x 1) (c .line .phase) h,
+  ap (answerOf f en c m) (clock-code x s) ∙ deaf-level f en (c .line) (seenOf f (c .line) m (c .line .phase)) (c .line .phase) h,
 )
 
 pub clocks-ignored : ClocksIgnored

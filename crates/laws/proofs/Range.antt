@@ -18,6 +18,7 @@ use Rattle.parts.specs.Sound.{Sound}
 use Rattle.parts.specs.Events.{eventOf, eventRightOf}
 use Rattle.parts.proofs.Laws.{branch, sound}
 use Rattle.parts.proofs.Bytes.{flag-below}
+use Rattle.parts.proofs.Tests.{both, not-yes}
 use Rattle.line.specs.declared.Pin.{Pin}
 use Rattle.line.specs.declared.Pin.the-variants.{Absent, Low, High, Floating}
 use Rattle.line.specs.declared.Target.{Target}
@@ -53,10 +54,6 @@ no-way e = let z : _≡_ {A = ℕ} 0 1 = cc in absurd (omega arith)
 not-ident {ℓ} : {A : Type ℓ} → Array ≡ Ident → A
 not-ident e = let z : _≡_ {A = ℕ} 0 1 = cc in absurd (omega arith)
 
-both : (a b : Bool) → cond a b false ≡ true → (a ≡ true) × (b ≡ true)
-both true b h = (refl, h)
-both false b h = no-way h
-
 pub or-no : (a b : Bool) → (a || b) ≡ false → (a ≡ false) × (b ≡ false)
 or-no true b e = no-way (sym e)
 or-no false b e = (refl, e)
@@ -69,10 +66,6 @@ when false b h e = no-way e
 unless : (a b : Bool) → (a ≡ true → b ≡ true) → cond a b true ≡ true
 unless true b h = h refl
 unless false b h = refl
-
-not-off : (a : Bool) → not a ≡ true → a ≡ false
-not-off true e = sym e
-not-off false e = refl
 
 is-off : (a : Bool) → a ≡ false → not a ≡ true
 is-off true e = sym e
@@ -380,7 +373,7 @@ module _ (f : Facts) (s : Sound f) where
 module _ (f : Facts) where
   pin-in : (v : Pin) → pinRightOf f v ≡ true → PinOk f v
   unfolding pinRightOf
-  pin-in Absent h = not-off (f .pin) h
+  pin-in Absent h = not-yes (f .pin) h
   pin-in Low h = h
   pin-in High h = h
   pin-in Floating h = h
@@ -444,7 +437,7 @@ module _ (f : Facts) where
     unfolding unlockedRightOf
     unlocked-in h =
         let w = both (locationRightOf f c Ident) (not (c .locked)) h in
-        (location-in (w .0), not-off (c .locked) (w .1))
+        (location-in (w .0), not-yes (c .locked) (w .1))
 
     unlocked-out : Unlocked f c → unlockedRightOf f c ≡ true
     unfolding unlockedRightOf

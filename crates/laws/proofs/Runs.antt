@@ -2,10 +2,10 @@
 -- Assumes nothing.
 use Prim.Native.Nat.{ℕ, suc, _+_, _≤_}
 use native.Mathlib.Omega.{arith}
-use mathlib.Core.Path.{_≡_, refl, sym, ap, _∙_}
+use mathlib.Core.Path.{_≡_, refl, sym, ap}
 use mathlib.Core.Bool.{Bool, true, false, not, cond}
 use mathlib.Core.List.{List, [], _∷_, _++_}
-use lib.ListN.{length, drop, take, length-set}
+use lib.ListN.{length, drop, take}
 use lib.Dec.{ltb}
 use borrow.Author.Tests.{le-ltb, ltb-false, not-false}
 use Rattle.parts.specs.declared.Facts.{Facts}
@@ -17,7 +17,8 @@ use Rattle.parts.specs.declared.Event.{Event}
 use Rattle.parts.specs.Table.{factsOf, enableRightOf, buffersRightOf}
 use Rattle.parts.specs.Events.{eventOf, eventRightOf}
 use Rattle.parts.specs.Refusals.{givenOf}
-use Rattle.parts.proofs.Laws.{branch, sound}
+use Rattle.parts.proofs.Laws.{branch, sound, passed}
+use Rattle.chip.proofs.Laws.{entered-length}
 use Rattle.line.specs.declared.Target.the-variants.{Array, Ident}
 use Rattle.line.specs.declared.Cycle.the-variants.{Writing, Locking}
 use Rattle.line.specs.declared.Phase.{Phase}
@@ -27,7 +28,7 @@ use Rattle.line.specs.Rules.{begunOf}
 use Rattle.state.specs.declared.Chip.{Chip}
 use Rattle.state.specs.Range.{inRangeOf}
 use Rattle.chip.specs.declared.Scan.the-variants.{BadAt}
-use Rattle.chip.specs.Memory.{Mem, oneOf, enteredOf, pageStartOf, committedOf, cycleStoredOf, storedOf, isEnd, storeOf, stateOf, answerOf}
+use Rattle.chip.specs.Memory.{Mem, pageStartOf, committedOf, cycleStoredOf, storedOf, isEnd, storeOf, stateOf, answerOf}
 use Rattle.chip.specs.Runs.{afterOf, memoryOf, levelsOf, cyclesOf}
 use Rattle.chip.specs.Calls.{stepVerdictOf, stepBy, stepMem, scanOf, isBad, placeOf, runVerdictOf, runBy, runMem, runAnswers}
 use Rattle.laws.specs.Range.{Typed, AllTaken}
@@ -38,10 +39,6 @@ use Rattle.laws.proofs.Range.{no-way, takes, range-next}
 
 refused-not {ℓ} : {A : Type ℓ} {r : Refusal} → Refused r ≡ Fine → A
 refused-not e = let z : _≡_ {A = ℕ} 0 1 = cc in absurd (omega arith)
-
-pass : (b : Bool) (r : Refusal) (v : Verdict) → cond b (Refused r) v ≡ Fine → (b ≡ false) × (v ≡ Fine)
-pass true r v e = refused-not e
-pass false r v e = (refl, e)
 
 -- what both calls judge and no event changes, and the range
 pub record Accepted (part enable : ℕ) (c : Chip) (m : Mem) : Type 0 where
@@ -88,13 +85,13 @@ run-begun part en c m es room h =
     let st : Verdict = cond (not (inRangeOf f c)) (Refused BadState) mn in
     let bf : Verdict = cond (not (buffersRightOf f (length (m .cells)) (length (m .ident)))) (Refused WrongBuffer) st in
     let nb : Verdict = cond (not (enableRightOf f en)) (Refused WrongEnable) bf in
-    let a = pass (not (f .known)) NoPart nb h in
-    let b = pass (not (enableRightOf f en)) WrongEnable bf (a .1) in
-    let d = pass (not (buffersRightOf f (length (m .cells)) (length (m .ident)))) WrongBuffer st (b .1) in
-    let g = pass (not (inRangeOf f c)) BadState mn (d .1) in
-    let k = pass (ltb 32768 (length es)) TooMany ev (g .1) in
-    let l = pass (isBad sc) (BadEvent (placeOf sc)) sh (k .1) in
-    let o = pass (ltb room (length es)) ShortBuffer Fine (l .1) in
+    let a = passed (not (f .known)) NoPart nb h in
+    let b = passed (not (enableRightOf f en)) WrongEnable bf (a .1) in
+    let d = passed (not (buffersRightOf f (length (m .cells)) (length (m .ident)))) WrongBuffer st (b .1) in
+    let g = passed (not (inRangeOf f c)) BadState mn (d .1) in
+    let k = passed (ltb 32768 (length es)) TooMany ev (g .1) in
+    let l = passed (isBad sc) (BadEvent (placeOf sc)) sh (k .1) in
+    let o = passed (ltb room (length es)) ShortBuffer Fine (l .1) in
     record { accepted = record { known = not-false (f .known) (a .0); enabled = not-false (enableRightOf f en) (b .0); buffers = not-false (buffersRightOf f (length (m .cells)) (length (m .ident))) (d .0); range = not-false (inRangeOf f c) (g .0) }; few = ltb-false 32768 (length es) (k .0); taken = scan-taken f 0 es (l .0); fits = ltb-false room (length es) (o .0) }
 
 pub begun-run : (part en : ℕ) (c : Chip) (m : Mem) (es : List ℕ) (room : ℕ) → Begun part en c m es room
@@ -105,14 +102,6 @@ begun-run part en c m es room b =
     rw (a .enabled, a .buffers, a .range, le-ltb 32768 (length es) (b .few), taken-scan (factsOf part) 0 es (b .taken), le-ltb room (length es) (b .fits), a .known) refl
 
 -- ---- an event keeps the lengths of what is stored
-
-one-length : (s : List ℕ) (at x : ℕ) → length (oneOf s at x) ≡ length s
-unfolding oneOf
-one-length s at x = branch (λ (l : List ℕ). length l ≡ length s) (ltb x 256) (λ _. length-set s at x) (λ _. refl)
-
-entered-length : (s : List ℕ) (at : ℕ) (xs : List ℕ) → length (enteredOf s at xs) ≡ length s
-entered-length s at [] = refl
-entered-length s at (x ∷ xs) = entered-length (oneOf s at x) (suc at) xs ∙ one-length s at x
 
 abbrev pub SameLengths : Mem → Mem → Type 0
 SameLengths m n = (length (n .cells) ≡ length (m .cells)) × (length (n .ident) ≡ length (m .ident))

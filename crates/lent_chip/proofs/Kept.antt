@@ -7,13 +7,12 @@ use mathlib.Core.List.{List}
 use lib.ListN.{length}
 use lib.Dec.{eqb}
 use borrow.Author.Tests.{eq-eqb, eqb-true}
-use Rattle.parts.specs.declared.Facts.{Facts}
 use Rattle.parts.specs.declared.Refusal.the-variants.{NoPart, WrongEnable, WrongBuffer, BadState}
 use Rattle.parts.specs.declared.Verdict.{Verdict}
 use Rattle.parts.specs.declared.Verdict.the-variants.{Fine, Refused}
-use Rattle.parts.specs.Table.{factsOf, idSizeOf, buffersRightOf, enableRightOf}
+use Rattle.parts.specs.Table.{factsOf, buffersRightOf, enableRightOf}
 use Rattle.parts.specs.Refusals.{verdictNumberOf, givenOf}
-use Rattle.parts.proofs.Laws.{branch, fine}
+use Rattle.parts.proofs.Laws.{branch, fine, buffers-right}
 use Rattle.state.specs.declared.Chip.{Chip}
 use Rattle.state.specs.Range.{inRangeOf}
 use Rattle.chip.specs.Memory.{Mem}
@@ -99,10 +98,6 @@ deliver-holds part s m h =
 
 -- ---- bytes that hold no state
 
-lent : (f : Facts) (n d : ℕ) → n ≡ f .size → d ≡ idSizeOf f → buffersRightOf f n d ≡ true
-unfolding buffersRightOf
-lent f n d e h = rw (eq-eqb n (f .size) e, eq-eqb d (idSizeOf f) h) refl
-
 fourth : (a b c d : Bool) (v : Verdict) → a ≡ false → b ≡ false → c ≡ false → d ≡ true
     → cond a (Refused NoPart) (cond b (Refused WrongEnable) (cond c (Refused WrongBuffer) (cond d (Refused BadState) v))) ≡ Refused BadState
 fourth a b c d v e f g h = rw (e, f, g, h) refl
@@ -114,7 +109,7 @@ step-refuses-4 part enable s m e k n a d h =
     fourth (not (factsOf part .known)) (not (enableRightOf (factsOf part) enable)) (not (buffersRightOf (factsOf part) (length (m .cells)) (length (m .ident)))) (not (inRangeOf (factsOf part) (unpackedOf s))) _
     (ap not k)
     (ap not n)
-    (ap not (lent (factsOf part) (length (m .cells)) (length (m .ident)) a d))
+    (ap not (buffers-right (factsOf part) (length (m .cells)) (length (m .ident)) a d))
     (ap not (refuses-others s h part)) in
     ap (λ (w : Verdict). verdictNumberOf (stepBy (factsOf part) enable (unpackedOf s) m e w .verdict)) v
 
@@ -125,6 +120,6 @@ run-refuses-4 part enable s m es a k n b d h =
     fourth (not (factsOf part .known)) (not (enableRightOf (factsOf part) enable)) (not (buffersRightOf (factsOf part) (length (m .cells)) (length (m .ident)))) (not (inRangeOf (factsOf part) (unpackedOf s))) _
     (ap not k)
     (ap not n)
-    (ap not (lent (factsOf part) (length (m .cells)) (length (m .ident)) b d))
+    (ap not (buffers-right (factsOf part) (length (m .cells)) (length (m .ident)) b d))
     (ap not (refuses-others s h part)) in
     ap (λ (w : Verdict). verdictNumberOf (runBy (factsOf part) enable (unpackedOf s) es w .verdict)) v

@@ -13,6 +13,8 @@ use Rattle.parts.specs.declared.Verdict.the-variants.{Fine, Refused as Judged}
 use Rattle.parts.specs.Refusals.{verdictNumberOf}
 use Rattle.parts.specs.Bytes.{AllBelow}
 use Rattle.parts.proofs.Laws.{branch, fine}
+use Rattle.parts.proofs.Tests.{either}
+use Rattle.pack_driver.proofs.Laws.{holds-length}
 use Rattle.driver.specs.declared.Request.{Request}
 use Rattle.driver.specs.declared.Driver.{Driver}
 use Rattle.driver.specs.declared.Asked.{Asked}
@@ -21,16 +23,12 @@ use Rattle.driver.proofs.Facts.{good-request, reach}
 use Rattle.driver.specs.Step.{fine as judged, fresh, rangeOf, nextOf, bufferOf, stepOf}
 use Rattle.pack_driver.specs.Layout.{packedLength, wordEnd, packsOf, packInto, holdsOf, unpackedOf, smallOf, numbersOf}
 use Rattle.pack_driver.specs.Promises.{Fits}
-use Rattle.pack_driver.proofs.Kept.{both-yes, small-all, packs-small, packs-back, unpacks-back}
+use Rattle.pack_driver.proofs.Kept.{small-all, packs-small, packs-back, unpacks-back}
 use Rattle.pack_driver.proofs.Range.{refuses-others, stays-small}
 use Rattle.lent_driver.specs.Drivers.{readsOf, budgetOf, requestOf, beginVerdict, begunOf, beginning, toldOf, keptOf, asking}
 use Rattle.lent_driver.specs.Promises.{BeginKeeps, NextKeeps, BeginHolds, NextHolds, NextRefuses4}
 use Rattle.lent_driver.proofs.Laws.{roomless-refused}
 use Rattle.lent_driver.proofs.Steps.{move-well}
-
-by-cases : {A : Type 0} (b : Bool) → (b ≡ true → A) → (b ≡ false → A) → A
-by-cases true f g = f refl
-by-cases false f g = g refl
 
 begin-keeps-by : (d : Driver) (s : List ℕ) (v : Verdict) → (verdictNumberOf v ≡ 0 → ⊥) → begunOf v d s ≡ s
 begin-keeps-by d s Fine h = absurd (h refl)
@@ -44,14 +42,10 @@ begin-keeps r s h = begin-keeps-by (fresh r) s (beginVerdict r s) h
 pub next-refuses-4 : NextRefuses4 asking
 next-refuses-4 s level b h = rw (refuses-others s h .1 level b) refl
 
-holds-long : (s : List ℕ) → holdsOf s ≡ true → length s ≡ packedLength
-unfolding holdsOf
-holds-long s h = eqb-true (length s) packedLength (both-yes (eqb (length s) packedLength) _ h .0)
-
 -- the driver that bytes hold
 held : (s : List ℕ) → AllBelow 256 s → holdsOf s ≡ true → Fits (unpackedOf s) × (smallOf (unpackedOf s) ≡ true)
 held s b h =
-    let u = unpacks-back s s b h (holds-long s h) in
+    let u = unpacks-back s s b h (holds-length s h) in
     (u .0, packs-small (length s) (unpackedOf s) (u .1))
 
 none-low : (s : List ℕ) → holdsOf s ≡ false → unpackedOf s .counts .byte < 256
@@ -59,7 +53,7 @@ unfolding unpackedOf
 none-low s h = rw h (omega arith)
 
 byte-low : (s : List ℕ) → AllBelow 256 s → unpackedOf s .counts .byte < 256
-byte-low s b = by-cases (holdsOf s) (λ h. held s b h .0 .byte) (none-low s)
+byte-low s b = either (holdsOf s) (λ h. held s b h .0 .byte) (none-low s)
 
 -- in range a step answers no 4
 next-range : (d : Driver) (level : ℕ) (b : List ℕ) → d .counts .byte < 256 → toldOf (nextOf d level b .answer) .number ≡ 4 → rangeOf d (length b) ≡ false
@@ -92,14 +86,14 @@ next-holds-by : (s : List ℕ) (level : ℕ) (b : List ℕ) → AllBelow 256 s �
 next-holds-by s level b a h =
     let n = nextOf (unpackedOf s) level b .driver in
     let k = held s a h in
-    let p = packs-back n s (fits-next (unpackedOf s) level b (k .0)) (packs s n (holds-long s h) (stays-small (unpackedOf s) level b (k .1))) in
+    let p = packs-back n s (fits-next (unpackedOf s) level b (k .0)) (packs s n (holds-length s h) (stays-small (unpackedOf s) level b (k .1))) in
     (p .1, p .2)
 
 pub next-holds : NextHolds asking
 unfolding keptOf
 next-holds s level b a k =
     rw (ne-eqb _ 4 k)
-    (by-cases (holdsOf s) (next-holds-by s level b a) (λ h. absurd (k (next-refuses-4 s level b h))))
+    (either (holdsOf s) (next-holds-by s level b a) (λ h. absurd (k (next-refuses-4 s level b h))))
 
 -- ---- the first
 

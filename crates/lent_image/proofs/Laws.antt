@@ -8,11 +8,7 @@ use Rattle.parts.specs.declared.Verdict.the-variants.{Fine, Refused}
 use Rattle.state.specs.declared.Chip.{Chip}
 use Rattle.chip.specs.Memory.{Mem}
 use Rattle.lent.specs.Answers.{keptOf}
-use Rattle.image.specs.Calls.{loadBy, loadMem}
-
-pub load-verdict : (l : List ℕ) (v : Verdict) → loadBy l v .verdict ≡ v
-load-verdict l Fine = refl
-load-verdict l (Refused r) = refl
+use Rattle.image.specs.Calls.{loadMem}
 
 pub loads-nothing : (l : List ℕ) (c : Chip) (s : List ℕ) (m : Mem) (v : Verdict) → (v ≡ Fine → ⊥) → (keptOf v c s ≡ s) × (loadMem l m v ≡ m)
 loads-nothing l c s m Fine h = absurd (h refl)

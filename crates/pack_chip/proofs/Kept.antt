@@ -14,6 +14,7 @@ use Rattle.parts.specs.Table.{factsOf}
 use Rattle.parts.specs.Bytes.{flagOf, AllBelow}
 use Rattle.parts.proofs.Laws.{sound, branch}
 use Rattle.parts.proofs.Bytes.{flag-below, flag-back, flag-in, below-at}
+use Rattle.parts.proofs.Tests.{both}
 use Rattle.line.specs.declared.Pin.{Pin}
 use Rattle.line.specs.declared.Pin.the-variants.{Absent, Low, High, Floating}
 use Rattle.line.specs.declared.Target.the-variants.{Array, Ident}
@@ -26,7 +27,7 @@ use Rattle.state.specs.declared.Chip.{Chip}
 use Rattle.state.specs.Range.{inRangeOf}
 use Rattle.pack_chip.specs.Layout.{pinCodeOf, phaseCodeOf, phaseHighOf, packedLength, pairsOf, headOf, packedOf, pinIn, recvIn, phaseIn, joinedOf, rowOf, lineIn, phaseRightOf, codesRightOf, holdsOf, unpackedOf}
 use Rattle.pack_chip.specs.Promises.{Fits, PacksBack, UnpacksBack, RefusesOthers}
-use Rattle.pack_chip.proofs.Laws.{pairs-length, row-length, both, holds-long}
+use Rattle.pack_chip.proofs.Laws.{pairs-length, row-length, holds-long}
 
 -- ---- the codes: from a state and back
 

@@ -2,10 +2,9 @@
 -- Assumes nothing.
 use Prim.Native.Nat.{ℕ, suc, _+_, _-_, _*_, _/_, _%_, _≤_, _<_}
 use mathlib.Core.Path.{_≡_, _∙_, refl, ap}
-use mathlib.Core.Bool.{Bool, true, false, cond}
+use mathlib.Core.Bool.{true}
 use mathlib.Core.List.{List, [], _∷_, _++_, append-nil}
 use native.Mathlib.Numerals.{add-one, add-two}
-use native.Mathlib.Nat.{zero-add}
 use native.Mathlib.Omega.{arith}
 use lib.ListN.{length, getD, drop, set, length-append, length-drop, drop-of-length-le}
 use lib.Seq.{sets, sets-eq, drop-cons}
@@ -13,6 +12,8 @@ use lib.Dec.{eqb}
 use borrow.Author.Tests.{eq-eqb, eqb-true}
 use Rattle.state.specs.declared.Chip.{Chip}
 use Rattle.pack_chip.specs.Layout.{packedLength, pairsOf, headOf, packedOf, packInto, joinedOf, rowOf, codesRightOf, holdsOf}
+use Rattle.parts.proofs.Tests.{both}
+use Rattle.parts.proofs.Bytes.{sets-whole}
 
 -- ---- stored
 
@@ -44,20 +45,12 @@ row-length [] = refl
 row-length (x ∷ []) = refl
 row-length (x ∷ y ∷ l) = let e = row-length l in omega (arith, e)
 
--- a list stored over the whole of another
-pub sets-whole : (k s : List ℕ) → length k ≡ length s → sets k 0 s ≡ s
-sets-whole k s e = let short : length k ≤ length s = omega arith in sets-eq s k 0 (omega arith) ∙ rw (zero-add, drop-of-length-le k short) (append-nil s)
-
 pub row-first : (k s : List ℕ) → length k ≡ 64 → length s ≡ 137 → sets k 0 (rowOf (drop 9 s)) ≡ rowOf (drop 9 s)
 row-first k s e h =
     let n : length (drop 9 s) ≡ 128 = simp length-drop (omega arith) in
     sets-whole k (rowOf (drop 9 s)) (rw (e, row-length, n) refl)
 
 -- ---- packed and unpacked
-
-pub both : (a b : Bool) → cond a b false ≡ true → (a ≡ true) × (b ≡ true)
-both true b h = (refl, h)
-both false b h = (h, cc)
 
 pub holds-long : (l : List ℕ) → holdsOf l ≡ true → length l ≡ packedLength
 unfolding holdsOf

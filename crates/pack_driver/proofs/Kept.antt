@@ -11,6 +11,7 @@ use borrow.Author.Tests.{eqb-true, eqb-false, ltb-true, ltb-false, lt-ltb}
 use Rattle.parts.specs.Bytes.{flagOf, AllBelow}
 use Rattle.parts.proofs.Laws.{branch}
 use Rattle.parts.proofs.Bytes.{flag-below, flag-back, flag-in, below-at}
+use Rattle.parts.proofs.Tests.{both, either}
 use Rattle.driver.specs.declared.Place.{Place}
 use Rattle.driver.specs.declared.Place.the-variants.{Array, Ident}
 use Rattle.driver.specs.declared.Slot.{Slot}
@@ -29,20 +30,11 @@ use Rattle.pack_driver.proofs.Laws.{holds-length}
 -- ---- tests
 
 -- both of two tests that are made one after the other
-pub both-yes : (a b : Bool) → cond a b false ≡ true → (a ≡ true) × (b ≡ true)
-both-yes true b h = (refl, h)
-both-yes false b h = absurd (false≢true h)
-
--- both ways of a test, each with what the test said
-either : {A : Type 0} (b : Bool) → (b ≡ true → A) → (b ≡ false → A) → A
-either true f g = f refl
-either false f g = g refl
-
 -- ---- numbers
 
 pub all-small : (xs : List ℕ) → allSmall xs ≡ true → AllBelow wordEnd xs
 all-small [] h = tt
-all-small (x ∷ xs) h = let (s, t) = both-yes (ltb x wordEnd) (allSmall xs) h in (ltb-true x wordEnd s, all-small xs t)
+all-small (x ∷ xs) h = let (s, t) = both (ltb x wordEnd) (allSmall xs) h in (ltb-true x wordEnd s, all-small xs t)
 
 pub small-all : (xs : List ℕ) → AllBelow wordEnd xs → allSmall xs ≡ true
 small-all [] h = refl
@@ -134,7 +126,7 @@ phase-right (Over AtPolls) = refl
 
 phase-below : (p : Phase) → phaseCodeOf p < 19
 unfolding phaseRightOf
-phase-below p = ltb-true _ 19 (both-yes (ltb (phaseCodeOf p) 19) _ (phase-right p) .0)
+phase-below p = ltb-true _ 19 (both (ltb (phaseCodeOf p) 19) _ (phase-right p) .0)
 
 codes-right : (p : Place) (b : Bool) (s : Phase) → codesRightOf (placeCodeOf p) (flagOf b) (phaseCodeOf s) (clocksOf s) ≡ true
 unfolding codesRightOf
@@ -203,7 +195,7 @@ module _ (d : Driver) (small : smallOf d ≡ true) where
 
 pub packs-small : (n : ℕ) (d : Driver) → packsOf n d ≡ true → smallOf d ≡ true
 unfolding packsOf
-packs-small n d h = both-yes (eqb n packedLength) (smallOf d) h .1
+packs-small n d h = both (eqb n packedLength) (smallOf d) h .1
 
 pub packs-back : PacksBack packInto unpackedOf
 unfolding packInto
@@ -270,7 +262,7 @@ failed-code-in n h =
 module _ (n clocks : ℕ) (h : phaseRightOf n clocks ≡ true) where
   code-below : n < 19
   unfolding phaseRightOf
-  code-below = ltb-true n 19 (both-yes (ltb n 19) _ h .0)
+  code-below = ltb-true n 19 (both (ltb n 19) _ h .0)
 
   phase-code-in : phaseCodeOf (phaseIn n clocks) ≡ n
   unfolding phaseIn
@@ -287,7 +279,7 @@ module _ (n clocks : ℕ) (h : phaseRightOf n clocks ≡ true) where
   counted : (eqb clocks 0 ≡ false) → (1 ≤ n) × (n < 8)
   unfolding phaseRightOf
   counted e =
-      let z = rw e at (both-yes (ltb n 19) _ h .1) in
+      let z = rw e at (both (ltb n 19) _ h .1) in
       branch (λ (t : Bool). t ≡ true → (1 ≤ n) × (n < 8)) (ltb n 1) (λ l f. absurd (false≢true f)) (λ l f. (ltb-false n 1 l, ltb-true n 8 f)) z
 
   -- no clock is counted outside a byte
@@ -308,19 +300,19 @@ module _ (n clocks : ℕ) (h : phaseRightOf n clocks ≡ true) where
 module _ (l : List ℕ) (b : AllBelow 256 l) (h : holdsOf l ≡ true) where
   right : codesRightOf (getD l 2 0) (getD l 3 0) (getD l 4 0) (getD l 5 0) ≡ true
   unfolding holdsOf
-  right = both-yes (eqb (length l) packedLength) _ h .1
+  right = both (eqb (length l) packedLength) _ h .1
 
   place-right : getD l 2 0 < 2
   unfolding codesRightOf
-  place-right = ltb-true _ 2 (both-yes (ltb (getD l 2 0) 2) _ right .0)
+  place-right = ltb-true _ 2 (both (ltb (getD l 2 0) 2) _ right .0)
 
   reads-right : getD l 3 0 < 2
   unfolding codesRightOf
-  reads-right = ltb-true _ 2 (both-yes (ltb (getD l 3 0) 2) _ (both-yes (ltb (getD l 2 0) 2) _ right .1) .0)
+  reads-right = ltb-true _ 2 (both (ltb (getD l 3 0) 2) _ (both (ltb (getD l 2 0) 2) _ right .1) .0)
 
   phase-is-right : phaseRightOf (getD l 4 0) (getD l 5 0) ≡ true
   unfolding codesRightOf
-  phase-is-right = both-yes (ltb (getD l 3 0) 2) _ (both-yes (ltb (getD l 2 0) 2) _ right .1) .1
+  phase-is-right = both (ltb (getD l 3 0) 2) _ (both (ltb (getD l 2 0) 2) _ right .1) .1
 
   at : (i : ℕ) → getD l i 0 < 256
   at = below-at l b

@@ -1,15 +1,16 @@
 -- Laws that the proofs of the code share: numbers stored four bytes at a time, and a buffer that is stored over whole.
 -- Assumes nothing.
-use Prim.Native.Nat.{ℕ, _+_, _/_, _%_, _≤_}
-use mathlib.Core.Path.{_≡_, _∙_, refl}
-use mathlib.Core.Bool.{Bool, true, false, cond}
-use mathlib.Core.List.{List, append-nil}
+use Prim.Native.Nat.{ℕ, _+_, _/_, _%_}
+use mathlib.Core.Path.{_≡_}
+use mathlib.Core.Bool.{true}
+use mathlib.Core.List.{List}
 use native.Mathlib.Numerals.{add-one, add-two, add-three}
-use native.Mathlib.Nat.{zero-add}
-use native.Mathlib.Omega.{arith}
-use lib.ListN.{length, set, drop-of-length-le}
-use lib.Seq.{sets, sets-eq}
+use lib.ListN.{length, set}
+use lib.Seq.{sets}
+use lib.Dec.{eqb}
 use borrow.Author.Tests.{eqb-true}
+use Rattle.parts.proofs.Tests.{both}
+use Rattle.parts.proofs.Bytes.{sets-whole}
 use Rattle.driver.specs.declared.Driver.{Driver}
 use Rattle.driver.specs.Request.{fromOf}
 use Rattle.pack_driver.specs.Layout.{packedLength, wordOf, wordsOf, headOf, numbersOf, packedOf, holdsOf}
@@ -30,12 +31,6 @@ module _ (o o₁ o₂ o₃ o₄ o₅ o₆ o₇ : List ℕ) (d : Driver) (from : 
   pub words-put : o₇ ≡ sets o 7 (wordsOf (numbersOf d))
   words-put = rw (e₇, e₆, e₅, e₄, e₃, e₂, e₁, f)
 
--- a list stored over the whole of another
-pub sets-whole : (out s : List ℕ) → length out ≡ length s → sets out 0 s ≡ s
-sets-whole out s e =
-    let short : length out ≤ length s = omega arith in
-    sets-eq s out 0 (omega arith) ∙ rw (zero-add, drop-of-length-le out short) (append-nil s)
-
 pub packed-put : (o o₁ o₂ : List ℕ) (d : Driver) → length o ≡ packedLength → o₁ ≡ sets o 0 (headOf d) → o₂ ≡ sets o₁ 7 (wordsOf (numbersOf d))
     → o₂ ≡ packedOf d
 unfolding packedOf
@@ -43,7 +38,4 @@ packed-put o o₁ o₂ d e e₁ e₂ = rw (e₂, e₁) (sets-whole o (packedOf d
 
 pub holds-length : (l : List ℕ) → holdsOf l ≡ true → length l ≡ packedLength
 unfolding holdsOf
-holds-length l h = eqb-true (length l) packedLength (first _ _ h) where
-  first : (a b : Bool) → cond a b false ≡ true → a ≡ true
-  first true b h = refl
-  first false b h = h
+holds-length l h = eqb-true (length l) packedLength (both (eqb (length l) packedLength) _ h .0)

@@ -1,11 +1,15 @@
--- Laws of the part table, of a verdict's number, and of a call that is not refused.
+-- Laws of the part table, of a verdict's number, of a call that is not refused, of events and buffers.
 -- Assumes nothing.
 use mathlib.Core.Path.{_≡_, refl}
-use Prim.Native.Nat.{ℕ, _<_}
+use Prim.Native.Nat.{ℕ, zero, suc, _<_}
 use mathlib.Core.Bool.{Bool, true, false, cond}
 use native.Mathlib.Omega.{arith}
 use lib.Dec.{eqb}
-use Rattle.parts.specs.Table.{factsOf}
+use borrow.Author.Tests.{eq-eqb}
+use Rattle.parts.specs.declared.Facts.{Facts}
+use Rattle.parts.specs.declared.Event.the-variants.{Clock}
+use Rattle.parts.specs.Table.{factsOf, idSizeOf, buffersRightOf}
+use Rattle.parts.specs.Events.{eventOf}
 use Rattle.parts.specs.Sound.{Sound}
 use Rattle.parts.specs.declared.Refusal.{Refusal}
 use Rattle.parts.specs.declared.Refusal.the-variants.{NoPart, WrongEnable, WrongBuffer, BadState, BadEvent, ShortBuffer, Beyond, BadLimit, NoSelect, NoData, PollsUsed, BadImage, TooMany}
@@ -64,7 +68,7 @@ pub record Faultless (f : Faults) : Type 0 where
   pub limit : f .limit ≡ false
   pub image : f .image ≡ false
 
-passed : (b : Bool) (r : Refusal) (v : Verdict) → cond b (Refused r) v ≡ Fine → (b ≡ false) × (v ≡ Fine)
+pub passed : (b : Bool) (r : Refusal) (v : Verdict) → cond b (Refused r) v ≡ Fine → (b ≡ false) × (v ≡ Fine)
 passed true r v h = let z : _≡_ {A = ℕ} 0 1 = cc in absurd (omega arith)
 passed false r v h = (refl, h)
 
@@ -82,3 +86,16 @@ faultless f h =
     let k = passed (f .limit) _ _ (j .1) in
     let l = passed (f .image) _ _ (k .1) in
     record { part = a .0; enable = b .0; buffer = c .0; state = d .0; many = e .0; event = g .0; short = i .0; beyond = j .0; limit = k .0; image = l .0 }
+
+-- ---- events and buffers
+
+-- 0 and 1 are clocks
+pub clock-code : (e : ℕ) → e < 2 → eventOf e ≡ Clock (eqb e 1)
+unfolding eventOf
+clock-code zero h = refl
+clock-code (suc zero) h = refl
+clock-code (suc (suc e)) h = absurd (omega arith)
+
+pub buffers-right : (f : Facts) (n d : ℕ) → n ≡ f .size → d ≡ idSizeOf f → buffersRightOf f n d ≡ true
+unfolding buffersRightOf
+buffers-right f n d a b = rw (eq-eqb n (f .size) a, eq-eqb d (idSizeOf f) b)

@@ -225,7 +225,7 @@ fn choose(word: &[u8]) {
     }
     let version = check::same(word, b"version");
     if version {
-        return put(b"sapwoodle 0.7.0\n");
+        return put(b"sapwoodle 0.7.1\n");
     }
     let help = check::same(word, b"help");
     if help {

@@ -13,11 +13,11 @@ use Rattle.line.specs.Rules.{decodeOf, enabledOf, namedOf, firstOf, selectedOf,
 use Rattle.state.specs.declared.Chip.{Chip}
 use Rattle.chip.specs.Memory.{Mem, mem, stateOf}
 use Rattle.chip.specs.Delivery.{pinAtFirstOf, standbyOf}
-use Rattle.promises.specs.Model.{ours, levelsBy, cyclesBy, NoTransfer}
+use Rattle.promises.specs.Model.{ours, levelsBy, cyclesBy}
 use Rattle.promises.specs.Stops.{stopsOf, watchAt}
 use Rattle.promises.specs.Histories.{S, P, sent, codesOf}
 use Rattle.promises.specs.Invented.{inventing, InventsNothing, NoneBreaks, OneEachBreaks}
-use Rattle.promises.proofs.Stops.{cycles-are-stops}
+use Rattle.promises.proofs.Stops.{cycles-are-stops, standby-still}
 
 same-levels : (count : Chip → Event → ℕ) (f : Facts) (en : ℕ) (c : Chip) (m : Mem) (es : List ℕ)
     → levelsBy (inventing count f en) c m es ≡ levelsBy (ours f en) c m es
@@ -42,10 +42,6 @@ one-cycle = refl
 no-cycle : cyclesBy (inventing (λ c e. 0) (factsOf 2) 0) (standbyOf (factsOf 2) false) write ≡ 0
 unfolding cyclesBy
 no-cycle = refl
-
-standby-still : (f : Facts) → NoTransfer (standbyOf f false .line .phase)
-unfolding standbyOf
-standby-still f = tt
 
 pub none-breaks : NoneBreaks
 none-breaks kept =

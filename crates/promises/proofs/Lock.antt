@@ -13,6 +13,7 @@ use Rattle.parts.specs.declared.Event.the-variants.{Clock, Start, Stop, Ends, P
 use Rattle.parts.specs.Table.{factsOf}
 use Rattle.parts.specs.Events.{eventOf}
 use Rattle.parts.proofs.Laws.{branch}
+use Rattle.parts.proofs.Tests.{both}
 use Rattle.line.specs.declared.Pin.{Pin}
 use Rattle.line.specs.declared.Pin.the-variants.{Low, High, Floating}
 use Rattle.line.specs.declared.Target.{Target}
@@ -35,7 +36,7 @@ use Rattle.promises.specs.Model.{ours, afterBy, memoryBy}
 use Rattle.promises.specs.Calls.{stepOf, runOf, many, Ending, from, afterRun, callBy, callsBy}
 use Rattle.promises.specs.Lock.{Locked, LockHolds, RunLockHolds, CallsLockHolds}
 use Rattle.promises.proofs.Runs.{Invariant, Keeps, keeps, calls-keep, Any, every, every-call}
-use Rattle.promises.proofs.Steps.{next-still, lockAfter, cond-true, accepted-phase}
+use Rattle.promises.proofs.Steps.{next-still, lockAfter, accepted-phase}
 use Rattle.promises.proofs.Refused.{calls-out}
 
 -- ---- no latch to enter
@@ -242,7 +243,7 @@ recv-sealed f c k left (AddressHigh t) l e = tt
 recv-sealed f c k left (AddressLow t high) l e = tt
 recv-sealed f c k left (Fill Array w) l e = tt
 recv-sealed f c k left (Fill Ident true) l e =
-    open-empty c k l (cond-true (ackedRightOf f c k left true) (openRightOf c k Ident) (cond-true (locationRightOf f c Ident) (cond (ackedRightOf f c k left true) (openRightOf c k Ident) false) e .1) .1)
+    open-empty c k l (both (ackedRightOf f c k left true) (openRightOf c k Ident) (both (locationRightOf f c Ident) (cond (ackedRightOf f c k left true) (openRightOf c k Ident) false) e .1) .1)
 recv-sealed f c k left (Fill Ident false) l e = tt
 recv-sealed f c k left LockByte l e = tt
 recv-sealed f c k left (LockTaken w) l e = tt
@@ -250,12 +251,12 @@ recv-sealed f c k left (LockTaken w) l e = tt
 phase-sealed : (f : Facts) (c : Core) (k : List ℕ) (left : ℕ) (ph : Phase) → c .locked ≡ true → phaseRightOf f c k left ph ≡ true → Sealed k ph
 unfolding phaseRightOf cycleRightOf writingRightOf unlockedRightOf
 phase-sealed f c k left Idle l e = tt
-phase-sealed f c k left (Receive r) l e = recv-sealed f c k left r l (cond-true (markRightOf c) (recvRightOf f c k left r) e .1)
+phase-sealed f c k left (Receive r) l e = recv-sealed f c k left r l (both (markRightOf c) (recvRightOf f c k left r) e .1)
 phase-sealed f c k left (Send t) l e = tt
 phase-sealed f c k left (Busy (Writing Array)) l e = tt
 phase-sealed f c k left (Busy (Writing Ident)) l e =
     let u : not (c .locked) ≡ true =
-    cond-true (locationRightOf f c Ident) (not (c .locked)) (cond-true (cond (locationRightOf f c Ident) (not (c .locked)) false) (lastRightOf f c k) e .0) .1 in
+    both (locationRightOf f c Ident) (not (c .locked)) (both (cond (locationRightOf f c Ident) (not (c .locked)) false) (lastRightOf f c k) e .0) .1 in
     let z : not true ≡ true = ap not (sym l) ∙ u in
     cc
 phase-sealed f c k left (Busy Locking) l e = tt

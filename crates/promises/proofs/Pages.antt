@@ -9,7 +9,7 @@ use native.Mathlib.Omega.{arith}
 use mathlib.Core.Bool.{Bool, true, false, not, _&&_}
 use mathlib.Core.List.{List, [], _∷_}
 use mathlib.Core.Logic.{_≢_}
-use lib.ListN.{length, getD, take, drop, length-take, length-drop, length-set}
+use lib.ListN.{length, getD, take, drop, length-take, length-drop}
 use lib.Seq.{ext-getD, getD-take, getD-drop, getD-set-other}
 use lib.Dec.{ltb, eqb}
 use borrow.Author.Tests.{eqb-true, eq-eqb}
@@ -21,6 +21,7 @@ use Rattle.parts.specs.Events.{eventOf}
 use Rattle.parts.specs.Bytes.{flagOf}
 use Rattle.parts.proofs.Laws.{branch}
 use Rattle.parts.proofs.Bytes.{flag-below}
+use Rattle.chip.proofs.Laws.{entered-length}
 use Rattle.line.specs.declared.Pin.{Pin}
 use Rattle.line.specs.declared.Pin.the-variants.{Low, High, Floating}
 use Rattle.line.specs.declared.Target.{Target}
@@ -82,17 +83,9 @@ differing-none f m =
 
 -- ---- what entering a page leaves alone
 
-one-length : (s : List ℕ) (i x : ℕ) → length (oneOf s i x) ≡ length s
-unfolding oneOf
-one-length s i x = branch (λ (l : List ℕ). length l ≡ length s) (ltb x 256) (λ _. length-set s i x) (λ _. refl)
-
 one-other : (s : List ℕ) (i x j : ℕ) → j ≢ i → getD (oneOf s i x) j 0 ≡ getD s j 0
 unfolding oneOf
 one-other s i x j d = branch (λ (l : List ℕ). getD l j 0 ≡ getD s j 0) (ltb x 256) (λ _. getD-set-other s i j x 0 d) (λ _. refl)
-
-entered-length : (s : List ℕ) (i : ℕ) (xs : List ℕ) → length (enteredOf s i xs) ≡ length s
-entered-length s i [] = refl
-entered-length s i (x ∷ xs) = entered-length (oneOf s i x) (suc i) xs ∙ one-length s i x
 
 entered-before : (s : List ℕ) (i : ℕ) (xs : List ℕ) (j : ℕ) → j < i → getD (enteredOf s i xs) j 0 ≡ getD s j 0
 entered-before s i [] j h = refl

@@ -14,6 +14,7 @@ use Rattle.parts.specs.declared.Event.the-variants.{Clock, Start, Stop, Ends, P
 use Rattle.parts.specs.Table.{factsOf}
 use Rattle.parts.specs.Events.{eventOf}
 use Rattle.parts.proofs.Laws.{branch}
+use Rattle.parts.proofs.Tests.{both}
 use Rattle.line.specs.declared.Pin.{Pin}
 use Rattle.line.specs.declared.Pin.the-variants.{High}
 use Rattle.line.specs.declared.Target.{Target}
@@ -34,7 +35,7 @@ use Rattle.promises.specs.Model.{Model, ours, afterBy, memoryBy, cyclesB
 use Rattle.promises.specs.Calls.{stepOf, runOf, many, Ending, from, afterRun, callBy, callsBy}
 use Rattle.promises.specs.Pin.{StaysHigh, KeepsHigh, PinProtects, RunPinProtects, CallsPinProtects}
 use Rattle.promises.proofs.Runs.{Invariant, Keeps, keeps, calls-keep}
-use Rattle.promises.proofs.Steps.{taken-free, taken-kept, next-still, lockAfter, pinAfter, cond-true, accepted-phase}
+use Rattle.promises.proofs.Steps.{taken-free, taken-kept, next-still, lockAfter, pinAfter, accepted-phase}
 use Rattle.promises.proofs.Refused.{calls-out}
 
 -- no cycle runs, and a transfer is marked
@@ -153,7 +154,7 @@ phase-guarded : (f : Facts) (c : Core) (k : List ℕ) (left : ℕ) (ph : Phase) 
     → Guarded (c .inhibited) ph
 unfolding phaseRightOf
 phase-guarded f c k left Idle p free e = tt
-phase-guarded f c k left (Receive r) p free e = mark-on c p (cond-true (markRightOf c) (recvRightOf f c k left r) e .0)
+phase-guarded f c k left (Receive r) p free e = mark-on c p (both (markRightOf c) (recvRightOf f c k left r) e .0)
 phase-guarded f c k left (Send t) p free e = tt
 phase-guarded f c k left (Busy y) p free e = free
 

@@ -11,6 +11,7 @@ use Rattle.parts.specs.declared.Verdict.{Verdict}
 use Rattle.parts.specs.declared.Verdict.the-variants.{Fine, Refused}
 use Rattle.parts.specs.Table.{factsOf}
 use Rattle.parts.specs.Events.{eventOf}
+use Rattle.chip.proofs.Laws.{levels-length}
 use Rattle.state.specs.declared.Chip.{Chip}
 use Rattle.chip.specs.Memory.{Mem}
 use Rattle.chip.specs.Runs.{afterOf, memoryOf, levelsOf, cyclesOf}
@@ -38,11 +39,6 @@ pub cycles-ours : (f : Facts) (en : ℕ) (c : Chip) (es : List ℕ) → cyclesBy
 unfolding cyclesBy cyclesOf
 cycles-ours f en c [] = refl
 cycles-ours f en c (e ∷ es) = rw (cycles-ours f en _ es)
-
-pub levels-length : (f : Facts) (en : ℕ) (c : Chip) (m : Mem) (es : List ℕ) → length (levelsOf f en c m es) ≡ length es
-unfolding levelsOf
-levels-length f en c m [] = refl
-levels-length f en c m (e ∷ es) = rw (levels-length f en _ _ es)
 
 -- ---- what each event keeps, with the cycles and the history so far
 

@@ -2,12 +2,13 @@
 -- Assumes nothing.
 use mathlib.Core.Path.{_≡_, refl}
 use Prim.Native.Nat.{ℕ, zero, suc, _+_, _*_}
-use mathlib.Core.Bool.{Bool, true, false, cond}
+use mathlib.Core.Bool.{Bool, true, false}
 use lib.Dec.{ltb, leb}
 use Rattle.parts.specs.declared.Facts.{Facts}
 use Rattle.parts.specs.declared.Event.{Event}
 use Rattle.parts.specs.declared.Event.the-variants.{Clock, Start, Stop, Ends, PinLow, PinHigh, PinFloat, Reset, Unknown}
 use Rattle.parts.proofs.Laws.{branch}
+use Rattle.parts.proofs.Tests.{both}
 use Rattle.line.specs.declared.Target.{Target}
 use Rattle.line.specs.declared.Target.the-variants.{Array, Ident}
 use Rattle.line.specs.declared.Recv.{Recv}
@@ -187,15 +188,11 @@ next-still f en l Unknown = (refl, refl)
 
 -- ---- what an accepted state says of its phase
 
-pub cond-true : (a b : Bool) → cond a b false ≡ true → (a ≡ true) × (b ≡ true)
-cond-true true b e = (refl, e)
-cond-true false b e = (e, cc)
-
 pub accepted-phase : (f : Facts) (c : Chip) → inRangeOf f c ≡ true → phaseRightOf f (c .line .core) (c .latch) (c .line .left) (c .line .phase) ≡ true
 unfolding inRangeOf restRightOf
 accepted-phase f c e =
-    let counter = cond-true (ltb (c .line .core .counter) (f .size)) _ e .1 in
-    let left = cond-true (leb (c .line .left) 8) _ counter .1 in
-    let marks = cond-true (marksRightOf f (c .latch)) _ left .1 in
-    let pin = cond-true (pinRightOf f (c .line .core .pin)) _ marks .1 in
-    cond-true (lockRightOf f (c .line .core)) (phaseRightOf f (c .line .core) (c .latch) (c .line .left) (c .line .phase)) pin .1
+    let counter = both (ltb (c .line .core .counter) (f .size)) _ e .1 in
+    let left = both (leb (c .line .left) 8) _ counter .1 in
+    let marks = both (marksRightOf f (c .latch)) _ left .1 in
+    let pin = both (pinRightOf f (c .line .core .pin)) _ marks .1 in
+    both (lockRightOf f (c .line .core)) (phaseRightOf f (c .line .core) (c .latch) (c .line .left) (c .line .phase)) pin .1

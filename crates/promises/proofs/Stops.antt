@@ -22,6 +22,7 @@ use Rattle.parts.specs.Events.{eventOf}
 use Rattle.parts.specs.Bytes.{flagOf}
 use Rattle.parts.proofs.Laws.{branch}
 use Rattle.parts.proofs.Bytes.{flag-below}
+use Rattle.chip.proofs.Laws.{levels-length}
 use Rattle.line.specs.declared.Pin.{Pin}
 use Rattle.line.specs.declared.Pin.the-variants.{Low, High, Floating}
 use Rattle.line.specs.declared.Target.{Target}
@@ -47,7 +48,7 @@ use Rattle.promises.specs.Model
 use Rattle.promises.specs.Model.{Model, ours, afterBy, levelsBy, cyclesBy, NoTransfer}
 use Rattle.promises.specs.Calls.{deliverLeftOf, deliverOf, stepOf, runLeftOf, runVerdict, runOf, Ending, from, callsBy}
 use Rattle.promises.specs.Stops.{Byte, byteOf, allAcked, addressIn, lockChosenOf, dataOf, writesOf, askedOf, Seen, quiet, cycling, since, wellPlacedOf, startSeen, clockSeen, stopSeen, endSeen, pinSeen, Watch, watch, watchOf, stopOf, stopsOf, fresh, seenAt, watchAt, CyclesAreStops, CyclesAreStopsFromDelivery, RunCyclesAreStops, CallsCyclesAreStops, CallsCyclesAreStopsFromDelivery}
-use Rattle.promises.proofs.Runs.{levels-ours, cycles-ours, levels-length, Invariant, Keeps, keeps, calls-keep, Any, every, every-call}
+use Rattle.promises.proofs.Runs.{levels-ours, cycles-ours, Invariant, Keeps, keeps, calls-keep, Any, every, every-call}
 use Rattle.promises.proofs.Steps.{taken-free, Kept, taken-kept, next-still}
 
 -- ---- what a phase still expects
@@ -517,7 +518,7 @@ fresh-is : (f : Facts) → watchAt (standbyOf f false) ≡ fresh
 unfolding standbyOf pinAtFirstOf
 fresh-is f = branch (λ (p : Pin). watch (isHigh p) quiet ≡ fresh) (f .pin) (λ _. refl) (λ _. refl)
 
-standby-still : (f : Facts) → NoTransfer (standbyOf f false .line .phase)
+pub standby-still : (f : Facts) → NoTransfer (standbyOf f false .line .phase)
 unfolding standbyOf
 standby-still f = tt
 

@@ -3,7 +3,7 @@
 use Prim.Native.Nat.{ℕ, _+_, _-_, _≤_, _<_}
 use mathlib.Core.Path.{_≡_, _∙_, sym, refl}
 use mathlib.Core.Bool.{Bool, true, false}
-use mathlib.Core.List.{List, [], _∷_, _++_}
+use mathlib.Core.List.{List, _++_}
 use native.Mathlib.Omega.{arith}
 use lib.ListN.{length, getD, take, drop, length-append, length-drop}
 use lib.Seq.{length-take-le, getD-take}
@@ -13,18 +13,16 @@ use Rattle.parts.proofs.Laws.{branch}
 use Rattle.parts.specs.Table.{factsOf, idSizeOf, enableRightOf, buffersRightOf}
 use Rattle.parts.specs.Events.{eventOf, eventRightOf}
 use Rattle.parts.specs.Refusals.{givenOf, numberOf}
-use Rattle.parts.specs.declared.Facts.{Facts}
 use Rattle.parts.specs.declared.Refusal.{Refusal}
 use Rattle.parts.specs.declared.Refusal.the-variants.{NoPart}
 use Rattle.parts.specs.declared.Verdict.{Verdict}
 use Rattle.parts.specs.declared.Verdict.the-variants.{Fine, Refused}
-use Rattle.state.specs.declared.Chip.{Chip}
 use Rattle.chip.specs.declared.Scan.{Scan}
 use Rattle.chip.specs.declared.Scan.the-variants.{Clean, BadAt}
-use Rattle.chip.proofs.Laws.{run-fine}
+use Rattle.chip.proofs.Laws.{run-fine, levels-length}
 use Rattle.line.specs.Rules.{rollOf, beforeOf, onwardOf, enabledOf, namedOf, decodeOf, firstOf, selectedOf, loadArrayOf, loadIdOf, loadedOf, refusesOf, latchedOf, filledOf, lockedByOf, takenOf, receivedOf, receiveActOf, receiveLevelOf, movedOf, sentOf, sendLevelOf, clockedOf, clockActOf, clockLevelOf, startedOf, startActOf, asksOf, placedOf, stoppedOf, stopActOf, stopBegunOf, endedByOf, endedOf, endActOf, pinnedOf, resetOf, nextOf, actOf, levelOf, begunOf}
 use Rattle.state.specs.Range.{marksRightOf, pinRightOf, lockRightOf, phaseRightOf, restRightOf, inRangeOf}
-use Rattle.chip.specs.Memory.{Mem, noLatch, oneOf, pageStartOf, committedOf, cycleStoredOf, storedOf, storeOf, shownOf, seenOf, stateOf, answerOf}
+use Rattle.chip.specs.Memory.{noLatch, oneOf, pageStartOf, committedOf, cycleStoredOf, storedOf, storeOf, shownOf, seenOf, stateOf, answerOf}
 use Rattle.chip.specs.Runs.{afterOf, memoryOf, levelsOf, cyclesOf}
 use Rattle.chip.specs.Delivery.{pinAtFirstOf, standbyOf, codedOf, deliveredIdOf, deliveredOf}
 use Rattle.chip.specs.Calls.{runVerdictOf}
@@ -92,11 +90,6 @@ lines-short : (part : ℕ) (chars : List ℕ) (cycles : ℕ) → length (linesOf
 unfolding linesOf
 lines-short part chars cycles =
     omega (arith, len8 partWord (decimalOf part) newline chars newline cyclesWord (decimalOf cycles) newline, decimal-short part, decimal-short cycles)
-
-levels-length : (f : Facts) (en : ℕ) (c : Chip) (m : Mem) (es : List ℕ) → length (levelsOf f en c m es) ≡ length es
-unfolding levelsOf
-levels-length f en c m [] = refl
-levels-length f en c m (e ∷ es) = simp (levels-length f en (stateOf f en c (eventOf e)) (storeOf f c m (eventOf e)) es)
 
 report-fits : (part : ℕ) (v : Verdict) (l : List ℕ) (k : ℕ) → (v ≡ Fine → length l ≤ 32768) → length (reportOf part v l k) ≤ 32800
 report-fits part Fine l k h = omega (arith, lines-short part (charsOf l) k, each-length charOf l, h refl)

@@ -11,6 +11,7 @@ use lib.Seq.{take-at}
 use borrow.Author.Tests.{ltb-true, ltb-false}
 use Rattle.trace.specs.Trace.{eachOf, digitOf, digitsOf, leadingOf, decimalOf, headRightOf, partWord, cyclesWord, newline, linesOf}
 use Rattle.trace.proofs.Laws.{take-all}
+use Rattle.parts.proofs.Tests.{both}
 
 pub chain : (p a b c t u v : List ℕ) → t ≡ p ++ a → u ≡ t ++ b → v ≡ u ++ c → v ≡ p ++ (a ++ b ++ c)
 chain p a b c t u v h k l = l ∙ ap (λ (x : List ℕ). x ++ c) (k ∙ ap (λ (x : List ℕ). x ++ b) h) ∙ simp append-assoc
@@ -29,10 +30,6 @@ part-is d n k e f =
 pub each-length : (g : ℕ → ℕ) (xs : List ℕ) → length (eachOf g xs) ≡ length xs
 each-length g [] = refl
 each-length g (x ∷ xs) = simp (each-length g xs)
-
-both : (a b : Bool) → cond a b false ≡ true → (a ≡ true) × (b ≡ true)
-both true b h = (refl, h)
-both false b h = (h, cc)
 
 neither : (a b : Bool) → cond a false b ≡ true → (a ≡ false) × (b ≡ true)
 neither true b h = (sym h, cc)

@@ -7,7 +7,8 @@ use Rattle.chip.specs.Memory.{Mem, mem}
 use Rattle.image.specs.Layout.{partIn}
 use Rattle.lent.proofs.Laws.{unheld-refused}
 use Rattle.lent_image.specs.Images.{verdictOf}
-use Rattle.lent_image.proofs.Laws.{load-verdict, loads-nothing}
+use Rattle.image.proofs.Kept.{load-verdict}
+use Rattle.lent_image.proofs.Laws.{loads-nothing}
 use borrow.Author.Needs.{needs}
 use Rattle.lent_image.proofs.load.Statement.{statement}
 use Rattle.lent_image.proofs.load.Tie as tie
