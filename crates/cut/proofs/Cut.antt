@@ -30,9 +30,9 @@ use Rattle.line.specs.Rules.{isHigh, at, goes, marking, rollOf, counting, decod
 use Rattle.state.specs.declared.Chip.{Chip}
 use Rattle.chip.specs.Memory.{mem, chip, latchOf, noLatch, stateOf}
 use Rattle.chip.specs.Runs.{afterOf, cyclesOf}
-use Rattle.laws.specs.Bytes.{byteOf, Clocks}
+use Rattle.laws.specs.Bytes.{byteOf, Clocks, bytesOf}
 use Rattle.laws.proofs.Bytes.{taking, bytes-are-clocks, cycles-append, clocks-quiet, byte-in}
-use Rattle.cut.specs.Cut.{bytesOf, Bytes, sentBy, aboveOf, Permitted, CutByStop}
+use Rattle.cut.specs.Cut.{Bytes, sentBy, aboveOf, Permitted, CutByStop}
 
 -- a Stop after n clocks of bytes of which the first g are to pass before one begins a cycle
 abbrev Due : ℕ → ℕ → Type 0

@@ -17,12 +17,7 @@ use Rattle.line.specs.declared.Heard.the-variants.{Hit}
 use Rattle.line.specs.Rules.{isHigh, bitOn, decodeOf}
 use Rattle.chip.specs.Memory.{chip}
 use Rattle.chip.specs.Runs.{cyclesOf}
-use Rattle.laws.specs.Bytes.{byteOf}
-
--- bytes, one after the other; for each acknowledge the master releases
-abbrev pub bytesOf : List ℕ → List ℕ
-bytesOf [] = []
-bytesOf (b ∷ bs) = byteOf b true ++ bytesOf bs
+use Rattle.laws.specs.Bytes.{bytesOf}
 
 abbrev pub Bytes : List ℕ → Type 0
 Bytes [] = Unit {0}

@@ -15,7 +15,7 @@ use Rattle.parts.specs.declared.Refusal.{Refusal}
 use Rattle.parts.specs.declared.Refusal.the-variants.{NoData, PollsUsed}
 use Rattle.parts.specs.declared.Verdict.the-variants.{Fine, Refused as Judged}
 use Rattle.parts.specs.Table.{factsOf, idSizeOf, enableRightOf, buffersRightOf}
-use Rattle.parts.specs.Refusals.{givenOf}
+use Rattle.parts.specs.Refusals.{givenOf, isFine}
 use Rattle.parts.proofs.Laws.{Faultless, faultless}
 use Rattle.parts.proofs.Tests.{both, neither}
 use Rattle.line.specs.declared.Target.{Target}
@@ -29,7 +29,6 @@ use Rattle.driver.specs.declared.Request.{Request}
 use Rattle.driver.specs.declared.Answer.{Answer}
 use Rattle.driver.specs.declared.Answer.the-variants.{Send, Done, Refused}
 use Rattle.driver.specs.Request.{fromOf, roomOf, thereOf, beyondAt, limitOf, faultsOf, judgeOf, allowedOf}
-use Rattle.driver.specs.Step.{fine}
 use Rattle.driver_laws.specs.Run.{Finished, boundOf}
 use Rattle.bench.specs.declared.Report.{Report}
 use Rattle.bench.specs.Together.{System, startOf, togetherOf, turnsOf, enough}
@@ -218,7 +217,7 @@ module _ (n : ℕ) (turns : n ≡ enough) (r : Request) (d : ℕ) (c : Chip) (m 
       idle-again : (a : Answer) → answerOf Y ≡ a → Finished a → reportBy Y a .verdict ≡ Fine → Safe r ws c m Y → reportBy Y a .chip .line .phase ≡ Idle
       idle-again (Send e) z f v q = absurd f
       idle-again (Done x n) z f v q = q .idle x n z
-      idle-again (Refused x q n) z f v k = absurd (false≢true (ap fine v))
+      idle-again (Refused x q n) z f v k = absurd (false≢true (ap isFine v))
 
       -- outside what was asked it is as before, and inside as before or as asked
       still-here : Safe r ws c m Y → Bytes (cellsOf (targetOf (r .place)) (Y .mem))
@@ -244,7 +243,7 @@ module _ (n : ℕ) (turns : n ≡ enough) (r : Request) (d : ℕ) (c : Chip) (m 
       all : (a : Answer) → answerOf Y ≡ a → Finished a → reportBy Y a .verdict ≡ Fine → reportedOf a ≡ r .length
       all (Send e) z f v = absurd f
       all (Done q n) z f v = all-done r ws c m (begins r d c m ys k) bs q n z
-      all (Refused x q n) z f v = absurd (false≢true (ap fine v))
+      all (Refused x q n) z f v = absurd (false≢true (ap isFine v))
 
   taken : r .reads ≡ true → Taken ours r (r .enable) d c m ys
   taken w =

@@ -20,7 +20,7 @@ use Rattle.line.specs.declared.Asked.the-variants.{NoCycle, For}
 use Rattle.line.specs.declared.Phase.{Phase}
 use Rattle.line.specs.declared.Phase.the-variants.{Idle, Receive, Send, Busy}
 use Rattle.line.specs.declared.Line.{Line}
-use Rattle.line.specs.Rules.{at, opened, takenOf, landed, receivedOf, receiveActOf, receiveLevelOf, releasedIn, movedOf, sentOf, sendLevelOf, clockedOf, clockActOf, clockLevelOf, startedOf, startActOf, asksOf, placedOf, dueOf, stoppedBy, stopActBy, begunBy, stoppedOf, stopActOf, stopBegunOf, endedByOf, endedOf, endActOf, nextOf, actOf, levelOf, begunOf}
+use Rattle.line.specs.Rules.{at, opened, takenOf, landed, receivedOf, receiveActOf, receiveLevelOf, releasedIn, movedOf, sentOf, sendLevelOf, clockedOf, clockActOf, clockLevelOf, startedOf, startActOf, asksOf, placedOf, dueOf, stoppedBy, stopActBy, begunBy, stoppedOf, stopActOf, stopBegunOf, endedByOf, endedOf, endActOf, nextOf, actOf, levelOf, begunOf, NoTransfer}
 use Rattle.state.specs.declared.Chip.{Chip}
 use Rattle.chip.specs.Memory.{Mem, noLatch, latchOf, cycleStoredOf, storedOf, storeOf, shownOf, seenOf, stateOf, answerOf}
 
@@ -30,13 +30,6 @@ Free Idle = Unit {0}
 Free (Receive r) = Unit {0}
 Free (Send t) = Unit {0}
 Free (Busy y) = ⊥
-
--- nothing is heard: waiting for a Start, or in a cycle
-abbrev pub Deaf : Phase → Type 0
-Deaf Idle = Unit {0}
-Deaf (Receive r) = ⊥
-Deaf (Send t) = ⊥
-Deaf (Busy y) = Unit {0}
 
 module _ (f : Facts) (en : ℕ) (c : Chip) (m : Mem) (Q : Line → List ℕ → Mem → ℕ → ℕ → Type 0) where
   abbrev pub After : Event → Type 0
@@ -68,11 +61,11 @@ module _ (f : Facts) (en : ℕ) (c : Chip) (m : Mem) (Q : Line → List ℕ → 
       clock-heard x (Receive rc) h e
       (subst (λ (k : ℕ). Q (receivedOf f en (c .line) (eqb x 1) rc k) (latchOf (c .latch) (receiveActOf f en (c .line) rc k)) m (receiveLevelOf f en (c .line) rc k) 0) (sym z) q)
 
-  pub deaf-heard : (x : ℕ) → x < 2 → Deaf (c .line .phase) → Q (c .line) (c .latch) m 1 0 → After (eventOf x)
+  pub deaf-heard : (x : ℕ) → x < 2 → NoTransfer (c .line .phase) → Q (c .line) (c .latch) m 1 0 → After (eventOf x)
   unfolding clockedOf clockActOf clockLevelOf
   deaf-heard x h d q = go (c .line .phase) refl d
     where
-      go : (p : Phase) → c .line .phase ≡ p → Deaf p → After (eventOf x)
+      go : (p : Phase) → c .line .phase ≡ p → NoTransfer p → After (eventOf x)
       go Idle e d = clock-heard x Idle h e q
       go (Receive r) e d = absurd d
       go (Send t) e d = absurd d

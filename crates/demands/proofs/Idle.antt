@@ -8,7 +8,7 @@ use lib.ListN.{length, getD, replicate}
 use native.Mathlib.Omega.{arith}
 use Rattle.parts.specs.declared.Verdict.the-variants.{Fine}
 use Rattle.parts.specs.Table.{factsOf, idSizeOf, enableRightOf, buffersRightOf}
-use Rattle.parts.specs.Refusals.{givenOf}
+use Rattle.parts.specs.Refusals.{givenOf, isFine}
 use Rattle.line.specs.declared.Target.{Target}
 use Rattle.line.specs.declared.Target.the-variants.{Array as TheArray, Ident as TheIdent}
 use Rattle.state.specs.declared.Chip.{Chip}
@@ -20,7 +20,6 @@ use Rattle.driver.specs.declared.Place.the-variants.{Array}
 use Rattle.driver.specs.declared.Request.{Request}
 use Rattle.driver.specs.Request.{kOf, beyondAt, limitOf}
 use Rattle.driver.specs.Split.{pagesMetOf}
-use Rattle.driver.specs.Step.{fine}
 use Rattle.bench.specs.Calls.{benchVerdictOf}
 use Rattle.demands.specs.Ground.{Bytes}
 use Rattle.demands.specs.Ends.{Writable}
@@ -91,7 +90,7 @@ none p = p .replays (one false) 0 1 chip₀ mem₀ byte .cycles
 pub idle-break : IdleBreak
 idle-break =
     record {
-      refusing = λ p. false≢true (ap fine (done refusing p));
+      refusing = λ p. false≢true (ap isFine (done refusing p));
       boasting = λ p. (let e = stored boasting p in omega arith);
       forgetting = λ p. (let e = stored forgetting p in omega arith);
       blind = λ p. (let e = read blind p in omega arith);

@@ -27,7 +27,7 @@ use Rattle.line.specs.declared.Cycle.the-variants.{Writing}
 use Rattle.line.specs.declared.Phase.the-variants.{Idle, Receive, Send as Sending, Busy}
 use Rattle.line.specs.declared.Core.{Core}
 use Rattle.line.specs.declared.Line.{Line}
-use Rattle.line.specs.Rules.{isHigh, at, opened, rollOf, firstOf, selectedOf, decodeOf, loadedOf, refusesOf, givenUp, latchedOf, filledOf, takenOf, landed, releasedIn, asksOf, movedOf, sendLevelOf, endedByOf}
+use Rattle.line.specs.Rules.{isHigh, at, opened, rollOf, firstOf, selectedOf, decodeOf, loadedOf, refusesOf, givenUp, latchedOf, filledOf, takenOf, landed, releasedIn, asksOf, movedOf, sendLevelOf, endedByOf, NoTransfer}
 use Rattle.state.specs.declared.Chip.{Chip}
 use Rattle.chip.specs.Memory.{Mem, noLatch, latchOf, cellsOf, withCells, committedOf, cycleStoredOf, shownOf}
 use Rattle.driver.specs.declared.Request.{Request}
@@ -49,7 +49,7 @@ use Rattle.driver_laws.proofs.Inv.{stop, Inv, less}
 use Rattle.driver_laws.proofs.Grow.{bit-lt}
 use Rattle.driver_laws.proofs.Bytes.{register, register-none, register-all, shift-next}
 use Rattle.demands.specs.Ground.{Bytes}
-use Rattle.demands.proofs.Hears.{Free, Deaf, After, bit-heard, ninth-heard, deaf-heard, sent-heard, end-heard, start-free, start-busy, stop-idle, stop-busy, stop-none, stop-begins, end-free, end-busy}
+use Rattle.demands.proofs.Hears.{Free, After, bit-heard, ninth-heard, deaf-heard, sent-heard, end-heard, start-free, start-busy, stop-idle, stop-busy, stop-none, stop-begins, end-free, end-busy}
 use Rattle.demands.proofs.Wrote.{wrote, less-or-same, commit-none, commit-more, roll-next, cells-with, with-with}
 use Rattle.demands.proofs.Codes.{decode-hit, asks-none, first-wide, first-narrow, Placed, room-most, load-is, shown-is, moved-last, register-step, inside-page}
 use Rattle.line.specs.declared.Heard.{Heard as Named}
@@ -202,8 +202,8 @@ module _ (g : Given) (s : Sane g) where
 
     -- a clock that is not heard
     pub k-deaf : (Q : Goal) (a x e : ℕ) → e < 2 → Pending g a x l (ch .latch) m → Q l (ch .latch) m 1 0 → After′ Q e
-    k-deaf Q a x e h (inl p) q = deaf-heard (F g) (r .enable) ch m Q e h (subst Deaf (sym (p .phase)) tt) q
-    k-deaf Q a x e h (inr p) q = deaf-heard (F g) (r .enable) ch m Q e h (subst Deaf (sym (p .phase)) tt) q
+    k-deaf Q a x e h (inl p) q = deaf-heard (F g) (r .enable) ch m Q e h (subst NoTransfer (sym (p .phase)) tt) q
+    k-deaf Q a x e h (inr p) q = deaf-heard (F g) (r .enable) ch m Q e h (subst NoTransfer (sym (p .phase)) tt) q
 
     -- ---- ninth clocks
     -- the select of a write

@@ -11,6 +11,7 @@ use borrow.Author.Tests.{ne-eqb}
 use Rattle.parts.specs.declared.Refusal.{Refusal}
 use Rattle.parts.specs.declared.Refusal.the-variants.{PollsUsed}
 use Rattle.parts.specs.Table.{factsOf}
+use Rattle.line.specs.Rules.{NoTransfer}
 use Rattle.line.specs.declared.Cycle.the-variants.{Writing}
 use Rattle.line.specs.declared.Phase.the-variants.{Busy}
 use Rattle.line.specs.declared.Line.{Line}
@@ -36,7 +37,7 @@ use Rattle.driver_laws.proofs.Grow.{bit-lt}
 use Rattle.bench.specs.Together.{System, startOf, answeredBy, askedOf, togetherOf, pollNext, dueOf, turnsOf}
 use Rattle.demands.specs.Together.{Begins, answerOf}
 use Rattle.demands.specs.Ends.{Writable, pollOf, TurnsRefused}
-use Rattle.demands.proofs.Hears.{Deaf, deaf-heard, start-busy}
+use Rattle.demands.proofs.Hears.{deaf-heard, start-busy}
 use Rattle.demands.proofs.Rel.{refusing, Given, F, T, selectB, InHeard, Rel}
 use Rattle.demands.proofs.Keep.{Sane, Same, After′, k-close, no-nack}
 use Rattle.demands.proofs.Whole.{Holds, Stepped, stepped, asked-elim, asked-holds, G, sane, start-holds}
@@ -130,7 +131,7 @@ module _ (g : Given) (s : Sane g) (free : refusing (T g) (g .pin) (g .locked) �
 
     -- a clock and a Start are not heard
     t-clock : (x : ℕ) → x < 2 → running l → (Q : Line → ℕ → Type 0) → Q l 1 → After′ g s ch m (λ n k y w q. Q n w) x
-    t-clock x h t Q q = deaf-heard (F g) (r .enable) ch m (λ n k y w q. Q n w) x h (subst Deaf (sym t) tt) q
+    t-clock x h t Q q = deaf-heard (F g) (r .enable) ch m (λ n k y w q. Q n w) x h (subst NoTransfer (sym t) tt) q
 
     t-start : running l → After′ g s ch m (λ n k y w q. running n) 2
     t-start t = start-busy (F g) (r .enable) ch m (λ n k y w q. running n) (Writing (T g)) t t

@@ -11,6 +11,7 @@ use Rattle.parts.specs.declared.Event.the-variants.{Ends}
 use Rattle.parts.specs.declared.Refusal.the-variants.{NoData}
 use Rattle.parts.specs.Refusals.{numberOf}
 use Rattle.parts.specs.Table.{factsOf}
+use Rattle.line.specs.Rules.{NoTransfer}
 use Rattle.line.specs.declared.Target.{Target}
 use Rattle.line.specs.declared.Target.the-variants.{Array as TheArray, Ident as TheIdent}
 use Rattle.line.specs.declared.Phase.the-variants.{Receive}
@@ -42,7 +43,7 @@ use Rattle.bench.specs.Together.{System, startOf, answeredBy, askedOf, endedOf,
 use Rattle.demands.specs.Ground.{targetOf}
 use Rattle.demands.specs.Together.{Begins, answerOf, askings}
 use Rattle.demands.specs.Ends.{Writable, Resting, pollOf, InTime, Complete, WritesEnd, DoneCycles, IdentOnce, WritesTaken}
-use Rattle.demands.proofs.Hears.{Deaf, end-free}
+use Rattle.demands.proofs.Hears.{end-free}
 use Rattle.demands.proofs.Rel.{refusing, Given, F, T, selectB, Pending, InBits, InHeard, Rel}
 use Rattle.demands.proofs.Keep.{Sane, Same, After′, k-poll, k-polled, k-deaf, k-select, select-lt, no-nack}
 use Rattle.demands.proofs.Whole.{Holds, Stepped, stepped, asked-elim, asked-holds, ended-holds, G, sane, start-holds}
@@ -78,8 +79,8 @@ Live Rest r c l v = Unit {0}
 Live (Over f) r c l v = ⊥
 
 -- who waits for a Start, or is busy, is not hearing a byte
-not-deaf : (l : Line) (p : ChipPhase) → Deaf p → l .phase ≡ p → l .phase ≡ Receive SelectByte → ⊥
-not-deaf l p d e f = subst Deaf (sym e ∙ f) d
+not-deaf : (l : Line) (p : ChipPhase) → NoTransfer p → l .phase ≡ p → l .phase ≡ Receive SelectByte → ⊥
+not-deaf l p d e f = subst NoTransfer (sym e ∙ f) d
 
 module _ (g : Given) (s : Sane g) (free : refusing (T g) (g .pin) (g .locked) ≡ false) where
   abbrev r : Request

@@ -14,6 +14,7 @@ use Rattle.parts.specs.declared.Facts.{Facts}
 use Rattle.parts.specs.declared.Event.the-variants.{Ends}
 use Rattle.parts.specs.Table.{factsOf, idSizeOf, addressBytesOf}
 use Rattle.parts.proofs.Laws.{sound, branch}
+use Rattle.parts.specs.Refusals.{isFine}
 use Rattle.line.specs.declared.Target.the-variants.{Array as TheArray, Ident as TheIdent}
 use Rattle.line.specs.declared.Cycle.{Cycle}
 use Rattle.line.specs.declared.Cycle.the-variants.{Writing, Locking}
@@ -36,7 +37,7 @@ use Rattle.driver.specs.declared.Answer.the-variants.{Send, Done, Refused}
 use Rattle.driver.specs.declared.Move.{Move}
 use Rattle.driver.specs.Split.{pagesMetOf}
 use Rattle.driver.specs.Request.{fromOf, roomOf, allowedOf, kOf, GoodRequest}
-use Rattle.driver.specs.Step.{fine, bitOf, wireOf, bufferOf}
+use Rattle.driver.specs.Step.{bitOf, wireOf, bufferOf}
 use Rattle.driver.proofs.Facts.{good-request, pages-suc, room-most}
 use Rattle.driver_laws.specs.Run.{addressBytes}
 use Rattle.driver_laws.proofs.Split.{pages-none}
@@ -351,7 +352,7 @@ bytes-most r = branch (λ (x : ℕ). x ≤ 2) (factsOf (r .part) .wide) (λ e. o
 
 pub enough-turns : EnoughTurns
 enough-turns r xs a =
-    let g = good-request r (ap fine (a .fine)) in
+    let g = good-request r (ap isFine (a .fine)) in
     let k = k-few r g in
     let b = bytes-most r in
     let n : r .length ≤ 32768 = omega (arith, g .fits, room-most (r .part) (r .place)) in

@@ -7,6 +7,7 @@ use mathlib.Core.List.{List, [], _∷_, _++_}
 use lib.ListN.{length, length-append}
 use native.Mathlib.Omega.{arith}
 use Rattle.parts.specs.Table.{factsOf}
+use Rattle.parts.specs.Refusals.{isFine}
 use Rattle.state.specs.declared.Chip.{Chip}
 use Rattle.chip.specs.Memory.{Mem, cellsOf, withCells}
 use Rattle.driver.specs.declared.Request.{Request}
@@ -16,7 +17,7 @@ use Rattle.driver.specs.declared.Answer.{Answer}
 use Rattle.driver.specs.declared.Answer.the-variants.{Send, Done, Refused}
 use Rattle.driver.specs.declared.Move.{Move}
 use Rattle.driver.specs.declared.Asked.{Asked}
-use Rattle.driver.specs.Step.{fine, nextOf, bufferOf, fresh}
+use Rattle.driver.specs.Step.{nextOf, bufferOf, fresh}
 use Rattle.driver.proofs.Facts.{good-request, buffer-length}
 use Rattle.driver_laws.specs.Run.{ours, Held, begun, told, afterAll, Finished}
 use Rattle.driver_laws.specs.Run
@@ -158,11 +159,11 @@ module _ (r : Request) (xs : List ℕ) (c : Chip) (m : Mem) (b : Begins r xs c m
   G = givenOf r xs c m
 
   pub sane : Sane G
-  sane = record { good = good-request r (ap fine (b .accepted .fine)); bytes = b .bytes; stored = b .idle .bytes (targetOf (r .place)) }
+  sane = record { good = good-request r (ap isFine (b .accepted .fine)); bytes = b .bytes; stored = b .idle .bytes (targetOf (r .place)) }
 
   start-inv : Inv r Ready (fresh r .counts)
   start-inv =
-      let R = ran r xs (ap fine (b .accepted .fine)) (b .accepted .size) [] in
+      let R = ran r xs (ap isFine (b .accepted .fine)) (b .accepted .size) [] in
       subst (λ (h : Held). Inv r (h .driver .phase) (h .driver .counts)) (sym (R .is)) (R .story .inv)
 
   stored-first : (t : Bool) → m ≡ cond t m (withCells (targetOf (r .place)) (cellsOf (targetOf (r .place)) m) m)

@@ -7,6 +7,7 @@ use mathlib.Core.List.{List, [], _∷_, _++_}
 use lib.ListN.{getD}
 use lib.Dec.{eqb}
 use Rattle.parts.specs.Table.{factsOf}
+use Rattle.parts.specs.Bytes.{sameOf}
 use Rattle.chip.specs.Delivery.{standbyOf, deliveredOf}
 use Rattle.driver.specs.declared.Place.the-variants.{Array}
 use Rattle.driver.specs.declared.Request.{Request}
@@ -14,7 +15,7 @@ use Rattle.driver.specs.declared.Answer.{Answer}
 use Rattle.driver.specs.declared.Answer.the-variants.{Send, Done, Refused}
 use Rattle.driver.specs.Split.{partsOf}
 use Rattle.bench.specs.Together.{System, startOf, turnsOf}
-use Rattle.laws.specs.Trials.{Trial, firstWrong, same, chipTrials}
+use Rattle.laws.specs.Trials.{Trial, firstWrong, chipTrials}
 use Rattle.demands.specs.Together.{answerOf}
 
 -- 11. "Part 2, 5 bytes at 30: 30..31, 32..34; with d = 1, 117 clocks"
@@ -47,9 +48,9 @@ around30 s =
 
 unfoldable pub driverTrials : List Trial
 driverTrials =
-    record { trial = 11; right = same (partsOf 32 5 30 5) (2 ∷ 3 ∷ []) }
+    record { trial = 11; right = sameOf (partsOf 32 5 30 5) (2 ∷ 3 ∷ []) }
     ∷ record { trial = 11; right = doneWith (answerOf ranAt30) 2 5 && eqb (ranAt30 .clocks) 117 && eqb (ranAt30 .cycles) 2 }
-    ∷ record { trial = 11; right = same (around30 ranAt30) (0xFF ∷ fiveBytes ++ (0xFF ∷ [])) }
+    ∷ record { trial = 11; right = sameOf (around30 ranAt30) (0xFF ∷ fiveBytes ++ (0xFF ∷ [])) }
     ∷ []
 
 -- the place of the first row that is not right, counted from 1; 0 where there is none

@@ -2,7 +2,7 @@
 -- Assumes nothing.
 use Prim.Native.Nat.{ℕ, zero, suc, _+_, _-_, _*_, _/_, _%_, _≤_, _<_}
 use mathlib.Core.Path.{_≡_, refl, sym, _∙_, ap}
-use mathlib.Core.Bool.{Bool, true, false, cond, not, false≢true}
+use mathlib.Core.Bool.{Bool, true, false, cond, not, false≢true, _&&_}
 use mathlib.Core.List.{List}
 use lib.ListN.{length, length-set}
 use lib.Dec.{eqb, leb, ltb, eqb·suc-zero}
@@ -11,7 +11,7 @@ use native.Mathlib.Nat.{mod-le, div-le-self, mul-le-mul}
 use borrow.Author.Tests.{ltb-true, ltb-false, leb-true, leb-false, eqb-true, eq-eqb, le-leb}
 use Rattle.parts.specs.declared.Verdict.{Verdict}
 use Rattle.parts.specs.Table.{factsOf, idSizeOf, enableRightOf}
-use Rattle.parts.specs.Refusals.{givenOf}
+use Rattle.parts.specs.Refusals.{givenOf, isFine}
 use Rattle.parts.proofs.Laws.{sound, branch}
 use Rattle.driver.specs.Split.{firstOf, pagesMetOf}
 use Rattle.driver.specs.declared.Place.{Place}
@@ -19,7 +19,7 @@ use Rattle.driver.specs.declared.Place.the-variants.{Array, Ident}
 use Rattle.driver.specs.declared.Request.{Request}
 use Rattle.driver.specs.declared.Driver.{Driver}
 use Rattle.driver.specs.Request.{fromOf, roomOf, thereOf, beyondAt, limitOf, faultsOf, judgeOf, allowedOf, kOf, GoodRequest}
-use Rattle.driver.specs.Step.{both, nameOf, selectAt, hereOf, wireOf, fine, phaseRight, countsRight, clocksOf, rangeOf, GoodCounts, shiftOf, wholeOf, keptOf, bufferOf}
+use Rattle.driver.specs.Step.{nameOf, selectAt, hereOf, wireOf, phaseRight, countsRight, clocksOf, rangeOf, GoodCounts, shiftOf, wholeOf, keptOf, bufferOf}
 
 pub room-most : (n : ℕ) (p : Place) → roomOf (factsOf n) p ≤ 32768
 unfolding idSizeOf
@@ -74,12 +74,12 @@ most-fits r g =
     mul-le-mul {n₂ = 32768} (omega (arith, pages-most (factsOf (r .part) .page) (fromOf (r .place)) (r .length), g .fits, room-most (r .part) (r .place))) (g .most)
 
 -- ---- from the tests
-both-yes : (a : Bool) {b : Bool} → both a b ≡ true → (a ≡ true) × (b ≡ true)
+both-yes : (a : Bool) {b : Bool} → (a && b) ≡ true → (a ≡ true) × (b ≡ true)
 both-yes true e = (refl, e)
 both-yes false e = absurd (false≢true e)
 
 -- a test that refuses did not apply
-not-refused : (b : Bool) (r v : Verdict) → fine r ≡ false → fine (cond b r v) ≡ true → (b ≡ false) × (fine v ≡ true)
+not-refused : (b : Bool) (r v : Verdict) → isFine r ≡ false → isFine (cond b r v) ≡ true → (b ≡ false) × (isFine v ≡ true)
 not-refused true r v f e = absurd (false≢true (sym f ∙ e))
 not-refused false r v f e = (refl, e)
 
@@ -102,7 +102,7 @@ unfolding limitOf
 budget-most true b e = omega arith
 budget-most false b e = branch (λ (t : Bool). t ≡ false → b ≤ 1000) (ltb b 1) (λ t z. absurd (false≢true (sym z))) (λ t z. ltb-false 1000 b z) e
 
-pub good-request : (r : Request) → fine (judgeOf r) ≡ true → GoodRequest r
+pub good-request : (r : Request) → isFine (judgeOf r) ≡ true → GoodRequest r
 unfolding judgeOf givenOf faultsOf enableRightOf allowedOf
 good-request r e0 =
     let (t1, e1) = not-refused (not (factsOf (r .part) .known)) _ _ refl e0 in
@@ -121,7 +121,7 @@ good-request r e0 =
 pub good-counts : (d : Driver) (n : ℕ) → rangeOf d n ≡ true → GoodCounts d n
 unfolding rangeOf countsRight
 good-counts d n e0 =
-    let (t0, e1) = both-yes (fine (judgeOf (d .request))) e0 in
+    let (t0, e1) = both-yes (isFine (judgeOf (d .request))) e0 in
     let (t1, e2) = both-yes (phaseRight (d .phase) (d .request .reads)) e1 in
     let (t2, e3) = both-yes (eqb n (d .request .length)) e2 in
     let (t3, e4) = both-yes (leb (d .counts .at) n) e3 in
@@ -140,7 +140,7 @@ good-counts d n e0 =
 
 pub range-request : (d : Driver) (n : ℕ) → rangeOf d n ≡ true → GoodRequest (d .request)
 unfolding rangeOf
-range-request d n e = good-request (d .request) (both-yes (fine (judgeOf (d .request))) e .0)
+range-request d n e = good-request (d .request) (both-yes (isFine (judgeOf (d .request))) e .0)
 
 -- all that a step requires
 pub fit : (d : Driver) (n : ℕ) → rangeOf d n ≡ true → GoodRequest (d .request) × GoodCounts d (d .request .length)
@@ -150,7 +150,7 @@ fit d n e =
     (range-request d n e, record { right = g .right; count = refl; at = omega arith; seen = g .seen; bits = g .bits; tries = g .tries; polls = g .polls })
 
 -- and back
-pub range-good : (d : Driver) (n : ℕ) → fine (judgeOf (d .request)) ≡ true → GoodCounts d n → rangeOf d n ≡ true
+pub range-good : (d : Driver) (n : ℕ) → isFine (judgeOf (d .request)) ≡ true → GoodCounts d n → rangeOf d n ≡ true
 unfolding rangeOf countsRight
 range-good d n e g =
     simp

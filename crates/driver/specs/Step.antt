@@ -2,15 +2,15 @@
 -- Assumes nothing.
 use Prim.Native.Nat.{ℕ, _+_, _-_, _*_, _/_, _%_, _^_, _≤_}
 use mathlib.Core.Path.{_≡_}
-use mathlib.Core.Bool.{Bool, true, false, cond, not}
+use mathlib.Core.Bool.{Bool, true, false, cond, not, _&&_}
 use mathlib.Core.List.{List}
 use lib.ListN.{length, getD, set}
 use lib.Dec.{eqb, leb, ltb}
 use Rattle.parts.specs.declared.Refusal.{Refusal}
 use Rattle.parts.specs.declared.Refusal.the-variants.{BadState, NoSelect, NoData, PollsUsed}
-use Rattle.parts.specs.declared.Verdict.{Verdict}
 use Rattle.parts.specs.declared.Verdict.the-variants.{Fine, Refused as Judged}
 use Rattle.parts.specs.Table.{factsOf}
+use Rattle.parts.specs.Refusals.{isFine}
 use Rattle.driver.specs.Split.{firstOf}
 use Rattle.driver.specs.Request.{fromOf, judgeOf, allowedOf, kOf}
 use Rattle.driver.specs.declared.Place.{Place}
@@ -29,10 +29,6 @@ use Rattle.driver.specs.declared.Move.{Move}
 use Rattle.driver.specs.declared.Asked.{Asked}
 use Rattle.driver.specs.declared.Wire.{Wire}
 use Rattle.driver.specs.declared.Begun.{Begun}
-
-abbrev pub both : Bool → Bool → Bool
-both true b = b
-both false b = false
 
 -- ---- the bytes on the bus
 
@@ -255,23 +251,19 @@ phaseRight (Over f) reads = true
 -- budget or in all above k times it"; n is the buffer's length
 unfoldable pub countsRight : Counts → ℕ → ℕ → ℕ → ℕ → ℕ → Bool
 countsRight c n length bits allowed most =
-    both (eqb n length)
-    (both (leb (c .at) n)
-    (both (leb (c .seen) (c .at))
-    (both (leb bits 8)
-    (both (leb (c .tries) allowed)
-    (leb (c .polls) most)))))
-
-abbrev pub fine : Verdict → Bool
-fine Fine = true
-fine (Judged r) = false
+    eqb n length
+    && (leb (c .at) n
+    && (leb (c .seen) (c .at)
+    && (leb bits 8
+    && (leb (c .tries) allowed
+    && leb (c .polls) most))))
 
 -- "a request that 1, 2, 7 or 8 would refuse", and the above
 unfoldable pub rangeOf : Driver → ℕ → Bool
 rangeOf d n =
-    both (fine (judgeOf (d .request)))
-    (both (phaseRight (d .phase) (d .request .reads))
-    (countsRight (d .counts) n (d .request .length) (clocksOf (d .phase)) (allowedOf (d .request)) (kOf (d .request) * allowedOf (d .request))))
+    isFine (judgeOf (d .request))
+    && (phaseRight (d .phase) (d .request .reads)
+    && countsRight (d .counts) n (d .request .length) (clocksOf (d .phase)) (allowedOf (d .request)) (kOf (d .request) * allowedOf (d .request)))
 
 -- what a driver in range has
 pub record GoodCounts (d : Driver) (n : ℕ) : Type 0 where

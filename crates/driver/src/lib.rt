@@ -16,7 +16,8 @@ ghost use Rattle.driver.specs.Request.{
   kOf,
   GoodRequest,
 };
-ghost use Rattle.driver.specs.Step.{nameOf, selectAt, wireOf, byteOf, bitOf, ninthOf, shiftOf, takenOf, sentOf, readyOf, bitsAt, followOf, leadAt, lowAt, dataAt, pollOf, answeredOf, takeAt, endOf, heardAt, heardOf, bitsOf, refusalOf, moveAt, stepOf, clocksOf, slotRight, phaseRight, countsRight, fine, rangeOf, GoodCounts, nextOf, slotWhole, wholeOf, keptOf, bufferOf, begunOf, unfitOf};
+ghost use Rattle.parts.specs.Refusals.{isFine};
+ghost use Rattle.driver.specs.Step.{nameOf, selectAt, wireOf, byteOf, bitOf, ninthOf, shiftOf, takenOf, sentOf, readyOf, bitsAt, followOf, leadAt, lowAt, dataAt, pollOf, answeredOf, takeAt, endOf, heardAt, heardOf, bitsOf, refusalOf, moveAt, stepOf, clocksOf, slotRight, phaseRight, countsRight, rangeOf, GoodCounts, nextOf, slotWhole, wholeOf, keptOf, bufferOf, begunOf, unfitOf};
 use parts::ArrayAddress;
 use parts::Facts;
 use parts::Faults;
@@ -774,7 +775,7 @@ fn most(request: Request) -> usize
 }
 
 fn is_fine(v: Verdict) -> bool
-    ensures { λ r. ⌜ r ≡ fine v ⌝ }
+    ensures { λ r. ⌜ r ≡ isFine v ⌝ }
 {
     match v {
         Verdict::Fine => true,

@@ -9,6 +9,7 @@ use native.Mathlib.Omega.{arith}
 use Rattle.parts.specs.declared.Facts.{Facts}
 use Rattle.parts.specs.Table.{factsOf, idSizeOf}
 use Rattle.parts.proofs.Laws.{sound, branch}
+use Rattle.parts.specs.Refusals.{isFine}
 use Rattle.driver.specs.declared.Place.{Place}
 use Rattle.driver.specs.declared.Place.the-variants.{Array, Ident}
 use Rattle.driver.specs.declared.Request.{Request}
@@ -18,7 +19,7 @@ use Rattle.driver.specs.declared.Phase.{Phase}
 use Rattle.driver.specs.declared.Phase.the-variants.{Ready, Bits, Heard, Rest, Over}
 use Rattle.driver.specs.declared.Driver.{Driver}
 use Rattle.driver.specs.Request.{fromOf, roomOf, judgeOf, kOf}
-use Rattle.driver.specs.Step.{fine, nameOf, selectAt, rangeOf, slotRight, phaseRight, slotWhole, wholeOf, keptOf, unfitOf, nextOf, bufferOf, fresh}
+use Rattle.driver.specs.Step.{nameOf, selectAt, rangeOf, slotRight, phaseRight, slotWhole, wholeOf, keptOf, unfitOf, nextOf, bufferOf, fresh}
 use Rattle.driver.proofs.Facts.{good-request, good-counts}
 use Rattle.driver_laws.specs.Promises.{Accepted, OnePart, SevenBits}
 use Rattle.driver_laws.proofs.Split.{one-page}
@@ -32,7 +33,7 @@ Named (Ident i) = Unit {0}
 pub ident-one : (r : Request) (xs : List ℕ) → Accepted r xs → Named (r .place) → 0 < r .length → OnePart r
 unfolding kOf idSizeOf
 ident-one r xs a n o =
-    let g = good-request r (ap fine (a .fine)) in
+    let g = good-request r (ap isFine (a .fine)) in
     one-page (factsOf (r .part) .page) (fromOf (r .place)) (r .length) (sound (r .part) .pagePos) o (go (r .place) n (g .fits))
   where
     most : (f : Facts) → cond (f .ident) (f .page) 0 ≤ f .page
@@ -83,6 +84,6 @@ unfolding nextOf bufferOf
 unfit-stays d level xs e = simp e (refl, refl)
 
 -- so is every step of a driver whose request was refused
-pub refused-stays : (r : Request) (level : ℕ) (xs : List ℕ) → fine (judgeOf r) ≡ false → (nextOf (fresh r) level xs ≡ unfitOf (fresh r)) × (bufferOf (fresh r) level xs ≡ xs)
+pub refused-stays : (r : Request) (level : ℕ) (xs : List ℕ) → isFine (judgeOf r) ≡ false → (nextOf (fresh r) level xs ≡ unfitOf (fresh r)) × (bufferOf (fresh r) level xs ≡ xs)
 unfolding rangeOf
 refused-stays r level xs e = unfit-stays (fresh r) level xs (simp e)

@@ -2,7 +2,7 @@
 -- Assumes nothing.
 use Prim.Native.Nat.{ℕ, zero, suc, _+_, _-_, _*_, _<_}
 use mathlib.Core.Path.{_≡_, refl, sym, _∙_, ap}
-use mathlib.Core.Bool.{Bool, true, false, cond, not, false≢true}
+use mathlib.Core.Bool.{Bool, true, false, cond, not, false≢true, _&&_}
 use mathlib.Core.List.{List}
 use lib.ListN.{getD}
 use lib.Dec.{eqb, ltb}
@@ -24,7 +24,7 @@ use Rattle.driver.specs.declared.Answer.{Answer}
 use Rattle.driver.specs.declared.Answer.the-variants.{Send, Done, Refused}
 use Rattle.driver.specs.declared.Move.{Move}
 use Rattle.driver.specs.Request.{kOf}
-use Rattle.driver.specs.Step.{both, wireOf, byteOf, bitOf, goes, withByte}
+use Rattle.driver.specs.Step.{wireOf, byteOf, bitOf, goes, withByte}
 use Rattle.driver_laws.specs.Run.{addressBytes}
 use Rattle.driver_laws.specs.Where.{leftOf}
 use Rattle.driver_laws.proofs.View.{at, clockOf, leads, Way, w-done, w-open, w-bit, w-ninth, w-got, w-nack, w-high, w-only, w-low, w-turn, w-data, w-more, w-close, w-drop, w-poll, w-again, w-give, w-page, w-take, w-next, w-end, w-over}
@@ -116,7 +116,7 @@ slotOdd Turn = false
 slotOdd Take = false
 
 abbrev pub oddAt : Phase → Request → Counts → Bool
-oddAt Ready r c = both (r .reads) (not (eqb (c .at) 0))
+oddAt Ready r c = r .reads && not (eqb (c .at) 0)
 oddAt (Bits s b) r c = slotOdd s
 oddAt (Heard s) r c = slotOdd s
 oddAt Rest r c = true
@@ -129,7 +129,7 @@ turn odd e = cond (eqb e 3) (not odd) odd
 
 -- ---- one event more
 pub record Grow (p : Phase) (r : Request) (c : Counts) (m : Move) (e : ℕ) : Type 0 where
-  pub polls : m .counts .polls ≡ c .polls + cond (both (oddAt p r c) (eqb e 2)) 1 0
+  pub polls : m .counts .polls ≡ c .polls + cond (oddAt p r c && eqb e 2) 1 0
   pub odd : oddAt (m .phase) r (m .counts) ≡ turn (oddAt p r c) e
   pub clocks : over (m .phase) ≡ false → clocksAt (m .phase) r (m .counts) ≡ clocksAt p r c + cond (ltb e 2) 1 0
   pub ends : over (m .phase) ≡ false → endsAt (m .phase) r (m .counts) + cond (ltb e 2) 1 0 ≡ endsAt p r c + 1
@@ -147,7 +147,7 @@ bit-lt v i = branch (λ (x : ℕ). x < 2) (ltb i 8) (λ e. mod-lt _ (omega arith
 clock-one : (v : ℕ) → v < 2 → cond {A = ℕ} (ltb v 2) 1 0 ≡ 1
 clock-one v h = simp (lt-ltb v 2 h)
 
-clock-none : (v : ℕ) (h : Bool) → v < 2 → cond {A = ℕ} (both h (eqb v 2)) 1 0 ≡ 0
+clock-none : (v : ℕ) (h : Bool) → v < 2 → cond {A = ℕ} (h && eqb v 2) 1 0 ≡ 0
 clock-none v true l = simp (ne-eqb v 2 (λ e. omega arith))
 clock-none v false l = refl
 
@@ -193,7 +193,7 @@ module _ (r : Request) where
     gives-up : (p : Phase) (f : Failed) → oddAt (Over f) r c ≡ not (oddAt p r c) → Grow p r c (record { answer = Send 3; phase = Over f; counts = c }) 3
     gives-up p f o = record { polls = none (oddAt p r c); odd = o; clocks = λ e. absurd (false≢true (sym e)); ends = λ e. absurd (false≢true (sym e)) }
       where
-        none : (h : Bool) → c .polls ≡ c .polls + cond {A = ℕ} (both h false) 1 0
+        none : (h : Bool) → c .polls ≡ c .polls + cond {A = ℕ} (h && false) 1 0
         none true = omega arith
         none false = omega arith
 
@@ -209,15 +209,15 @@ module _ (r : Request) where
   ready-even : (c : Counts) → Inv r Ready c → (c .at ≡ r .length → ⊥) → oddAt Ready r c ≡ false
   ready-even c v n = go (r .reads) refl
     where
-      go : (b : Bool) → r .reads ≡ b → both b (not (eqb (c .at) 0)) ≡ false
+      go : (b : Bool) → r .reads ≡ b → (b && not (eqb (c .at) 0)) ≡ false
       go true e = ap not (eq-eqb (c .at) 0 (v .here .whole e n))
       go false e = refl
 
-  read-odd : (b : Bool) (a : ℕ) → b ≡ true → 0 < a → both b (not (eqb a 0)) ≡ true
+  read-odd : (b : Bool) (a : ℕ) → b ≡ true → 0 < a → (b && not (eqb a 0)) ≡ true
   read-odd true a e h = ap not (ne-eqb a 0 (λ z. omega arith))
   read-odd false a e h = absurd (false≢true e)
 
-  both-no : (b c : Bool) → b ≡ false → both b c ≡ false
+  both-no : (b c : Bool) → b ≡ false → (b && c) ≡ false
   both-no true c e = absurd (false≢true (sym e))
   both-no false c e = refl
 

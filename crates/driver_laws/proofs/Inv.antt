@@ -12,6 +12,7 @@ use native.Mathlib.Nat.{mul-le-mul-right}
 use Rattle.parts.specs.Table.{factsOf}
 use Rattle.parts.proofs.Laws.{sound}
 use Rattle.parts.proofs.Tests.{not-yes}
+use Rattle.parts.specs.Refusals.{isFine}
 use Rattle.driver.specs.declared.Request.{Request}
 use Rattle.driver.specs.declared.Slot.{Slot}
 use Rattle.driver.specs.declared.Slot.the-variants.{Select, High, Low, Data, Poll, Turn, Take}
@@ -21,7 +22,7 @@ use Rattle.driver.specs.declared.Counts.{Counts}
 use Rattle.driver.specs.declared.Move.{Move}
 use Rattle.driver.specs.Split.{pagesMetOf}
 use Rattle.driver.specs.Request.{fromOf, judgeOf, allowedOf, kOf}
-use Rattle.driver.specs.Step.{withByte, takenOf, clocksOf, phaseRight, fine, GoodCounts}
+use Rattle.driver.specs.Step.{withByte, takenOf, clocksOf, phaseRight, GoodCounts}
 use Rattle.driver.proofs.Facts.{good-request}
 use Rattle.driver_laws.specs.Plan.{placeOf, lengthOf}
 use Rattle.driver_laws.specs.Where.{leftOf}
@@ -152,7 +153,7 @@ Here Rest r c = Closed r (c .at) (c .seen) × (c .tries ≡ 0)
 Here (Over f) r c = r .reads ≡ true → c .seen ≡ 0
 
 pub record Inv (r : Request) (p : Phase) (c : Counts) : Type 0 where
-  pub good : fine (judgeOf r) ≡ true
+  pub good : isFine (judgeOf r) ≡ true
   pub right : phaseRight p (r .reads) ≡ true
   pub bits : clocksOf p ≤ 8
   pub common : Common r (c .at) (c .seen) (c .tries) (c .polls)

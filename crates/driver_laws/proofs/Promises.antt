@@ -9,6 +9,7 @@ use lib.Dec.{eqb}
 use native.Mathlib.Omega.{arith}
 use borrow.Author.Tests.{eq-eqb, ne-eqb}
 use Rattle.parts.specs.declared.Refusal.{Refusal}
+use Rattle.parts.specs.Refusals.{isFine}
 use Rattle.driver.specs.declared.Request.{Request}
 use Rattle.driver.specs.declared.Failed.{Failed}
 use Rattle.driver.specs.declared.Phase.{Phase}
@@ -21,7 +22,7 @@ use Rattle.driver.specs.declared.Move.{Move}
 use Rattle.driver.specs.declared.Asked.{Asked}
 use Rattle.driver.specs.Split.{sum}
 use Rattle.driver.specs.Request.{judgeOf, kOf}
-use Rattle.driver.specs.Step.{fine, refusalOf, bufferOf}
+use Rattle.driver.specs.Step.{refusalOf, bufferOf}
 use Rattle.driver_laws.specs.Run.{ours, Held, answerOf, told, Finished, clocksIn, addressBytes, boundOf}
 use Rattle.driver_laws.specs.Plan.{writePlan, readPlan}
 use Rattle.driver_laws.specs.Where.{leftOf, Parts, Before, Stopped}
@@ -244,8 +245,8 @@ module _ (r : Request) (xs : List ℕ) (c : Counts) (ys es ls : List ℕ) (v : S
           q .events ∙ empty (q .each) (omega (arith, q .pages))
 
 -- ---- the promises
-fine-yes : (r : Request) (xs : List ℕ) → Accepted r xs → fine (judgeOf r) ≡ true
-fine-yes r xs a = ap fine (a .fine)
+fine-yes : (r : Request) (xs : List ℕ) → Accepted r xs → isFine (judgeOf r) ≡ true
+fine-yes r xs a = ap isFine (a .fine)
 
 module _ (r : Request) (xs : List ℕ) (a : Accepted r xs) (ls : List ℕ) (l : ℕ) where
   R : Ran r xs (after ours r xs ls l) (sent ours r xs ls l) ls

@@ -2,7 +2,7 @@
 -- Assumes nothing.
 use Prim.Native.Nat.{ℕ, zero, _+_, _-_, _*_}
 use mathlib.Core.Path.{_≡_, refl, sym, _∙_, ap, subst}
-use mathlib.Core.Bool.{Bool, true, false, cond, false≢true}
+use mathlib.Core.Bool.{Bool, true, false, cond, false≢true, _&&_}
 use mathlib.Core.List.{List, [], _∷_, _++_, append-nil, append-assoc}
 use lib.ListN.{length, length-append, length-set}
 use lib.Dec.{eqb, ltb}
@@ -18,7 +18,7 @@ use Rattle.driver.specs.declared.Answer.the-variants.{Send, Done, Refused}
 use Rattle.driver.specs.declared.Move.{Move}
 use Rattle.driver.specs.declared.Asked.{Asked}
 use Rattle.driver.specs.Request.{judgeOf, allowedOf, kOf}
-use Rattle.driver.specs.Step.{both, fine, shiftOf, bufferOf, fresh}
+use Rattle.driver.specs.Step.{shiftOf, bufferOf, fresh}
 use Rattle.driver_laws.specs.Run.{ours, Held, begun, sentBy, told, afterAll, eventsOf, clocksIn, pollsIn, clockOfByte}
 use Rattle.driver_laws.specs.Where.{leftOf, Before}
 use Rattle.driver_laws.proofs.View.{at, leads, takes, Way, w-done, w-open, w-bit, w-ninth, w-got, w-nack, w-high, w-only, w-low, w-turn, w-data, w-more, w-close, w-drop, w-poll, w-again, w-give, w-page, w-take, w-next, w-end, w-over, Steps, steps}
@@ -27,6 +27,7 @@ use Rattle.driver_laws.proofs.Grow.{A, heads, ends, clocksAt, endsAt, o
 use Rattle.driver_laws.proofs.Trail.{Told, trail-step}
 use Rattle.driver_laws.proofs.Got.{Gets, Long, got-step}
 use Rattle.driver_laws.proofs.Bound.{no-polls}
+use Rattle.parts.specs.Refusals.{isFine}
 
 -- ---- one event more at the end
 abbrev pub oddIn : Bool → List ℕ → Bool
@@ -37,7 +38,7 @@ odd-more : (h : Bool) (es : List ℕ) (e : ℕ) → oddIn h (es ++ (e ∷ [])) �
 odd-more h [] e = refl
 odd-more h (x ∷ es) e = odd-more (turn h x) es e
 
-polls-more : (h : Bool) (es : List ℕ) (e : ℕ) → pollsIn h (es ++ (e ∷ [])) ≡ pollsIn h es + cond (both (oddIn h es) (eqb e 2)) 1 0
+polls-more : (h : Bool) (es : List ℕ) (e : ℕ) → pollsIn h (es ++ (e ∷ [])) ≡ pollsIn h es + cond (oddIn h es && eqb e 2) 1 0
 polls-more h [] e = omega arith
 polls-more h (x ∷ es) e = omega (arith, polls-more (turn h x) es e)
 
@@ -173,7 +174,7 @@ module _ (r : Request) (xs : List ℕ) where
   counted p c m (Send e) es back k g =
       let o = k .odd in
       record {
-        polls = g .polls ∙ (ap (λ (n : ℕ). n + cond (both (oddAt p r c) (eqb e 2)) 1 0) (k .polls) ∙ (ap (λ (t : Bool). pollsIn false es + cond (both t (eqb e 2)) 1 0) o ∙ sym (polls-more false es e)));
+        polls = g .polls ∙ (ap (λ (n : ℕ). n + cond (oddAt p r c && eqb e 2) 1 0) (k .polls) ∙ (ap (λ (t : Bool). pollsIn false es + cond (t && eqb e 2) 1 0) o ∙ sym (polls-more false es e)));
         odd = g .odd ∙ (ap (λ (t : Bool). turn t e) o ∙ sym (odd-more false es e));
         clocks = λ f. omega (arith, clocks-more es e, k .clocks (back f), g .clocks f);
         ends = λ f. omega (arith, length-append es (e ∷ []), k .ends (back f), g .clocks f, g .ends f);
@@ -272,7 +273,7 @@ module _ (r : Request) (xs : List ℕ) where
           (subst (λ (y : List ℕ). Ran (afterAll ours (held (m .phase) (m .counts) zs) ks) y ((ls ++ (k ∷ [])) ++ ks)) (append-assoc es (sentBy (m .answer)) (eventsOf ours (held (m .phase) (m .counts) zs) ks)) w))
 
   -- ---- from the start
-  start-inv : fine (judgeOf r) ≡ true → Inv r Ready (fresh r .counts)
+  start-inv : isFine (judgeOf r) ≡ true → Inv r Ready (fresh r .counts)
   start-inv e =
       let k = left-all r in
       record {
@@ -283,7 +284,7 @@ module _ (r : Request) (xs : List ℕ) where
         here = record { same = refl; none = refl; whole = λ a b. refl };
       }
 
-  start : fine (judgeOf r) ≡ true → length xs ≡ r .length → Story r xs Ready (fresh r .counts) xs [] []
+  start : isFine (judgeOf r) ≡ true → length xs ≡ r .length → Story r xs Ready (fresh r .counts) xs [] []
   start e n =
       record {
         inv = start-inv e;
@@ -314,7 +315,7 @@ module _ (r : Request) (xs : List ℕ) where
           go true = refl
           go false = omega (arith, none)
 
-      even : (b : Bool) → both b false ≡ false
+      even : (b : Bool) → (b && false) ≡ false
       even true = refl
       even false = refl
 
@@ -322,5 +323,5 @@ module _ (r : Request) (xs : List ℕ) where
       before-all true = refl
       before-all false = record { each = []; ends = refl; pages = omega (arith, left-all r); polled = refl; within = tt; events = refl }
 
-  pub ran : fine (judgeOf r) ≡ true → length xs ≡ r .length → (ls : List ℕ) → Ran (afterAll ours (begun r xs) ls) (eventsOf ours (begun r xs) ls) ls
+  pub ran : isFine (judgeOf r) ≡ true → length xs ≡ r .length → (ls : List ℕ) → Ran (afterAll ours (begun r xs) ls) (eventsOf ours (begun r xs) ls) ls
   ran e n ls = run Ready (fresh r .counts) xs [] [] (start e n) ls

@@ -10,6 +10,7 @@ use native.Mathlib.Omega.{arith}
 use borrow.Author.Tests.{ltb-true, ltb-false, eqb-true, eqb-false, lt-ltb, le-leb, lt-leb}
 use Rattle.parts.specs.Table.{factsOf}
 use Rattle.parts.proofs.Laws.{branch}
+use Rattle.parts.specs.Refusals.{isFine}
 use Rattle.driver.specs.declared.Request.{Request}
 use Rattle.driver.specs.declared.Slot.{Slot}
 use Rattle.driver.specs.declared.Slot.the-variants.{Select, High, Low, Data, Poll, Turn, Take}
@@ -22,7 +23,7 @@ use Rattle.driver.specs.declared.Driver.{Driver}
 use Rattle.driver.specs.declared.Answer.the-variants.{Done}
 use Rattle.driver.specs.declared.Move.{Move}
 use Rattle.driver.specs.Request.{judgeOf, allowedOf}
-use Rattle.driver.specs.Step.{wireOf, byteOf, bitOf, shiftOf, withNext, withPoll, withSeen, takenOf, sentOf, goes, opens, readyOf, bitsAt, leadAt, lowAt, dataAt, pollOf, answeredOf, takeAt, endOf, heardOf, bitsOf, overOf, moveAt, stepOf, clocksOf, fine, GoodCounts, nextOf, wholeOf, keptOf, bufferOf}
+use Rattle.driver.specs.Step.{wireOf, byteOf, bitOf, shiftOf, withNext, withPoll, withSeen, takenOf, sentOf, goes, opens, readyOf, bitsAt, leadAt, lowAt, dataAt, pollOf, answeredOf, takeAt, endOf, heardOf, bitsOf, overOf, moveAt, stepOf, clocksOf, GoodCounts, nextOf, wholeOf, keptOf, bufferOf}
 use Rattle.driver.proofs.Facts.{range-good}
 
 -- a driver from its parts
@@ -162,7 +163,7 @@ pub record Steps (r : Request) (p : Phase) (c : Counts) (l : ℕ) (xs : List ℕ
   pub way : Way r c l xs p move (bufferOf (at r p c) l xs)
   pub asked : nextOf (at r p c) l xs ≡ record { answer = move .answer; driver = at r (move .phase) (move .counts) }
 
-pub steps : (r : Request) (p : Phase) (c : Counts) (l : ℕ) (xs : List ℕ) → fine (judgeOf r) ≡ true → GoodCounts (at r p c) (length xs) → Room p r c → Steps r p c l xs
+pub steps : (r : Request) (p : Phase) (c : Counts) (l : ℕ) (xs : List ℕ) → isFine (judgeOf r) ≡ true → GoodCounts (at r p c) (length xs) → Room p r c → Steps r p c l xs
 unfolding nextOf bufferOf stepOf keptOf
 steps r p c l xs e g o =
     let t = range-good (at r p c) (length xs) e g in

@@ -1,7 +1,7 @@
 -- A whole run: the driver asked once for each level of any list, the events that it sent, and what is counted in them.
 -- Assumes nothing.
 use Prim.Native.Nat.{ℕ, zero, suc, _+_, _*_}
-use mathlib.Core.Bool.{Bool, cond, not}
+use mathlib.Core.Bool.{Bool, cond, not, _&&_}
 use mathlib.Core.List.{List, [], _∷_, _++_}
 use lib.ListN.{getD}
 use lib.Dec.{eqb, ltb}
@@ -12,7 +12,7 @@ use Rattle.driver.specs.declared.Asked.{Asked}
 use Rattle.driver.specs.declared.Answer.{Answer}
 use Rattle.driver.specs.declared.Answer.the-variants.{Send, Done, Refused}
 use Rattle.driver.specs.Request.{allowedOf, kOf}
-use Rattle.driver.specs.Step.{both, shiftOf, nextOf, bufferOf, fresh}
+use Rattle.driver.specs.Step.{shiftOf, nextOf, bufferOf, fresh}
 
 -- how a driver answers, and what it leaves in the buffer: any such pair of functions, so that promises can be broken
 pub record Machine : Type 0 where
@@ -70,7 +70,7 @@ clocksIn (e ∷ es) = cond (ltb e 2) 1 0 + clocksIn es
 -- Start with an odd number of Stops before it; `odd` says whether it is odd so far
 abbrev pub pollsIn : Bool → List ℕ → ℕ
 pollsIn odd [] = 0
-pollsIn odd (e ∷ es) = cond (both odd (eqb e 2)) 1 0 + pollsIn (cond (eqb e 3) (not odd) odd) es
+pollsIn odd (e ∷ es) = cond (odd && eqb e 2) 1 0 + pollsIn (cond (eqb e 3) (not odd) odd) es
 
 -- A of document 01
 abbrev pub addressBytes : Request → ℕ

@@ -26,11 +26,11 @@ use Rattle.line.specs.declared.Core.{Core}
 use Rattle.line.specs.declared.Line.{Line}
 use Rattle.line.specs.declared.Act.{Act}
 use Rattle.line.specs.declared.Act.the-variants.{Keep}
-use Rattle.line.specs.Rules.{at, takenOf, landed, releasedIn, receivedOf, receiveActOf, receiveLevelOf, movedOf, sentOf, sendLevelOf, clockedOf, clockActOf, clockLevelOf, nextOf, actOf, levelOf, begunOf}
+use Rattle.line.specs.Rules.{at, takenOf, landed, releasedIn, receivedOf, receiveActOf, receiveLevelOf, movedOf, sentOf, sendLevelOf, clockedOf, clockActOf, clockLevelOf, nextOf, actOf, levelOf, begunOf, NoTransfer}
 use Rattle.state.specs.declared.Chip.{Chip}
 use Rattle.chip.specs.Memory.{Mem, chip, latchOf, shownOf, seenOf, stateOf, storeOf, answerOf}
 use Rattle.chip.specs.Runs.{afterOf, memoryOf, levelsOf, cyclesOf}
-use Rattle.laws.specs.Bytes.{bitsFrom, bitsOf, byteOf, Clocks, lineOf, actsOf, latchesOf, AfterIsLine, LineIn, ByteIn, LineOut, ByteOut, Deaf, ClocksIgnored, ClocksQuiet, BytesAreClocks, RunsJoin}
+use Rattle.laws.specs.Bytes.{bitsFrom, bitsOf, byteOf, Clocks, lineOf, actsOf, latchesOf, AfterIsLine, LineIn, ByteIn, LineOut, ByteOut, ClocksIgnored, ClocksQuiet, BytesAreClocks, RunsJoin}
 
 -- ---- runs put together
 
@@ -338,7 +338,7 @@ byte-out f en c t k m xs v h =
 
 -- ---- idle and busy chips
 
-deaf-state : (f : Facts) (en : ℕ) (l : Line) (k : List ℕ) (v : Bool) (ph : Phase) → Deaf ph
+deaf-state : (f : Facts) (en : ℕ) (l : Line) (k : List ℕ) (v : Bool) (ph : Phase) → NoTransfer ph
     → chip (clockedOf f en l v ph) (latchOf k (clockActOf f en l ph)) ≡ chip l k
 unfolding clockedOf clockActOf
 deaf-state f en l k v Idle h = refl
@@ -346,14 +346,14 @@ deaf-state f en l k v (Receive r) h = absurd h
 deaf-state f en l k v (Send t) h = absurd h
 deaf-state f en l k v (Busy y) h = refl
 
-deaf-level : (f : Facts) (en : ℕ) (l : Line) (b : ℕ) (ph : Phase) → Deaf ph → clockLevelOf f en l b ph ≡ 1
+deaf-level : (f : Facts) (en : ℕ) (l : Line) (b : ℕ) (ph : Phase) → NoTransfer ph → clockLevelOf f en l b ph ≡ 1
 unfolding clockLevelOf
 deaf-level f en l b Idle h = refl
 deaf-level f en l b (Receive r) h = absurd h
 deaf-level f en l b (Send t) h = absurd h
 deaf-level f en l b (Busy y) h = refl
 
-deaf-clock : (f : Facts) (en : ℕ) (c : Chip) (m : Mem) (x : ℕ) → x < 2 → Deaf (c .line .phase)
+deaf-clock : (f : Facts) (en : ℕ) (c : Chip) (m : Mem) (x : ℕ) → x < 2 → NoTransfer (c .line .phase)
     → (stateOf f en c (eventOf x) ≡ c) × (answerOf f en c m (eventOf x) ≡ 1)
 unfolding stateOf nextOf actOf answerOf levelOf
 deaf-clock f en c m x s h = (

@@ -3,7 +3,7 @@
 -- Assumes nothing.
 use Prim.Native.Nat.{ℕ, zero, suc, _+_, _/_, _%_, _^_, _<_}
 use mathlib.Core.Path.{_≡_}
-use mathlib.Core.Bool.{Bool, cond}
+use mathlib.Core.Bool.{Bool, cond, true}
 use mathlib.Core.List.{List, [], _∷_, _++_}
 use lib.ListN.{replicate}
 use Rattle.parts.specs.declared.Facts.{Facts}
@@ -11,13 +11,12 @@ use Rattle.parts.specs.Events.{eventOf}
 use Rattle.parts.specs.Bytes.{flagOf}
 use Rattle.line.specs.declared.Target.{Target}
 use Rattle.line.specs.declared.Recv.{Recv}
-use Rattle.line.specs.declared.Phase.{Phase}
-use Rattle.line.specs.declared.Phase.the-variants.{Idle, Receive, Send, Busy}
+use Rattle.line.specs.declared.Phase.the-variants.{Idle, Receive, Send}
 use Rattle.line.specs.declared.Core.{Core}
 use Rattle.line.specs.declared.Line.{Line}
 use Rattle.line.specs.declared.Act.{Act}
 use Rattle.line.specs.declared.Act.the-variants.{Keep}
-use Rattle.line.specs.Rules.{at, takenOf, landed, releasedIn, movedOf, nextOf, actOf}
+use Rattle.line.specs.Rules.{at, takenOf, landed, releasedIn, movedOf, nextOf, actOf, NoTransfer}
 use Rattle.state.specs.declared.Chip.{Chip}
 use Rattle.chip.specs.Memory.{Mem, chip, latchOf, shownOf}
 use Rattle.chip.specs.Runs.{afterOf, memoryOf, levelsOf, cyclesOf}
@@ -35,6 +34,11 @@ bitsOf b = bitsFrom 8 b
 -- the eight bits, and then the master's level on the ninth clock
 unfoldable pub byteOf : ℕ → Bool → List ℕ
 byteOf b v = bitsOf b ++ (flagOf v ∷ [])
+
+-- bytes, each acknowledged with a released clock
+abbrev pub bytesOf : List ℕ → List ℕ
+bytesOf [] = []
+bytesOf (b ∷ bs) = byteOf b true ++ bytesOf bs
 
 -- k clocks, of any levels
 abbrev pub Clocks : ℕ → List ℕ → Type 0
@@ -88,15 +92,9 @@ ByteOut = (f : Facts) (enable : ℕ) (c : Core) (t : Target) (k : List ℕ) (m :
     → (afterOf f enable (chip (at c (Send t)) k) (xs ++ (flagOf v ∷ [])) ≡ chip (at (movedOf f c t 0) (cond v Idle (Send t))) k)
     × (levelsOf f enable (chip (at c (Send t)) k) m (xs ++ (flagOf v ∷ [])) ≡ bitsOf (shownOf f (c .counter) m t) ++ (1 ∷ []))
 
--- "released until the next Start", and "ignored and released" in a cycle (rules 1 and 7)
-abbrev pub Deaf : Phase → Type 0
-Deaf Idle = Unit {0}
-Deaf (Receive r) = ⊥
-Deaf (Send t) = ⊥
-Deaf (Busy y) = Unit {0}
-
+-- "released until the next Start", and "ignored and released" in a cycle
 abbrev pub ClocksIgnored : Type 0
-ClocksIgnored = (f : Facts) (enable : ℕ) (c : Chip) (m : Mem) (n : ℕ) (xs : List ℕ) → Clocks n xs → Deaf (c .line .phase)
+ClocksIgnored = (f : Facts) (enable : ℕ) (c : Chip) (m : Mem) (n : ℕ) (xs : List ℕ) → Clocks n xs → NoTransfer (c .line .phase)
     → (afterOf f enable c xs ≡ c) × (levelsOf f enable c m xs ≡ replicate n 1)
 
 -- clocks store nothing and begin no cycle, wherever they come

@@ -2,12 +2,13 @@
 -- Assumes nothing.
 use Prim.Native.Nat.{ℕ, _+_}
 use mathlib.Core.Path.{_≡_}
-use mathlib.Core.Bool.{Bool, true, false}
+use mathlib.Core.Bool.{Bool, true, _&&_}
 use mathlib.Core.List.{List, [], _∷_, _++_}
 use lib.ListN.{length, drop}
 use Rattle.parts.specs.declared.Verdict.{Verdict}
-use Rattle.parts.specs.declared.Verdict.the-variants.{Fine, Refused}
+use Rattle.parts.specs.declared.Verdict.the-variants.{Fine}
 use Rattle.parts.specs.Table.{factsOf}
+use Rattle.parts.specs.Refusals.{isFine}
 use Rattle.state.specs.declared.Chip.{Chip}
 use Rattle.chip.specs.declared.Stepped.{Stepped}
 use Rattle.chip.specs.declared.Ran.{Ran}
@@ -36,17 +37,9 @@ pub record Steps : Type 0 where
   pub cycles : ℕ
   pub fine : Bool
 
-abbrev pub isFine : Verdict → Bool
-isFine Fine = true
-isFine (Refused r) = false
-
-abbrev pub also : Bool → Bool → Bool
-also true b = b
-also false b = false
-
 -- the first call's answer before those of the rest
 abbrev pub joined : Stepped → Steps → Steps
-joined a r = record { chip = r .chip; mem = r .mem; levels = a .level ∷ r .levels; cycles = a .cycles + r .cycles; fine = also (isFine (a .verdict)) (r .fine) }
+joined a r = record { chip = r .chip; mem = r .mem; levels = a .level ∷ r .levels; cycles = a .cycles + r .cycles; fine = isFine (a .verdict) && r .fine }
 
 -- a refused call changes nothing, and the next is made all the same
 unfoldable pub stepsOf : ℕ → ℕ → Chip → Mem → List ℕ → Steps

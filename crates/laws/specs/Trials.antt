@@ -8,11 +8,13 @@ use mathlib.Core.List.{List, [], _∷_, _++_}
 use lib.ListN.{length, getD, drop, replicate}
 use lib.Dec.{eqb}
 use Rattle.parts.specs.Table.{factsOf}
+use Rattle.parts.specs.Refusals.{isFine}
+use Rattle.parts.specs.Bytes.{sameOf}
 use Rattle.state.specs.declared.Chip.{Chip}
 use Rattle.chip.specs.Memory.{Mem}
 use Rattle.chip.specs.Delivery.{standbyOf, deliveredOf}
-use Rattle.laws.specs.Runs.{isFine, ran, ranMem, ranAnswers}
-use Rattle.laws.specs.Bytes.{bitsOf, byteOf}
+use Rattle.laws.specs.Runs.{ran, ranMem, ranAnswers}
+use Rattle.laws.specs.Bytes.{bitsOf, byteOf, bytesOf}
 
 -- ---- a table of trials, of any kind
 
@@ -59,11 +61,6 @@ trialOf number part enable es test = record { trial = number; right = doneOf par
 
 -- ---- events: 2 Start, 3 Stop, 4 the cycle ends, 6 the pin high
 
--- bytes of the master, each ninth clock released
-unfoldable pub bytesOf : List ℕ → List ℕ
-bytesOf [] = []
-bytesOf (b ∷ bs) = byteOf b true ++ bytesOf bs
-
 unfoldable pub sends : List ℕ → List ℕ
 sends bs = 2 ∷ bytesOf bs
 
@@ -95,15 +92,9 @@ counterIs d n = eqb (d .chip .line .core .counter) n
 unfoldable pub begins : Done → ℕ → Bool
 begins d n = eqb (d .cycles) n
 
-unfoldable pub same : List ℕ → List ℕ → Bool
-same [] [] = true
-same [] (y ∷ ys) = false
-same (x ∷ xs) [] = false
-same (x ∷ xs) (y ∷ ys) = eqb x y && same xs ys
-
 -- the answers end with these
 unfoldable pub endsWith : Done → List ℕ → Bool
-endsWith d xs = same (drop (length (d .levels) - length xs) (d .levels)) xs
+endsWith d xs = sameOf (drop (length (d .levels) - length xs) (d .levels)) xs
 
 -- ---- the table
 

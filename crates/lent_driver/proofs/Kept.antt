@@ -10,7 +10,7 @@ use lib.Dec.{eqb}
 use borrow.Author.Tests.{eq-eqb, ne-eqb, eqb-true}
 use Rattle.parts.specs.declared.Verdict.{Verdict}
 use Rattle.parts.specs.declared.Verdict.the-variants.{Fine, Refused as Judged}
-use Rattle.parts.specs.Refusals.{verdictNumberOf}
+use Rattle.parts.specs.Refusals.{verdictNumberOf, isFine}
 use Rattle.parts.specs.Bytes.{AllBelow}
 use Rattle.parts.proofs.Laws.{branch, fine}
 use Rattle.parts.proofs.Tests.{either}
@@ -20,7 +20,7 @@ use Rattle.driver.specs.declared.Driver.{Driver}
 use Rattle.driver.specs.declared.Asked.{Asked}
 use Rattle.driver.specs.Request.{judgeOf, allowedOf}
 use Rattle.driver.proofs.Facts.{good-request, reach}
-use Rattle.driver.specs.Step.{fine as judged, fresh, rangeOf, nextOf, bufferOf, stepOf}
+use Rattle.driver.specs.Step.{fresh, rangeOf, nextOf, bufferOf, stepOf}
 use Rattle.pack_driver.specs.Layout.{packedLength, wordEnd, packsOf, packInto, holdsOf, unpackedOf, smallOf, numbersOf}
 use Rattle.pack_driver.specs.Promises.{Fits}
 use Rattle.pack_driver.proofs.Kept.{small-all, packs-small, packs-back, unpacks-back}
@@ -111,7 +111,7 @@ budget-low false x h = omega arith
 fresh-small : (part enable what at n budget : ℕ) → judgeOf (requestOf part enable what at n budget) ≡ Fine → smallOf (fresh (requestOf part enable what at n budget)) ≡ true
 unfolding smallOf allowedOf budgetOf
 fresh-small part enable what at n budget h =
-    let g = good-request (requestOf part enable what at n budget) (ap judged h) in
+    let g = good-request (requestOf part enable what at n budget) (ap isFine h) in
     let k = reach (requestOf part enable what at n budget) g in
     small-all (numbersOf (fresh (requestOf part enable what at n budget)))
     (omega arith, (omega arith, (budget-low (readsOf what) budget (g .most), (omega arith, (omega arith, (omega arith, (omega arith, tt)))))))

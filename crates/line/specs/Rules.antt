@@ -360,3 +360,12 @@ quietly l a = record { line = l; act = a; level = 2; cycles = 0 }
 unfoldable pub moveOf : Facts → ℕ → Line → ℕ → Event → Move
 moveOf f enable l b e =
     record { line = nextOf f enable l e; act = actOf f enable l e; level = levelOf f enable l b e; cycles = begunOf l e }
+
+-- ---- where a chip stands
+
+-- no transfer is under way: in standby, released until the next Start, or in a cycle (rules 1 and 7)
+abbrev pub NoTransfer : Phase → Type 0
+NoTransfer Idle = Unit {0}
+NoTransfer (Receive r) = ⊥
+NoTransfer (Send t) = ⊥
+NoTransfer (Busy y) = Unit {0}

@@ -1,8 +1,9 @@
--- Bytes that numbers and flags are packed into.
+-- Bytes: what numbers and flags are packed into, and when two lists of them are the same.
 -- Assumes nothing.
 use Prim.Native.Nat.{ℕ, _<_}
-use mathlib.Core.Bool.{Bool, true, false}
+use mathlib.Core.Bool.{Bool, true, false, _&&_}
 use mathlib.Core.List.{List, [], _∷_}
+use lib.Dec.{eqb}
 
 abbrev pub flagOf : Bool → ℕ
 flagOf false = 0
@@ -11,3 +12,10 @@ flagOf true = 1
 abbrev pub AllBelow : ℕ → List ℕ → Type 0
 AllBelow n [] = Unit {0}
 AllBelow n (x ∷ xs) = (x < n) × AllBelow n xs
+
+-- whether two lists are the same
+unfoldable pub sameOf : List ℕ → List ℕ → Bool
+sameOf [] [] = true
+sameOf [] (y ∷ ys) = false
+sameOf (x ∷ xs) [] = false
+sameOf (x ∷ xs) (y ∷ ys) = eqb x y && sameOf xs ys

@@ -1,7 +1,7 @@
 -- Document 01, 'Refusal numbers': the number of each refusal, and the order in which they are given.
 -- Assumes nothing.
 use Prim.Native.Nat.{ℕ}
-use mathlib.Core.Bool.{false, cond}
+use mathlib.Core.Bool.{Bool, true, false, cond}
 use Rattle.parts.specs.declared.Refusal.{Refusal}
 use Rattle.parts.specs.declared.Refusal.the-variants.{NoPart, WrongEnable, WrongBuffer, BadState, BadEvent, ShortBuffer, Beyond, BadLimit, NoSelect, NoData, PollsUsed, BadImage, TooMany}
 use Rattle.parts.specs.declared.Faults.{Faults}
@@ -28,6 +28,10 @@ numberOf TooMany = 13
 abbrev pub verdictNumberOf : Verdict → ℕ
 verdictNumberOf Fine = 0
 verdictNumberOf (Refused r) = numberOf r
+
+abbrev pub isFine : Verdict → Bool
+isFine Fine = true
+isFine (Refused r) = false
 
 -- "The lowest of 1 to 8, 12 and 13 that applies is given, before anything changes, except that 13 goes before 5":
 -- 1 2 3 4 13 5 6 7 8 12

@@ -18,7 +18,7 @@ use Rattle.parts.specs.declared.Event.{Event}
 use Rattle.parts.specs.declared.Event.the-variants.{Clock, Start, Stop, Ends, PinLow, PinHigh, PinFloat, Reset, Unknown}
 use Rattle.parts.specs.Table.{factsOf, pagesOf}
 use Rattle.parts.specs.Events.{eventOf}
-use Rattle.parts.specs.Bytes.{flagOf}
+use Rattle.parts.specs.Bytes.{flagOf, sameOf}
 use Rattle.parts.proofs.Laws.{branch}
 use Rattle.parts.proofs.Bytes.{flag-below}
 use Rattle.chip.proofs.Laws.{entered-length}
@@ -41,7 +41,7 @@ use Rattle.chip.specs.Delivery.{standbyOf, deliveredOf}
 use Rattle.promises.specs.Model
 use Rattle.promises.specs.Model.{Model, ours}
 use Rattle.promises.specs.Calls.{deliverLeftOf, deliverOf, stepOf, runOf, many, from, afterRun, callBy, callsBy}
-use Rattle.promises.specs.Pages.{pageOf, sameOf, countOf, differingOf, PagesAtMostCycles, PagesFromDelivery, RunPages, CallsPages, CallsPagesFromDelivery, CountsEveryPage}
+use Rattle.promises.specs.Pages.{pageOf, countOf, differingOf, PagesAtMostCycles, PagesFromDelivery, RunPages, CallsPages, CallsPagesFromDelivery, CountsEveryPage}
 use Rattle.promises.proofs.Runs.{Invariant, Keeps, keeps, calls-keep, Any, every, every-call}
 use Rattle.promises.proofs.Steps.{taken-free}
 

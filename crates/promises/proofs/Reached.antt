@@ -3,12 +3,13 @@
 use mathlib.Core.Path.{refl}
 use Rattle.parts.specs.Table.{factsOf, idSizeOf, pagesOf}
 use Rattle.parts.specs.Events.{eventOf}
+use Rattle.parts.specs.Bytes.{sameOf}
 use Rattle.line.specs.Rules.{rollOf, beforeOf, onwardOf, enabledOf, namedOf, decodeOf, firstOf, selectedOf, loadArrayOf, loadIdOf, loadedOf, refusesOf, latchedOf, filledOf, lockedByOf, takenOf, receivedOf, receiveActOf, receiveLevelOf, movedOf, sentOf, sendLevelOf, clockedOf, clockActOf, clockLevelOf, startedOf, startActOf, asksOf, placedOf, stoppedOf, stopActOf, stopBegunOf, endedByOf, endedOf, endActOf, pinnedOf, resetOf, nextOf, actOf, levelOf, begunOf, moveOf}
 use Rattle.state.specs.Range.{marksRightOf, pinRightOf, markRightOf, targetRightOf, lockRightOf, locationRightOf, lastRightOf, ackedRightOf, openRightOf, fillRightOf, unlockedRightOf, recvRightOf, writingRightOf, cycleRightOf, phaseRightOf, restRightOf, inRangeOf}
 use Rattle.chip.specs.Memory.{noLatch, oneOf, pageStartOf, committedOf, cycleStoredOf, storedOf, storeOf, shownOf, seenOf, stateOf, answerOf}
 use Rattle.chip.specs.Delivery.{pinAtFirstOf, standbyOf, codedOf, deliveredIdOf, deliveredOf}
 use Rattle.promises.specs.Model.{ours, afterBy, memoryBy, cyclesBy}
-use Rattle.promises.specs.Pages.{sameOf, countOf, differingOf}
+use Rattle.promises.specs.Pages.{countOf, differingOf}
 use Rattle.promises.specs.Reached.{BoundIsMet, LockIsReached, HighIsReached}
 
 pub bound-is-met : BoundIsMet ours

@@ -39,13 +39,13 @@ use Rattle.line.specs.declared.Heard.{Heard}
 use Rattle.line.specs.declared.Heard.the-variants.{Miss, Hit}
 use Rattle.line.specs.declared.Asked.{Asked}
 use Rattle.line.specs.declared.Asked.the-variants.{NoCycle, For}
-use Rattle.line.specs.Rules.{isHigh, at, opened, marked, markedIn, bitOn, enabledOf, namedOf, decodeOf, firstOf, selectedOf, loadArrayOf, loadIdOf, loadedOf, refusesOf, latchedOf, filledOf, lockedByOf, takenOf, landed, releasedIn, receivedOf, receiveLevelOf, sentOf, sendLevelOf, clockedOf, clockLevelOf, startedOf, stoppedBy, begunBy, dueOf, placedOf, asksOf, stoppedOf, stopBegunOf, endedByOf, endedOf, pinnedOf, resetOf, nextOf, levelOf, begunOf}
+use Rattle.line.specs.Rules.{isHigh, at, opened, marked, markedIn, bitOn, enabledOf, namedOf, decodeOf, firstOf, selectedOf, loadArrayOf, loadIdOf, loadedOf, refusesOf, latchedOf, filledOf, lockedByOf, takenOf, landed, releasedIn, receivedOf, receiveLevelOf, sentOf, sendLevelOf, clockedOf, clockLevelOf, startedOf, stoppedBy, begunBy, dueOf, placedOf, asksOf, stoppedOf, stopBegunOf, endedByOf, endedOf, pinnedOf, resetOf, nextOf, levelOf, begunOf, NoTransfer}
 use Rattle.state.specs.declared.Chip.{Chip}
 use Rattle.chip.specs.Runs.{levelsOf}
 use Rattle.chip.specs.Memory.{Mem, stateOf, answerOf, seenOf}
 use Rattle.chip.specs.Delivery.{pinAtFirstOf, standbyOf, deliveredOf}
 use Rattle.promises.specs.Model
-use Rattle.promises.specs.Model.{Model, ours, afterBy, levelsBy, cyclesBy, NoTransfer}
+use Rattle.promises.specs.Model.{Model, ours, afterBy, levelsBy, cyclesBy}
 use Rattle.promises.specs.Calls.{deliverLeftOf, deliverOf, stepOf, runLeftOf, runVerdict, runOf, Ending, from, callsBy}
 use Rattle.promises.specs.Stops.{Byte, byteOf, allAcked, addressIn, lockChosenOf, dataOf, writesOf, askedOf, Seen, quiet, cycling, since, wellPlacedOf, startSeen, clockSeen, stopSeen, endSeen, pinSeen, Watch, watch, watchOf, stopOf, stopsOf, fresh, seenAt, watchAt, CyclesAreStops, CyclesAreStopsFromDelivery, RunCyclesAreStops, CallsCyclesAreStops, CallsCyclesAreStopsFromDelivery}
 use Rattle.promises.proofs.Runs.{levels-ours, cycles-ours, Invariant, Keeps, keeps, calls-keep, Any, every, every-call}

@@ -5,8 +5,9 @@ use mathlib.Core.Path.{_≡_}
 use mathlib.Core.List.{List}
 use Rattle.parts.specs.declared.Facts.{Facts}
 use Rattle.parts.specs.declared.Event.{Event}
+use Rattle.line.specs.Rules.{NoTransfer}
 use Rattle.state.specs.declared.Chip.{Chip}
-use Rattle.promises.specs.Model.{Model, ours, cyclesBy, NoTransfer}
+use Rattle.promises.specs.Model.{Model, ours, cyclesBy}
 use Rattle.promises.specs.Stops.{CyclesAreStops}
 
 abbrev pub inventing : (Chip → Event → ℕ) → Facts → ℕ → Model

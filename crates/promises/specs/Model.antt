@@ -58,13 +58,6 @@ NoCycle (Receive r) = Unit {0}
 NoCycle (Send t) = Unit {0}
 NoCycle (Busy y) = ⊥
 
--- no transfer is under way: in standby, released until the next Start, or in a cycle
-abbrev pub NoTransfer : Phase → Type 0
-NoTransfer Idle = Unit {0}
-NoTransfer (Receive r) = ⊥
-NoTransfer (Send t) = ⊥
-NoTransfer (Busy y) = Unit {0}
-
 abbrev pub Every : (ℕ → Type 0) → List ℕ → Type 0
 Every Q [] = Unit {0}
 Every Q (e ∷ es) = Q e × Every Q es

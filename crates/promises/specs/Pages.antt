@@ -2,16 +2,15 @@
 -- one, are never more than the write cycles begun."
 -- Assumes nothing.
 use Prim.Native.Nat.{ℕ, zero, suc, _+_, _*_, _≤_}
-use mathlib.Core.Bool.{Bool, true, false, not, _&&_}
-use mathlib.Core.List.{List, [], _∷_}
+use mathlib.Core.Bool.{Bool, false, not}
+use mathlib.Core.List.{List}
 use mathlib.Core.Path.{_≡_}
 use lib.ListN.{length, take, drop}
-use lib.Dec.{eqb}
 use Rattle.parts.specs.declared.Facts.{Facts}
 use Rattle.parts.specs.declared.Verdict.the-variants.{Fine}
 use Rattle.parts.specs.Table.{factsOf, pagesOf}
 use Rattle.parts.specs.Sound.{Sound}
-use Rattle.parts.specs.Bytes.{flagOf}
+use Rattle.parts.specs.Bytes.{flagOf, sameOf}
 use Rattle.state.specs.declared.Chip.{Chip}
 use Rattle.chip.specs.Memory.{Mem}
 use Rattle.chip.specs.Delivery.{standbyOf, deliveredOf}
@@ -23,12 +22,6 @@ use Rattle.promises.specs.Calls.{Deliver, Step, Run, Call, from, callsBy
 -- page number k of P bytes each
 abbrev pub pageOf : ℕ → ℕ → List ℕ → List ℕ
 pageOf P k s = take P (drop (k * P) s)
-
-unfoldable pub sameOf : List ℕ → List ℕ → Bool
-sameOf [] [] = true
-sameOf [] (y ∷ ys) = false
-sameOf (x ∷ xs) [] = false
-sameOf (x ∷ xs) (y ∷ ys) = eqb x y && sameOf xs ys
 
 -- how many of the numbers below n have the property
 unfoldable pub countOf : (ℕ → Bool) → ℕ → ℕ

@@ -16,11 +16,11 @@ use Rattle.parts.specs.Events.{eventOf}
 use Rattle.parts.specs.Bytes.{flagOf}
 use Rattle.line.specs.declared.Phase.{Phase}
 use Rattle.line.specs.declared.Phase.the-variants.{Idle, Receive, Send, Busy}
-use Rattle.line.specs.Rules.{isHigh, bitOn}
+use Rattle.line.specs.Rules.{isHigh, bitOn, NoTransfer}
 use Rattle.state.specs.declared.Chip.{Chip}
 use Rattle.chip.specs.Memory.{Mem}
 use Rattle.chip.specs.Delivery.{standbyOf, deliveredOf}
-use Rattle.promises.specs.Model.{Model, levelsBy, cyclesBy, NoTransfer}
+use Rattle.promises.specs.Model.{Model, levelsBy, cyclesBy}
 use Rattle.promises.specs.Calls.{Deliver, Step, Run, Call, from, callsBy}
 
 -- ---- the bytes of a transfer: after which of them a Stop begins a cycle

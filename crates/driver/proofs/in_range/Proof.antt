@@ -1,12 +1,12 @@
 use mathlib.Core.Path.{_∙_, ap}
 use Rattle.driver.proofs.Facts.{good-request}
-use Rattle.driver.specs.Step.{fine}
 use borrow.Author.Needs.{needs}
 use mathlib.Core.Path.{sym}
 use borrow.Author.Tests.{not-true, not-false}
 use Rattle.driver.specs.Step.{rangeOf}
 use Rattle.driver.proofs.in_range.Statement.{statement}
 use Rattle.driver.proofs.in_range.Tie as tie
+use Rattle.parts.specs.Refusals.{isFine}
 
 judge-requires : tie.Need-judge-requires
 judge-requires c κs = search needs
@@ -32,7 +32,7 @@ allowed-requires : tie.Need-allowed-requires
 allowed-requires c κs = search needs
 
 most-requires : tie.Need-most-requires
-most-requires c κs = good-request _ (sym (ap fine (c .before .before .before .before .before .before .before .judge .ensures)) ∙ (sym (c .before .before .before .before .before .before .is-fine .ensures) ∙ not-false (c .before .before .before .before .before .before .is-fine .result) (c .before .before .before .before .before .if1 .left)))
+most-requires c κs = good-request _ (sym (ap isFine (c .before .before .before .before .before .before .before .judge .ensures)) ∙ (sym (c .before .before .before .before .before .before .is-fine .ensures) ∙ not-false (c .before .before .before .before .before .before .is-fine .result) (c .before .before .before .before .before .if1 .left)))
 
 counts-right-requires : tie.Need-counts-right-requires
 counts-right-requires c κs = search needs
@@ -40,7 +40,7 @@ counts-right-requires c κs = search needs
 returns-3 : tie.Need-returns-3
 unfolding rangeOf
 returns-3 c =
-    simp (sym (ap fine (c .before .before .before .before .before .before .before .before .before .judge .ensures)) ∙ (sym (c .before .before .before .before .before .before .before .before .is-fine .ensures) ∙ not-false (c .before .before .before .before .before .before .before .before .is-fine .result) (c .before .before .before .before .before .before .before .if1 .left)), sym (c .before .before .before .before .before .phase-right .ensures) ∙ not-false (c .before .before .before .before .before .phase-right .result) (c .before .before .before .before .if2 .left)) (cc)
+    simp (sym (ap isFine (c .before .before .before .before .before .before .before .before .before .judge .ensures)) ∙ (sym (c .before .before .before .before .before .before .before .before .is-fine .ensures) ∙ not-false (c .before .before .before .before .before .before .before .before .is-fine .result) (c .before .before .before .before .before .before .before .if1 .left)), sym (c .before .before .before .before .before .phase-right .ensures) ∙ not-false (c .before .before .before .before .before .phase-right .result) (c .before .before .before .before .if2 .left)) (cc)
 
 pub in-range-spec : {M : Type 1} → statement M
 in-range-spec =
