@@ -23,13 +23,7 @@ use Rattle.line.specs.declared.Line.{Line}
 use Rattle.line.specs.Rules.{at, opened, takenOf, landed, receivedOf, receiveActOf, receiveLevelOf, releasedIn, movedOf, sentOf, sendLevelOf, clockedOf, clockActOf, clockLevelOf, startedOf, startActOf, asksOf, placedOf, dueOf, stoppedBy, stopActBy, begunBy, stoppedOf, stopActOf, stopBegunOf, endedByOf, endedOf, endActOf, nextOf, actOf, levelOf, begunOf, NoTransfer}
 use Rattle.state.specs.declared.Chip.{Chip}
 use Rattle.chip.specs.Memory.{Mem, noLatch, latchOf, cycleStoredOf, storedOf, storeOf, shownOf, seenOf, stateOf, answerOf}
-
--- no cycle runs
-abbrev pub Free : Phase → Type 0
-Free Idle = Unit {0}
-Free (Receive r) = Unit {0}
-Free (Send t) = Unit {0}
-Free (Busy y) = ⊥
+use Rattle.promises.specs.Model.{NoCycle as Free}
 
 module _ (f : Facts) (en : ℕ) (c : Chip) (m : Mem) (Q : Line → List ℕ → Mem → ℕ → ℕ → Type 0) where
   abbrev pub After : Event → Type 0

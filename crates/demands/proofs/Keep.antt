@@ -49,7 +49,8 @@ use Rattle.driver_laws.proofs.Inv.{stop, Inv, less}
 use Rattle.driver_laws.proofs.Grow.{bit-lt}
 use Rattle.driver_laws.proofs.Bytes.{register, register-none, register-all, shift-next}
 use Rattle.demands.specs.Ground.{Bytes}
-use Rattle.demands.proofs.Hears.{Free, After, bit-heard, ninth-heard, deaf-heard, sent-heard, end-heard, start-free, start-busy, stop-idle, stop-busy, stop-none, stop-begins, end-free, end-busy}
+use Rattle.promises.specs.Model.{NoCycle as Free}
+use Rattle.demands.proofs.Hears.{After, bit-heard, ninth-heard, deaf-heard, sent-heard, end-heard, start-free, start-busy, stop-idle, stop-busy, stop-none, stop-begins, end-free, end-busy}
 use Rattle.demands.proofs.Wrote.{wrote, less-or-same, commit-none, commit-more, roll-next, cells-with, with-with}
 use Rattle.demands.proofs.Codes.{decode-hit, asks-none, first-wide, first-narrow, Placed, room-most, load-is, shown-is, moved-last, register-step, inside-page}
 use Rattle.line.specs.declared.Heard.{Heard as Named}

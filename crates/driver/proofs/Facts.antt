@@ -38,10 +38,6 @@ pub name-most : (p : Place) → nameOf p ≤ 176
 name-most (Array a) = omega arith
 name-most (Ident i) = omega arith
 
-pub name-least : (p : Place) → 160 ≤ nameOf p
-name-least (Array a) = omega arith
-name-least (Ident i) = omega arith
-
 pub select-most : (name enable x : ℕ) (wide : Bool) → name ≤ 176 → enable ≤ 7 → selectAt name wide enable x ≤ 190
 unfolding selectAt
 select-most name enable x true h e = omega arith

@@ -23,10 +23,6 @@ pub no-polls : (r : Request) (q : ℕ) → r .reads ≡ true → q ≤ all r →
 unfolding allowedOf
 no-polls r q e h = let z : kOf r * cond (r .reads) 0 (r .budget) ≡ 0 = ap (λ (t : Bool). kOf r * cond t 0 (r .budget)) e ∙ omega arith in omega arith
 
-bytes-most : (r : Request) → A r ≤ 2
-unfolding addressBytesOf
-bytes-most r = branch (λ (x : ℕ). x ≤ 2) (wide r) (λ e. omega arith) (λ e. omega arith)
-
 bytes-least : (r : Request) → 1 ≤ A r
 unfolding addressBytesOf
 bytes-least r = branch (λ (x : ℕ). 1 ≤ x) (wide r) (λ e. omega arith) (λ e. omega arith)

@@ -131,9 +131,6 @@ read-after true r xs past a q e z v = v ∙ sym (simp (ne-eqb a 0 (λ k. omega a
 read-after false r xs past a q e z v = absurd (false≢true e)
 
 -- ---- lists
-snoc : List ℕ → ℕ → List ℕ
-snoc es e = es ++ (e ∷ [])
-
 len-more : (es ls : List ℕ) (e l : ℕ) → length es ≡ length ls → length (es ++ (e ∷ [])) ≡ length (ls ++ (l ∷ []))
 len-more es ls e l h = omega (arith, length-append es (e ∷ []), length-append ls (l ∷ []))
 

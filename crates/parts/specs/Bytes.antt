@@ -5,10 +5,12 @@ use mathlib.Core.Bool.{Bool, true, false, _&&_}
 use mathlib.Core.List.{List, [], _∷_}
 use lib.Dec.{eqb}
 
+-- a flag, or the level of a clock: 1 for yes, and for a line that is high
 abbrev pub flagOf : Bool → ℕ
 flagOf false = 0
 flagOf true = 1
 
+-- every number of a list is below n: for 256, a list of bytes
 abbrev pub AllBelow : ℕ → List ℕ → Type 0
 AllBelow n [] = Unit {0}
 AllBelow n (x ∷ xs) = (x < n) × AllBelow n xs

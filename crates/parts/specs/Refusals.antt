@@ -29,6 +29,7 @@ abbrev pub verdictNumberOf : Verdict → ℕ
 verdictNumberOf Fine = 0
 verdictNumberOf (Refused r) = numberOf r
 
+-- nothing is refused
 abbrev pub isFine : Verdict → Bool
 isFine Fine = true
 isFine (Refused r) = false

@@ -1,4 +1,4 @@
-use Rattle.bench.proofs.Kit.{tests}
+use Rattle.parts.proofs.Kit.{tests}
 use Rattle.bench.proofs.clock.Statement.{statement}
 use Rattle.bench.proofs.clock.Tie as tie
 

@@ -1,4 +1,4 @@
-use Rattle.bench.proofs.Kit.{tests}
+use Rattle.parts.proofs.Kit.{tests}
 use Rattle.bench.specs.Held.{limitedOf}
 use Rattle.bench.proofs.limited.Statement.{statement}
 use Rattle.bench.proofs.limited.Tie as tie

@@ -1,6 +1,6 @@
 use Rattle.bench.proofs.Laws.{no-poll, poll-test}
 use borrow.Author.Needs.{needs}
-use Rattle.bench.proofs.Kit.{tests}
+use Rattle.parts.proofs.Kit.{tests}
 use Rattle.bench.proofs.polls_again.Statement.{statement}
 use Rattle.bench.proofs.polls_again.Tie as tie
 

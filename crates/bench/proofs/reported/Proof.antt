@@ -1,5 +1,5 @@
 use borrow.Author.Needs.{needs}
-use Rattle.bench.proofs.Kit.{tests}
+use Rattle.parts.proofs.Kit.{tests}
 use Rattle.bench.proofs.reported.Statement.{statement}
 use Rattle.bench.proofs.reported.Tie as tie
 

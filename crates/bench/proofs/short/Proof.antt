@@ -1,4 +1,4 @@
-use Rattle.bench.proofs.Kit.{tests}
+use Rattle.parts.proofs.Kit.{tests}
 use Rattle.bench.specs.Held.{shortOf}
 use Rattle.bench.proofs.short.Statement.{statement}
 use Rattle.bench.proofs.short.Tie as tie

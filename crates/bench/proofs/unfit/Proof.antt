@@ -1,4 +1,4 @@
-use Rattle.bench.proofs.Kit.{tests}
+use Rattle.parts.proofs.Kit.{tests}
 use Rattle.bench.specs.Held.{unfitOf}
 use Rattle.bench.proofs.unfit.Statement.{statement}
 use Rattle.bench.proofs.unfit.Tie as tie
