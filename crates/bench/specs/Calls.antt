@@ -1,50 +1,65 @@
 -- What a run of driver and chip answers and leaves, for refused input too (document 01, refusals 1 to 8 in order).
 -- Assumes nothing.
-use Prim.Native.Nat.{ℕ, _+_}
-use mathlib.Core.Bool.{true, false, cond, not}
+use Prim.Native.Nat.{ℕ}
+use mathlib.Core.Bool.{Bool, true, false, cond, not}
 use mathlib.Core.List.{List, [], _++_}
 use lib.ListN.{length, take, drop}
 use lib.Dec.{eqb, ltb}
 use Rattle.parts.specs.declared.Refusal.{Refusal}
+use Rattle.parts.specs.declared.Refusal.the-variants.{BadState, ShortBuffer, BadLimit}
 use Rattle.parts.specs.declared.Verdict.{Verdict}
 use Rattle.parts.specs.declared.Verdict.the-variants.{Fine, Refused as Judged}
-use Rattle.parts.specs.Table.{factsOf, enableRightOf, buffersRightOf}
-use Rattle.parts.specs.Refusals.{givenOf}
+use Rattle.parts.specs.Table.{factsOf}
+use Rattle.parts.specs.Refusals.{claimOf, soonerOf}
 use Rattle.state.specs.declared.Chip.{Chip}
-use Rattle.state.specs.Range.{inRangeOf}
 use Rattle.chip.specs.Memory.{Mem}
+use Rattle.chip.specs.Model.{Model, ours}
+use Rattle.chip.specs.Calls.{heldVerdictOf}
 use Rattle.driver.specs.declared.Request.{Request}
 use Rattle.driver.specs.declared.Answer.{Answer}
 use Rattle.driver.specs.declared.Answer.the-variants.{Send, Done, Refused}
-use Rattle.driver.specs.Request.{fromOf, roomOf, thereOf, beyondAt, limitOf}
+use Rattle.driver.specs.Request.{judgeOf}
 use Rattle.driver.specs.Step.{nextOf}
 use Rattle.bench.specs.declared.Report.{Report}
 use Rattle.bench.specs.Together.{System, startOf, turnsOf, enough}
 use Rattle.bench.specs.Tape.{eventsOf, heardOf}
 
--- 1; 2 of the driver's enable or the chip's; 3; 4 also for data of another length than asked; 6 a read's buffer too short; 7; 8 also
--- for d outside 1 to 65,535
+-- ---- refusals: the driver's of the request (1, 2, 7, 8), the chip's of itself at its own enable (1 to 4), and the run's own
+
+-- 4 also for data of another length than asked
+unfoldable pub otherLengthOf : Bool → ℕ → ℕ → Bool
+otherLengthOf reads length b = cond reads false (not (eqb b length))
+
+-- 6: a read's buffer too short
+unfoldable pub shortOf : Bool → ℕ → ℕ → Bool
+shortOf reads length b = cond reads (ltb b length) false
+
+-- 8: "d (1 to 65,535)"
+unfoldable pub lateOf : ℕ → Bool
+lateOf d = cond (ltb d 1) true (ltb 65535 d)
+
+-- of the request, the chip's enable, d, the chip, and the lengths of the lent array, identification page and buffer
 unfoldable pub benchVerdictOf : Request → ℕ → ℕ → Chip → ℕ → ℕ → ℕ → Verdict
 benchVerdictOf r enable d c n i b =
-    givenOf
-    record {
-      part = not (factsOf (r .part) .known);
-      enable = cond (enableRightOf (factsOf (r .part)) (r .enable)) (not (enableRightOf (factsOf (r .part)) enable)) true;
-      buffer = not (buffersRightOf (factsOf (r .part)) n i);
-      state = cond (inRangeOf (factsOf (r .part)) c) (cond (r .reads) false (not (eqb b (r .length)))) true;
-      many = false;
-      event = false;
-      place = 0;
-      short = cond (r .reads) (ltb b (r .length)) false;
-      beyond = beyondAt (fromOf (r .place)) (r .length) (roomOf (factsOf (r .part)) (r .place)) (thereOf (factsOf (r .part)) (r .place));
-      limit = cond (limitOf (r .reads) (r .budget)) true (cond (ltb d 1) true (ltb 65535 d));
-      image = false;
-    }
+    soonerOf (judgeOf r)
+    (soonerOf (heldVerdictOf (r .part) enable c n i)
+    (soonerOf (claimOf (otherLengthOf (r .reads) (r .length) b) BadState)
+    (soonerOf (claimOf (shortOf (r .reads) (r .length) b) ShortBuffer)
+    (claimOf (lateOf d) BadLimit))))
 
--- the system when the driver has finished: it selects by the request's enable, the chip answers at its own; a read's buffer may be
--- longer than asked
+-- ---- the run
+
+-- ours, at the chip's own enable
+abbrev pub modelOf : Request → ℕ → Model
+modelOf r enable = ours (factsOf (r .part)) enable
+
+-- the driver has what it was asked to write or read, and no more; a read's buffer may be longer
+abbrev pub beginOf : Request → Chip → Mem → List ℕ → System
+beginOf r c m buffer = startOf r (take (r .length) buffer) c m
+
+-- the system when the driver has finished: it selects by the request's enable, the chip answers at its own
 unfoldable pub finalOf : Request → ℕ → ℕ → Chip → Mem → List ℕ → System
-finalOf r enable d c m buffer = turnsOf (factsOf (r .part)) enable d enough (startOf r (take (r .length) buffer) c m)
+finalOf r enable d c m buffer = turnsOf (modelOf r enable) d enough (beginOf r c m buffer)
 
 -- a driver that would still send cannot be (proved with the promises)
 abbrev pub reportBy : System → Answer → Report
@@ -58,24 +73,29 @@ reportOf s = reportBy s (nextOf (s .driver) (s .level) (s .buffer) .answer)
 abbrev pub refusedBy : Refusal → Chip → Report
 refusedBy x c = record { verdict = Judged x; polls = 0; bytes = 0; cycles = 0; clocks = 0; chip = c }
 
-abbrev pub benchBy : Request → ℕ → ℕ → Chip → Mem → List ℕ → Verdict → Report
-benchBy r enable d c m buffer Fine = reportOf (finalOf r enable d c m buffer)
-benchBy r enable d c m buffer (Judged x) = refusedBy x c
+-- what a call answers and leaves: the report, the two lent buffers of the chip, the driver's buffer, and the tape
+pub record BenchLeft : Type 0 where
+  pub report : Report
+  pub mem : Mem
+  pub buffer : List ℕ
+  pub events : List ℕ
+  pub levels : List ℕ
 
-abbrev pub benchMem : Request → ℕ → ℕ → Chip → Mem → List ℕ → Verdict → Mem
-benchMem r enable d c m buffer Fine = finalOf r enable d c m buffer .mem
-benchMem r enable d c m buffer (Judged x) = m
+-- bytes past the answer keep their values; a refused call changes nothing and sends nothing
+abbrev pub benchBy : Request → ℕ → ℕ → Chip → Mem → List ℕ → Verdict → BenchLeft
+benchBy r enable d c m buffer Fine =
+    record {
+      report = reportOf (finalOf r enable d c m buffer);
+      mem = finalOf r enable d c m buffer .mem;
+      buffer = finalOf r enable d c m buffer .buffer ++ drop (r .length) buffer;
+      events = eventsOf (modelOf r enable) d enough (beginOf r c m buffer);
+      levels = heardOf (modelOf r enable) d enough (beginOf r c m buffer);
+    }
+benchBy r enable d c m buffer (Judged x) = record { report = refusedBy x c; mem = m; buffer = buffer; events = []; levels = [] }
 
--- bytes past the answer keep their values
-abbrev pub benchBuffer : Request → ℕ → ℕ → Chip → Mem → List ℕ → Verdict → List ℕ
-benchBuffer r enable d c m buffer Fine = finalOf r enable d c m buffer .buffer ++ drop (r .length) buffer
-benchBuffer r enable d c m buffer (Judged x) = buffer
+abbrev pub benchVerdict : Request → ℕ → ℕ → Chip → Mem → List ℕ → Verdict
+benchVerdict r enable d c m buffer = benchVerdictOf r enable d c (length (m .cells)) (length (m .ident)) (length buffer)
 
--- a refused call sends nothing
-abbrev pub benchEvents : Request → ℕ → ℕ → Chip → Mem → List ℕ → Verdict → List ℕ
-benchEvents r enable d c m buffer Fine = eventsOf (factsOf (r .part)) enable d enough (startOf r (take (r .length) buffer) c m)
-benchEvents r enable d c m buffer (Judged x) = []
-
-abbrev pub benchLevels : Request → ℕ → ℕ → Chip → Mem → List ℕ → Verdict → List ℕ
-benchLevels r enable d c m buffer Fine = heardOf (factsOf (r .part)) enable d enough (startOf r (take (r .length) buffer) c m)
-benchLevels r enable d c m buffer (Judged x) = []
+-- of the request, the chip's enable, d, the chip, its two lent buffers, and the driver's buffer
+abbrev pub benchOf : Request → ℕ → ℕ → Chip → Mem → List ℕ → BenchLeft
+benchOf r enable d c m buffer = benchBy r enable d c m buffer (benchVerdict r enable d c m buffer)

@@ -2,18 +2,14 @@
 -- Assumes nothing.
 use Prim.Native.Nat.{ℕ, _+_}
 use mathlib.Core.Path.{_≡_}
-use mathlib.Core.Bool.{Bool, true, false, cond, not}
+use mathlib.Core.Bool.{Bool, true, cond}
 use mathlib.Core.List.{List}
-use lib.Dec.{eqb, ltb}
-use Rattle.parts.specs.declared.Facts.{Facts}
-use Rattle.parts.specs.declared.Event.the-variants.{Ends}
 use Rattle.parts.specs.declared.Verdict.the-variants.{Fine, Refused as Judged}
 use Rattle.parts.specs.Table.{factsOf, enableRightOf, buffersRightOf}
-use Rattle.parts.specs.Events.{eventOf}
-use Rattle.line.specs.Rules.{begunOf}
 use Rattle.state.specs.declared.Chip.{Chip}
 use Rattle.state.specs.Range.{inRangeOf}
-use Rattle.chip.specs.Memory.{Mem, stateOf, answerOf}
+use Rattle.chip.specs.Memory.{Mem}
+use Rattle.chip.specs.Model.{Model}
 use Rattle.laws.specs.Range.{Typed}
 use Rattle.driver.specs.declared.Driver.{Driver}
 use Rattle.driver.specs.declared.Answer.{Answer}
@@ -21,7 +17,7 @@ use Rattle.driver.specs.declared.Answer.the-variants.{Send, Done, Refused}
 use Rattle.driver.specs.Step.{nextOf}
 use Rattle.bench.specs.declared.Held.{Held}
 use Rattle.bench.specs.declared.Report.{Report}
-use Rattle.bench.specs.Together.{System, clockOf, dueOf}
+use Rattle.bench.specs.Together.{System, clockOf, ends, dueOf}
 use Rattle.bench.specs.Tape.{sendsOf}
 
 -- the system, of what is held and what is lent
@@ -29,20 +25,20 @@ abbrev pub whole : Held → List ℕ → Mem → System
 whole h b m = record { driver = h .driver; level = h .level; buffer = b; chip = h .chip; mem = m; cycles = h .cycles; clocks = h .clocks }
 
 -- the chip takes an event that the driver sends
-abbrev pub sentOf : Facts → ℕ → Held → Mem → Driver → ℕ → Held
-sentOf f enable h m d e =
+abbrev pub sentOf : Model → Held → Mem → Driver → ℕ → Held
+sentOf M h m d e =
     record {
       driver = d;
-      level = answerOf f enable (h .chip) m (eventOf e);
-      chip = stateOf f enable (h .chip) (eventOf e);
-      cycles = h .cycles + begunOf (h .chip .line) (eventOf e);
+      level = M .level (h .chip) m e;
+      chip = M .next (h .chip) e;
+      cycles = h .cycles + M .begun (h .chip) e;
       clocks = h .clocks + clockOf e;
     }
 
 -- the chip's cycle ends
-abbrev pub atEndOf : Facts → ℕ → Held → Held
-atEndOf f enable h =
-    record { driver = h .driver; level = h .level; chip = stateOf f enable (h .chip) Ends; cycles = h .cycles; clocks = h .clocks }
+abbrev pub atEndOf : Model → Held → Held
+atEndOf M h =
+    record { driver = h .driver; level = h .level; chip = M .next (h .chip) ends; cycles = h .cycles; clocks = h .clocks }
 
 -- false: a turn changes nothing any more
 unfoldable pub goingOf : ℕ → System → Bool
@@ -61,17 +57,3 @@ abbrev pub madeOf : Held → Answer → Report
 madeOf h (Send e) = record { verdict = Fine; polls = 0; bytes = 0; cycles = h .cycles; clocks = h .clocks; chip = h .chip }
 madeOf h (Done polls bytes) = record { verdict = Fine; polls = polls; bytes = bytes; cycles = h .cycles; clocks = h .clocks; chip = h .chip }
 madeOf h (Refused r polls bytes) = record { verdict = Judged r; polls = polls; bytes = bytes; cycles = h .cycles; clocks = h .clocks; chip = h .chip }
-
--- ---- the parts of the verdict
-
--- refusal 4: the chip, or data of another length than asked
-unfoldable pub unfitOf : Bool → Bool → ℕ → ℕ → Bool
-unfitOf ranged reads length b = cond ranged (cond reads false (not (eqb b length))) true
-
--- refusal 6
-unfoldable pub shortOf : Bool → ℕ → ℕ → Bool
-shortOf reads length b = cond reads (ltb b length) false
-
--- refusal 8: the request's own limit, or that of d
-unfoldable pub limitedOf : Bool → ℕ → Bool
-limitedOf own d = cond own true (cond (ltb d 1) true (ltb 65535 d))

@@ -4,7 +4,7 @@ use Prim.Native.Nat.{ℕ, zero, suc}
 use mathlib.Core.Bool.{Bool, true, false, cond}
 use mathlib.Core.List.{List, [], _∷_, _++_}
 use lib.ListN.{length, take, drop}
-use Rattle.parts.specs.declared.Facts.{Facts}
+use Rattle.chip.specs.Model.{Model}
 use Rattle.driver.specs.declared.Answer.{Answer}
 use Rattle.driver.specs.declared.Answer.the-variants.{Send, Done, Refused}
 use Rattle.driver.specs.Step.{nextOf}
@@ -31,16 +31,16 @@ turnEvents d s =
     tapeBy (dueOf d s) (sendsOf (nextOf (s .driver) (s .level) (s .buffer) .answer)) 4 (codeOf (nextOf (s .driver) (s .level) (s .buffer) .answer))
 
 -- the levels of a turn: an end answers none; the driver is told its event's level next
-unfoldable pub turnLevels : Facts → ℕ → ℕ → System → List ℕ
-turnLevels f enable d s = tapeBy (dueOf d s) (sendsOf (nextOf (s .driver) (s .level) (s .buffer) .answer)) 2 (turnOf f enable d s .level)
+unfoldable pub turnLevels : Model → ℕ → System → List ℕ
+turnLevels M d s = tapeBy (dueOf d s) (sendsOf (nextOf (s .driver) (s .level) (s .buffer) .answer)) 2 (turnOf M d s .level)
 
-unfoldable pub eventsOf : Facts → ℕ → ℕ → ℕ → System → List ℕ
-eventsOf f enable d zero s = []
-eventsOf f enable d (suc n) s = turnEvents d s ++ eventsOf f enable d n (turnOf f enable d s)
+unfoldable pub eventsOf : Model → ℕ → ℕ → System → List ℕ
+eventsOf M d zero s = []
+eventsOf M d (suc n) s = turnEvents d s ++ eventsOf M d n (turnOf M d s)
 
-unfoldable pub heardOf : Facts → ℕ → ℕ → ℕ → System → List ℕ
-heardOf f enable d zero s = []
-heardOf f enable d (suc n) s = turnLevels f enable d s ++ heardOf f enable d n (turnOf f enable d s)
+unfoldable pub heardOf : Model → ℕ → ℕ → System → List ℕ
+heardOf M d zero s = []
+heardOf M d (suc n) s = turnLevels M d s ++ heardOf M d n (turnOf M d s)
 
 -- a list in a lent buffer, as far as it reaches; bytes past the list keep their values
 unfoldable pub laidOf : List ℕ → List ℕ → List ℕ

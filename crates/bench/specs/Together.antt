@@ -5,12 +5,9 @@ use Prim.Native.Nat.{ℕ, zero, suc, _+_}
 use mathlib.Core.Bool.{Bool, true, false, cond}
 use mathlib.Core.List.{List, [], _∷_}
 use lib.Dec.{eqb, ltb}
-use Rattle.parts.specs.declared.Facts.{Facts}
-use Rattle.parts.specs.declared.Event.the-variants.{Ends}
-use Rattle.parts.specs.Events.{eventOf}
-use Rattle.line.specs.Rules.{begunOf}
 use Rattle.state.specs.declared.Chip.{Chip}
-use Rattle.chip.specs.Memory.{Mem, stateOf, storeOf, answerOf}
+use Rattle.chip.specs.Memory.{Mem}
+use Rattle.chip.specs.Model.{Model}
 use Rattle.driver.specs.declared.Request.{Request}
 use Rattle.driver.specs.declared.Slot.{Slot}
 use Rattle.driver.specs.declared.Slot.the-variants.{Select, High, Low, Data, Poll, Turn, Take}
@@ -40,43 +37,47 @@ abbrev pub clockOf : ℕ → ℕ
 clockOf e = cond (ltb e 2) 1 0
 
 -- the driver's answer is an event for the chip, or it is finished and nothing changes
-abbrev pub answeredBy : Facts → ℕ → System → Driver → List ℕ → Answer → System
-answeredBy f enable s d b (Send e) =
+abbrev pub answeredBy : Model → System → Driver → List ℕ → Answer → System
+answeredBy M s d b (Send e) =
     record {
       driver = d;
-      level = answerOf f enable (s .chip) (s .mem) (eventOf e);
+      level = M .level (s .chip) (s .mem) e;
       buffer = b;
-      chip = stateOf f enable (s .chip) (eventOf e);
-      mem = storeOf f (s .chip) (s .mem) (eventOf e);
-      cycles = s .cycles + begunOf (s .chip .line) (eventOf e);
+      chip = M .next (s .chip) e;
+      mem = M .store (s .chip) (s .mem) e;
+      cycles = s .cycles + M .begun (s .chip) e;
       clocks = s .clocks + clockOf e;
     }
-answeredBy f enable s d b (Done polls bytes) = s
-answeredBy f enable s d b (Refused r polls bytes) = s
+answeredBy M s d b (Done polls bytes) = s
+answeredBy M s d b (Refused r polls bytes) = s
 
 -- the driver is asked once
-unfoldable pub askedOf : Facts → ℕ → System → System
-askedOf f enable s =
-    answeredBy f enable s (nextOf (s .driver) (s .level) (s .buffer) .driver) (bufferOf (s .driver) (s .level) (s .buffer)) (nextOf (s .driver) (s .level) (s .buffer) .answer)
+unfoldable pub askedOf : Model → System → System
+askedOf M s =
+    answeredBy M s (nextOf (s .driver) (s .level) (s .buffer) .driver) (bufferOf (s .driver) (s .level) (s .buffer)) (nextOf (s .driver) (s .level) (s .buffer) .answer)
+
+-- the code of the end of a cycle
+abbrev pub ends : ℕ
+ends = 4
 
 -- the chip's cycle ends, if one runs
-unfoldable pub endedOf : Facts → ℕ → System → System
-endedOf f enable s =
+unfoldable pub endedOf : Model → System → System
+endedOf M s =
     record {
       driver = s .driver;
       level = s .level;
       buffer = s .buffer;
-      chip = stateOf f enable (s .chip) Ends;
-      mem = storeOf f (s .chip) (s .mem) Ends;
+      chip = M .next (s .chip) ends;
+      mem = M .store (s .chip) (s .mem) ends;
       cycles = s .cycles;
       clocks = s .clocks;
     }
 
 -- any interleaving: true asks the driver, false is an end
-unfoldable pub togetherOf : Facts → ℕ → List Bool → System → System
-togetherOf f enable [] s = s
-togetherOf f enable (true ∷ bs) s = togetherOf f enable bs (askedOf f enable s)
-togetherOf f enable (false ∷ bs) s = togetherOf f enable bs (endedOf f enable s)
+unfoldable pub togetherOf : Model → List Bool → System → System
+togetherOf M [] s = s
+togetherOf M (true ∷ bs) s = togetherOf M bs (askedOf M s)
+togetherOf M (false ∷ bs) s = togetherOf M bs (endedOf M s)
 
 -- ---- the run with d: "each cycle ends just before its poll number d"
 
@@ -100,12 +101,12 @@ pollNext (Over f) tries allowed level = 0
 unfoldable pub dueOf : ℕ → System → Bool
 dueOf d s = eqb (pollNext (s .driver .phase) (s .driver .counts .tries) (allowedOf (s .driver .request)) (s .level)) d
 
-unfoldable pub turnOf : Facts → ℕ → ℕ → System → System
-turnOf f enable d s = askedOf f enable (cond (dueOf d s) (endedOf f enable s) s)
+unfoldable pub turnOf : Model → ℕ → System → System
+turnOf M d s = askedOf M (cond (dueOf d s) (endedOf M s) s)
 
-unfoldable pub turnsOf : Facts → ℕ → ℕ → ℕ → System → System
-turnsOf f enable d zero s = s
-turnsOf f enable d (suc n) s = turnsOf f enable d n (turnOf f enable d s)
+unfoldable pub turnsOf : Model → ℕ → ℕ → System → System
+turnsOf M d zero s = s
+turnsOf M d (suc n) s = turnsOf M d n (turnOf M d s)
 
 -- more askings than any request takes: 9 clocks for each of 512 pages' select and address, 32,768 bytes and 512,000 polls, and
 -- their Starts and Stops

@@ -1,14 +1,14 @@
 // The driver against the model: each is told what the other does, until the driver has finished.
 ghost use mathlib.Core.Path.{_≡_};
-ghost use mathlib.Core.Bool.{cond, not, true};
+ghost use mathlib.Core.Bool.{cond, true};
 ghost use Prim.Native.Nat.{_+_, _<_};
 ghost use lib.ListN.{length, set};
 ghost use lib.Seq.{sets};
 ghost use lib.Dec.{eqb, ltb};
-ghost use Rattle.parts.specs.Table.{factsOf, enableRightOf};
-ghost use Rattle.parts.specs.declared.Event.the-variants.{Ends};
+ghost use Rattle.parts.specs.Table.{factsOf};
 ghost use Rattle.parts.specs.Events.{eventOf};
 ghost use Rattle.chip.specs.Memory.{mem, storeOf};
+ghost use Rattle.chip.specs.Model.{ours};
 ghost use Rattle.driver.specs.Step.{nextOf};
 ghost use Rattle.bench.specs.Together.{
   clockOf,
@@ -22,15 +22,13 @@ ghost use Rattle.bench.specs.Together.{
   dueOf,
 };
 ghost use Rattle.bench.specs.Tape.{sendsOf, codeOf, tapeBy, eventsOf, heardOf, laidOf};
-ghost use Rattle.bench.specs.Held.{whole, sentOf, atEndOf, madeOf, unfitOf, shortOf, limitedOf, Fit};
-ghost use Rattle.bench.specs.Calls.{benchVerdictOf, reportOf, refusedBy, benchBy, benchMem, benchBuffer, benchEvents, benchLevels};
+ghost use Rattle.bench.specs.Held.{whole, sentOf, atEndOf, madeOf, Fit};
+ghost use Rattle.bench.specs.Calls.{otherLengthOf, shortOf, lateOf, benchVerdictOf, reportOf, refusedBy, benchOf};
 use driver::Answer;
 use driver::Driver;
 use driver::Phase;
 use driver::Request;
 use driver::Slot;
-use parts::Facts;
-use parts::Faults;
 use parts::Refusal;
 use parts::Verdict;
 use state::Chip;
@@ -102,7 +100,7 @@ fn send(
     requires fit { ⌜ Fit part enable (held .chip) (length (now array)) (length (now id)) ⌝ }
     requires code { ⌜ code < 4 ⌝ }
     requires few { ⌜ (held .cycles < 6000000) × (held .clocks < 6000000) ⌝ }
-    ensures answer { λ r. ⌜ r ≡ sentOf (factsOf part) enable held (mem (now (array .entry)) (now (id .entry))) driver code ⌝ }
+    ensures answer { λ r. ⌜ r ≡ sentOf (ours (factsOf part) enable) held (mem (now (array .entry)) (now (id .entry))) driver code ⌝ }
     ensures stored { λ _. ⌜ mem (now (array .exit)) (now (id .exit)) ≡ storeOf (factsOf part) (held .chip) (mem (now (array .entry)) (now (id .entry))) (eventOf code) ⌝ }
 {
     let before = held.chip;
@@ -120,8 +118,8 @@ fn send(
 // Where it is due the chip's cycle ends, if one runs.
 fn end(due: bool, part: u8, enable: u8, held: Held, array: &mut [u8], id: &mut [u8]) -> Held
     requires { ⌜ Fit part enable (held .chip) (length (now array)) (length (now id)) ⌝ }
-    ensures answer { λ r. ⌜ r ≡ cond due (atEndOf (factsOf part) enable held) held ⌝ }
-    ensures stored { λ _. ⌜ mem (now (array .exit)) (now (id .exit)) ≡ cond due (storeOf (factsOf part) (held .chip) (mem (now (array .entry)) (now (id .entry))) Ends) (mem (now (array .entry)) (now (id .entry))) ⌝ }
+    ensures answer { λ r. ⌜ r ≡ cond due (atEndOf (ours (factsOf part) enable) held) held ⌝ }
+    ensures stored { λ _. ⌜ mem (now (array .exit)) (now (id .exit)) ≡ cond due (storeOf (factsOf part) (held .chip) (mem (now (array .entry)) (now (id .entry))) (eventOf 4)) (mem (now (array .entry)) (now (id .entry))) ⌝ }
 {
     if !due {
         return held;
@@ -151,7 +149,7 @@ fn ask(
 ) -> Turned
     requires fit { ⌜ Fit part enable (held .chip) (length (now array)) (length (now id)) ⌝ }
     requires few { ⌜ (held .cycles < 6000000) × (held .clocks < 6000000) ⌝ }
-    ensures together { λ r. ⌜ whole (r .held) (now (buffer .exit)) (mem (now (array .exit)) (now (id .exit))) ≡ askedOf (factsOf part) enable (whole held (now (buffer .entry)) (mem (now (array .entry)) (now (id .entry)))) ⌝ }
+    ensures together { λ r. ⌜ whole (r .held) (now (buffer .exit)) (mem (now (array .exit)) (now (id .exit))) ≡ askedOf (ours (factsOf part) enable) (whole held (now (buffer .entry)) (mem (now (array .entry)) (now (id .entry)))) ⌝ }
     ensures tape { λ r. ⌜ (r .ended ≡ ended) × (r .sends ≡ sendsOf (nextOf (held .driver) (held .level) (now (buffer .entry)) .answer)) × (r .code ≡ codeOf (nextOf (held .driver) (held .level) (now (buffer .entry)) .answer)) ⌝ }
 {
     let asked = driver::next(held.driver, held.level, buffer);
@@ -238,7 +236,7 @@ fn turn(
     requires fit { ⌜ Fit part enable (held .chip) (length (now array)) (length (now id)) ⌝ }
     requires few { ⌜ (held .cycles < 6000000) × (held .clocks < 6000000) ⌝ }
     requires first { ⌜ 0 < d ⌝ }
-    ensures together { λ r. ⌜ whole (r .held) (now (buffer .exit)) (mem (now (array .exit)) (now (id .exit))) ≡ turnOf (factsOf part) enable d (whole held (now (buffer .entry)) (mem (now (array .entry)) (now (id .entry)))) ⌝ }
+    ensures together { λ r. ⌜ whole (r .held) (now (buffer .exit)) (mem (now (array .exit)) (now (id .exit))) ≡ turnOf (ours (factsOf part) enable) d (whole held (now (buffer .entry)) (mem (now (array .entry)) (now (id .entry)))) ⌝ }
     ensures tape { λ r. ⌜ (r .ended ≡ dueOf d (whole held (now (buffer .entry)) (mem (now (array .entry)) (now (id .entry))))) × (r .sends ≡ sendsOf (nextOf (held .driver) (held .level) (now (buffer .entry)) .answer)) × (r .code ≡ codeOf (nextOf (held .driver) (held .level) (now (buffer .entry)) .answer)) ⌝ }
 {
     let driver = held.driver;
@@ -318,10 +316,10 @@ fn go(
     requires fit { ⌜ Fit part enable (first .chip) (length (now array)) (length (now id)) ⌝ }
     requires none { ⌜ (first .cycles ≡ 0) × (first .clocks ≡ 0) ⌝ }
     requires first { ⌜ 0 < d ⌝ }
-    ensures together { λ r. ⌜ whole (r .held) (now (buffer .exit)) (mem (now (array .exit)) (now (id .exit))) ≡ turnsOf (factsOf part) enable d enough (whole first (now (buffer .entry)) (mem (now (array .entry)) (now (id .entry)))) ⌝ }
-    ensures sent { λ r. ⌜ r .sent ≡ length (eventsOf (factsOf part) enable d enough (whole first (now (buffer .entry)) (mem (now (array .entry)) (now (id .entry))))) ⌝ }
-    ensures events { λ _. ⌜ now (events .exit) ≡ laidOf (now (events .entry)) (eventsOf (factsOf part) enable d enough (whole first (now (buffer .entry)) (mem (now (array .entry)) (now (id .entry))))) ⌝ }
-    ensures levels { λ _. ⌜ now (levels .exit) ≡ laidOf (now (levels .entry)) (heardOf (factsOf part) enable d enough (whole first (now (buffer .entry)) (mem (now (array .entry)) (now (id .entry))))) ⌝ }
+    ensures together { λ r. ⌜ whole (r .held) (now (buffer .exit)) (mem (now (array .exit)) (now (id .exit))) ≡ turnsOf (ours (factsOf part) enable) d enough (whole first (now (buffer .entry)) (mem (now (array .entry)) (now (id .entry)))) ⌝ }
+    ensures sent { λ r. ⌜ r .sent ≡ length (eventsOf (ours (factsOf part) enable) d enough (whole first (now (buffer .entry)) (mem (now (array .entry)) (now (id .entry))))) ⌝ }
+    ensures events { λ _. ⌜ now (events .exit) ≡ laidOf (now (events .entry)) (eventsOf (ours (factsOf part) enable) d enough (whole first (now (buffer .entry)) (mem (now (array .entry)) (now (id .entry))))) ⌝ }
+    ensures levels { λ _. ⌜ now (levels .exit) ≡ laidOf (now (levels .entry)) (heardOf (ours (factsOf part) enable) d enough (whole first (now (buffer .entry)) (mem (now (array .entry)) (now (id .entry))))) ⌝ }
 {
     let mut held = first;
     let mut sent: usize = 0;
@@ -402,12 +400,12 @@ fn drive(
 ) -> Recorded
     requires fit { ⌜ Fit (request .part) enable chip (length (now array)) (length (now id)) ⌝ }
     requires first { ⌜ 0 < d ⌝ }
-    ensures answer { λ r. ⌜ r .report ≡ reportOf (turnsOf (factsOf (request .part)) enable d enough (startOf request (now (bytes .entry)) chip (mem (now (array .entry)) (now (id .entry))))) ⌝ }
-    ensures stored { λ _. ⌜ mem (now (array .exit)) (now (id .exit)) ≡ turnsOf (factsOf (request .part)) enable d enough (startOf request (now (bytes .entry)) chip (mem (now (array .entry)) (now (id .entry)))) .mem ⌝ }
-    ensures bytes { λ _. ⌜ now (bytes .exit) ≡ turnsOf (factsOf (request .part)) enable d enough (startOf request (now (bytes .entry)) chip (mem (now (array .entry)) (now (id .entry)))) .buffer ⌝ }
-    ensures sent { λ r. ⌜ r .sent ≡ length (eventsOf (factsOf (request .part)) enable d enough (startOf request (now (bytes .entry)) chip (mem (now (array .entry)) (now (id .entry))))) ⌝ }
-    ensures events { λ _. ⌜ now (events .exit) ≡ laidOf (now (events .entry)) (eventsOf (factsOf (request .part)) enable d enough (startOf request (now (bytes .entry)) chip (mem (now (array .entry)) (now (id .entry))))) ⌝ }
-    ensures levels { λ _. ⌜ now (levels .exit) ≡ laidOf (now (levels .entry)) (heardOf (factsOf (request .part)) enable d enough (startOf request (now (bytes .entry)) chip (mem (now (array .entry)) (now (id .entry))))) ⌝ }
+    ensures answer { λ r. ⌜ r .report ≡ reportOf (turnsOf (ours (factsOf (request .part)) enable) d enough (startOf request (now (bytes .entry)) chip (mem (now (array .entry)) (now (id .entry))))) ⌝ }
+    ensures stored { λ _. ⌜ mem (now (array .exit)) (now (id .exit)) ≡ turnsOf (ours (factsOf (request .part)) enable) d enough (startOf request (now (bytes .entry)) chip (mem (now (array .entry)) (now (id .entry)))) .mem ⌝ }
+    ensures bytes { λ _. ⌜ now (bytes .exit) ≡ turnsOf (ours (factsOf (request .part)) enable) d enough (startOf request (now (bytes .entry)) chip (mem (now (array .entry)) (now (id .entry)))) .buffer ⌝ }
+    ensures sent { λ r. ⌜ r .sent ≡ length (eventsOf (ours (factsOf (request .part)) enable) d enough (startOf request (now (bytes .entry)) chip (mem (now (array .entry)) (now (id .entry))))) ⌝ }
+    ensures events { λ _. ⌜ now (events .exit) ≡ laidOf (now (events .entry)) (eventsOf (ours (factsOf (request .part)) enable) d enough (startOf request (now (bytes .entry)) chip (mem (now (array .entry)) (now (id .entry))))) ⌝ }
+    ensures levels { λ _. ⌜ now (levels .exit) ≡ laidOf (now (levels .entry)) (heardOf (ours (factsOf (request .part)) enable) d enough (startOf request (now (bytes .entry)) chip (mem (now (array .entry)) (now (id .entry))))) ⌝ }
 {
     let begun = driver::begin(request);
     let driver = begun.driver;
@@ -441,27 +439,14 @@ fn drive(
 
 // ---- refusals
 
-// 2: the driver's enable or the chip's is wrong for the part.
-fn enables_wrong(f: Facts, asked: u8, own: u8) -> bool
-    ensures { λ r. ⌜ r ≡ cond (enableRightOf f asked) (not (enableRightOf f own)) true ⌝ }
+// 4: the data have another length than asked.
+fn other_length(reads: bool, length: usize, b: usize) -> bool
+    ensures { λ r. ⌜ r ≡ otherLengthOf reads length b ⌝ }
 {
-    if parts::enable_right(f, asked) {
-        return !parts::enable_right(f, own);
+    if reads {
+        return false;
     }
-    true
-}
-
-// 4: the chip is out of range, or the data have another length than asked.
-fn unfit(ranged: bool, reads: bool, length: usize, b: usize) -> bool
-    ensures { λ r. ⌜ r ≡ unfitOf ranged reads length b ⌝ }
-{
-    if ranged {
-        if reads {
-            return false;
-        }
-        return b != length;
-    }
-    true
+    b != length
 }
 
 // 6: a read's buffer is too short.
@@ -474,20 +459,17 @@ fn short(reads: bool, length: usize, b: usize) -> bool
     false
 }
 
-// 8: the request's limit, or d outside 1 to 65,535.
-fn limited(own: bool, d: usize) -> bool
-    ensures { λ r. ⌜ r ≡ limitedOf own d ⌝ }
+// 8: d outside 1 to 65,535.
+fn late(d: usize) -> bool
+    ensures { λ r. ⌜ r ≡ lateOf d ⌝ }
 {
-    if own {
-        return true;
-    }
     if d < 1 {
         return true;
     }
     65535 < d
 }
 
-// 7 and the budget's 8 are the driver's to judge.
+// The request is the driver's to judge, the chip and its buffers are the chip's.
 fn judge(
     request: Request,
     enable: u8,
@@ -499,28 +481,16 @@ fn judge(
 ) -> Verdict
     ensures { λ r. ⌜ r ≡ benchVerdictOf request enable d chip n i b ⌝ }
 {
-    let f = parts::facts_of(request.part);
-    let known = f.known;
-    let no_enable = enables_wrong(f, request.enable, enable);
-    let lent = parts::buffers_right(f, n, i);
-    let ranged = state::in_range(request.part, chip);
-    let own = parts::verdict_number(driver::judge(request));
-    let wrong = unfit(ranged, request.reads, request.length, b);
+    let asked = driver::judge(request);
+    let held = chip::held_verdict(request.part, enable, chip, n, i);
+    let wrong = other_length(request.reads, request.length, b);
     let scant = short(request.reads, request.length, b);
-    let limit = limited(own == 8, d);
-    parts::given(Faults {
-        part: !known,
-        enable: no_enable,
-        buffer: !lent,
-        state: wrong,
-        many: false,
-        event: false,
-        place: 0,
-        short: scant,
-        beyond: own == 7,
-        limit,
-        image: false,
-    })
+    let limit = late(d);
+    let data = parts::claim(wrong, Refusal::BadState);
+    let room = parts::claim(scant, Refusal::ShortBuffer);
+    let ends = parts::claim(limit, Refusal::BadLimit);
+    let own = parts::sooner(data, parts::sooner(room, ends));
+    parts::sooner(asked, parts::sooner(held, own))
 }
 
 // ---- runs
@@ -552,12 +522,15 @@ pub fn record(
     events: &mut [u8],
     levels: &mut [u8],
 ) -> Recorded
-    ensures answer { λ r. ⌜ r .report ≡ benchBy request enable d chip (mem (now (array .entry)) (now (id .entry))) (now (buffer .entry)) (benchVerdictOf request enable d chip (length (now (array .entry))) (length (now (id .entry))) (length (now (buffer .entry)))) ⌝ }
-    ensures stored { λ _. ⌜ mem (now (array .exit)) (now (id .exit)) ≡ benchMem request enable d chip (mem (now (array .entry)) (now (id .entry))) (now (buffer .entry)) (benchVerdictOf request enable d chip (length (now (array .entry))) (length (now (id .entry))) (length (now (buffer .entry)))) ⌝ }
-    ensures bytes { λ _. ⌜ now (buffer .exit) ≡ benchBuffer request enable d chip (mem (now (array .entry)) (now (id .entry))) (now (buffer .entry)) (benchVerdictOf request enable d chip (length (now (array .entry))) (length (now (id .entry))) (length (now (buffer .entry)))) ⌝ }
-    ensures sent { λ r. ⌜ r .sent ≡ length (benchEvents request enable d chip (mem (now (array .entry)) (now (id .entry))) (now (buffer .entry)) (benchVerdictOf request enable d chip (length (now (array .entry))) (length (now (id .entry))) (length (now (buffer .entry))))) ⌝ }
-    ensures events { λ _. ⌜ now (events .exit) ≡ laidOf (now (events .entry)) (benchEvents request enable d chip (mem (now (array .entry)) (now (id .entry))) (now (buffer .entry)) (benchVerdictOf request enable d chip (length (now (array .entry))) (length (now (id .entry))) (length (now (buffer .entry))))) ⌝ }
-    ensures levels { λ _. ⌜ now (levels .exit) ≡ laidOf (now (levels .entry)) (benchLevels request enable d chip (mem (now (array .entry)) (now (id .entry))) (now (buffer .entry)) (benchVerdictOf request enable d chip (length (now (array .entry))) (length (now (id .entry))) (length (now (buffer .entry))))) ⌝ }
+    ensures answer { λ r. ⌜ r .report ≡ benchOf request enable d chip (mem (now (array .entry)) (now (id .entry))) (now (buffer .entry)) .report ⌝ }
+    ensures stored { λ _. ⌜ mem (now (array .exit)) (now (id .exit))
+        ≡ benchOf request enable d chip (mem (now (array .entry)) (now (id .entry))) (now (buffer .entry)) .mem ⌝ }
+    ensures bytes { λ _. ⌜ now (buffer .exit) ≡ benchOf request enable d chip (mem (now (array .entry)) (now (id .entry))) (now (buffer .entry)) .buffer ⌝ }
+    ensures sent { λ r. ⌜ r .sent ≡ length (benchOf request enable d chip (mem (now (array .entry)) (now (id .entry))) (now (buffer .entry)) .events) ⌝ }
+    ensures events { λ _. ⌜ now (events .exit)
+        ≡ laidOf (now (events .entry)) (benchOf request enable d chip (mem (now (array .entry)) (now (id .entry))) (now (buffer .entry)) .events) ⌝ }
+    ensures levels { λ _. ⌜ now (levels .exit)
+        ≡ laidOf (now (levels .entry)) (benchOf request enable d chip (mem (now (array .entry)) (now (id .entry))) (now (buffer .entry)) .levels) ⌝ }
 {
     let verdict = judge(
         request,
@@ -588,9 +561,10 @@ pub fn run(
     id: &mut [u8],
     buffer: &mut [u8],
 ) -> Report
-    ensures answer { λ r. ⌜ r ≡ benchBy request enable d chip (mem (now (array .entry)) (now (id .entry))) (now (buffer .entry)) (benchVerdictOf request enable d chip (length (now (array .entry))) (length (now (id .entry))) (length (now (buffer .entry)))) ⌝ }
-    ensures stored { λ _. ⌜ mem (now (array .exit)) (now (id .exit)) ≡ benchMem request enable d chip (mem (now (array .entry)) (now (id .entry))) (now (buffer .entry)) (benchVerdictOf request enable d chip (length (now (array .entry))) (length (now (id .entry))) (length (now (buffer .entry)))) ⌝ }
-    ensures bytes { λ _. ⌜ now (buffer .exit) ≡ benchBuffer request enable d chip (mem (now (array .entry)) (now (id .entry))) (now (buffer .entry)) (benchVerdictOf request enable d chip (length (now (array .entry))) (length (now (id .entry))) (length (now (buffer .entry)))) ⌝ }
+    ensures answer { λ r. ⌜ r ≡ benchOf request enable d chip (mem (now (array .entry)) (now (id .entry))) (now (buffer .entry)) .report ⌝ }
+    ensures stored { λ _. ⌜ mem (now (array .exit)) (now (id .exit))
+        ≡ benchOf request enable d chip (mem (now (array .entry)) (now (id .entry))) (now (buffer .entry)) .mem ⌝ }
+    ensures bytes { λ _. ⌜ now (buffer .exit) ≡ benchOf request enable d chip (mem (now (array .entry)) (now (id .entry))) (now (buffer .entry)) .buffer ⌝ }
 {
     let mut events = [0u8; 1];
     let mut levels = [0u8; 1];

@@ -7,36 +7,36 @@ use mathlib.Core.Logic.{_⊎_, inl, inr, ⊎-elim}
 use mathlib.Core.List.{List, _++_}
 use lib.ListN.{length, getD, take, drop, length-take, length-drop, take-append-drop, List·getD-eq-default}
 use lib.Seq.{take-all, getD-take, getD-drop, ext-getD}
-use lib.Dec.{eqb, ltb}
 use native.Mathlib.Omega.{arith}
-use borrow.Author.Tests.{le-ltb, eqb-true, ltb-false, not-false}
-use Rattle.parts.specs.declared.Faults.{Faults}
+use borrow.Author.Tests.{le-ltb, eqb-true, not-false}
 use Rattle.parts.specs.declared.Refusal.{Refusal}
-use Rattle.parts.specs.declared.Refusal.the-variants.{NoData, PollsUsed}
+use Rattle.parts.specs.declared.Refusal.the-variants.{NoPart, WrongEnable, Beyond, NoData, PollsUsed}
+use Rattle.parts.specs.declared.Verdict.{Verdict}
 use Rattle.parts.specs.declared.Verdict.the-variants.{Fine, Refused as Judged}
 use Rattle.parts.specs.Table.{factsOf, idSizeOf, enableRightOf, buffersRightOf}
-use Rattle.parts.specs.Refusals.{givenOf, isFine}
-use Rattle.parts.proofs.Laws.{Faultless, faultless}
-use Rattle.parts.proofs.Tests.{both, neither}
+use Rattle.parts.specs.Refusals.{isFine, claimOf, soonerOf}
+use Rattle.parts.proofs.Claims.{sooner-fine}
 use Rattle.line.specs.declared.Target.{Target}
 use Rattle.line.specs.declared.Target.the-variants.{Array as TheArray, Ident as TheIdent}
 use Rattle.line.specs.declared.Phase.the-variants.{Idle}
 use Rattle.state.specs.declared.Chip.{Chip}
 use Rattle.state.specs.Range.{inRangeOf}
 use Rattle.chip.specs.Memory.{Mem, cellsOf}
+use Rattle.chip.proofs.Laws.{buffers-are}
 use Rattle.laws.specs.Range.{Typed}
 use Rattle.driver.specs.declared.Request.{Request}
 use Rattle.driver.specs.declared.Answer.{Answer}
 use Rattle.driver.specs.declared.Answer.the-variants.{Send, Done, Refused}
-use Rattle.driver.specs.Request.{fromOf, roomOf, thereOf, beyondAt, limitOf, faultsOf, judgeOf, allowedOf}
+use Rattle.driver.specs.Request.{fromOf, roomOf, thereOf, beyondAt, limitOf, judgeOf, allowedOf}
 use Rattle.driver_laws.specs.Run.{Finished, boundOf}
 use Rattle.bench.specs.declared.Report.{Report}
 use Rattle.bench.specs.Together.{System, startOf, togetherOf, turnsOf, enough}
-use Rattle.bench.specs.Calls.{benchVerdictOf, finalOf, reportBy, reportOf, benchBy, benchMem, benchBuffer}
+use Rattle.bench.specs.Calls.{otherLengthOf, shortOf, lateOf, finalOf, reportBy, reportOf, BenchLeft, benchBy, benchVerdict, benchOf}
+use Rattle.bench.proofs.Laws.{Granted, granted, granted-fine, run-first, run-length}
 use Rattle.demands.specs.Ground.{targetOf, Bytes}
 use Rattle.demands.specs.Together.{Begins, answerOf, reportedOf, otherOf, Safe, ReadRight}
 use Rattle.demands.specs.Ends.{Writable, Shut, Complete}
-use Rattle.demands.specs.Calls.{verdictOf, ours, Called, Written, Taken, Ended, UsedUp, Protected, Untouched, readOf, BenchPromises}
+use Rattle.demands.specs.Calls.{ours, Called, Written, Taken, Ended, UsedUp, Protected, Untouched, readOf, BenchPromises}
 use Rattle.demands.proofs.Wrote.{less-or-more}
 use Rattle.demands.proofs.Stored.{room-is, all-done, write-safe, read-right, read-ends, finished}
 use Rattle.demands.proofs.Rel.{Buffer}
@@ -46,6 +46,7 @@ use Rattle.demands.proofs.Late.{turns-refused}
 use Rattle.demands.proofs.Shut.{shut-refused}
 use Rattle.demands.proofs.Range.{stays-in-range}
 use Rattle.demands.proofs.Replay.{replayed}
+use Rattle.chip.specs.Model.{ours as model}
 
 -- ---- a call that is not refused
 either : (t u : Target) → (u ≡ t) ⊎ (u ≡ otherOf t)
@@ -54,67 +55,30 @@ either TheArray TheIdent = inr refl
 either TheIdent TheArray = inr refl
 either TheIdent TheIdent = inl refl
 
-right : (a : Bool) → cond a (not a) true ≡ false → a ≡ true
-right true e = refl
-right false e = absurd (false≢true (sym e))
-
 module _ (r : Request) (d : ℕ) (c : Chip) (m : Mem) (ys : List ℕ) (k : Called r d c m ys) where
   abbrev xs : List ℕ
   xs = take (r .length) ys
 
-  abbrev asked : Faults
-  asked =
-      record {
-        part = not (factsOf (r .part) .known);
-        enable = cond (enableRightOf (factsOf (r .part)) (r .enable)) (not (enableRightOf (factsOf (r .part)) (r .enable))) true;
-        buffer = not (buffersRightOf (factsOf (r .part)) (length (m .cells)) (length (m .ident)));
-        state = cond (inRangeOf (factsOf (r .part)) c) (cond (r .reads) false (not (eqb (length ys) (r .length)))) true;
-        many = false;
-        event = false;
-        place = 0;
-        short = cond (r .reads) (ltb (length ys) (r .length)) false;
-        beyond = beyondAt (fromOf (r .place)) (r .length) (roomOf (factsOf (r .part)) (r .place)) (thereOf (factsOf (r .part)) (r .place));
-        limit = cond (limitOf (r .reads) (r .budget)) true (cond (ltb d 1) true (ltb 65535 d));
-        image = false;
-      }
-
-  none : Faultless asked
-  unfolding benchVerdictOf
-  none = faultless asked (k .fine)
-
-  enabled : enableRightOf (factsOf (r .part)) (r .enable) ≡ true
-  enabled = right _ (none .enable)
-
-  judged : judgeOf r ≡ Fine
-  unfolding judgeOf givenOf faultsOf
-  judged = simp (none .part, enabled, none .beyond, neither (limitOf (r .reads) (r .budget)) _ (none .limit) .0)
+  none : Granted r (r .enable) d c (length (m .cells)) (length (m .ident)) (length ys)
+  none = granted r (r .enable) d c (length (m .cells)) (length (m .ident)) (length ys) (k .fine)
 
   low-d : 1 ≤ d
-  low-d = ltb-false d 1 (neither (ltb d 1) _ (neither (limitOf (r .reads) (r .budget)) _ (none .limit) .1) .0)
+  low-d = run-first r (r .enable) d c (length (m .cells)) (length (m .ident)) (length ys) (k .fine)
 
   sizes : (length (m .cells) ≡ factsOf (r .part) .size) × (length (m .ident) ≡ idSizeOf (factsOf (r .part)))
-  unfolding buffersRightOf
-  sizes =
-      let e = both (eqb (length (m .cells)) (factsOf (r .part) .size)) _ (not-false _ (none .buffer)) in
-      (eqb-true _ _ (e .0), eqb-true _ _ (e .1))
+  sizes = buffers-are (factsOf (r .part)) (length (m .cells)) (length (m .ident)) (none .held .lent)
 
   -- the buffer is long enough, and a write's is as long as asked
   write-long : r .reads ≡ false → length ys ≡ r .length
-  write-long w = go (inRangeOf (factsOf (r .part)) c) (none .state)
+  unfolding otherLengthOf
+  write-long w = go (r .reads) (none .fit) w
     where
-      go : (t : Bool) → cond t (cond (r .reads) false (not (eqb (length ys) (r .length)))) true ≡ false → length ys ≡ r .length
-      go true e = eqb-true _ _ (not-false _ (subst (λ (b : Bool). cond b false (not (eqb (length ys) (r .length))) ≡ false) w e))
-      go false e = absurd (false≢true (sym e))
-
-  read-long : r .reads ≡ true → r .length ≤ length ys
-  read-long w = ltb-false _ _ (subst (λ (b : Bool). cond b (ltb (length ys) (r .length)) false ≡ false) w (none .short))
+      go : (b : Bool) → otherLengthOf b (r .length) (length ys) ≡ false → b ≡ false → length ys ≡ r .length
+      go true e f = absurd (false≢true (sym f))
+      go false e f = eqb-true _ _ (not-false _ e)
 
   long : r .length ≤ length ys
-  long = go (r .reads) refl
-    where
-      go : (b : Bool) → r .reads ≡ b → r .length ≤ length ys
-      go true w = read-long w
-      go false w = omega (arith, write-long w)
+  long = run-length r (r .enable) d c (length (m .cells)) (length (m .ident)) (length ys) (k .fine)
 
   xs-long : length xs ≡ r .length
   xs-long = omega (arith, length-take (r .length) ys, long)
@@ -127,7 +91,7 @@ module _ (r : Request) (d : ℕ) (c : Chip) (m : Mem) (ys : List ℕ) (k : Calle
   begins : Begins r xs c m
   begins =
       record {
-        accepted = record { fine = judged; size = xs-long };
+        accepted = record { fine = none .asked; size = xs-long };
         bytes = xs-bytes;
         idle = record { idle = k .idle; cells = sizes .0; ident = sizes .1; bytes = k .stored };
       }
@@ -141,20 +105,20 @@ module _ (n : ℕ) (turns : n ≡ enough) (r : Request) (d : ℕ) (c : Chip) (m 
   bs = choices (factsOf (r .part)) (r .enable) d n (startOf r ws c m)
 
   abbrev Y : System
-  Y = togetherOf (factsOf (r .part)) (r .enable) bs (startOf r ws c m)
+  Y = togetherOf (model (factsOf (r .part)) (r .enable)) bs (startOf r ws c m)
 
   final : finalOf r (r .enable) d c m ys ≡ Y
   unfolding finalOf
-  final = ap (λ (i : ℕ). turnsOf (factsOf (r .part)) (r .enable) d i (startOf r ws c m)) (sym turns) ∙ choices-same (factsOf (r .part)) (r .enable) d n (startOf r ws c m)
+  final = ap (λ (i : ℕ). turnsOf (model (factsOf (r .part)) (r .enable)) d i (startOf r ws c m)) (sym turns) ∙ choices-same (factsOf (r .part)) (r .enable) d n (startOf r ws c m)
 
-  report-is : benchBy r (r .enable) d c m ys (verdictOf r (r .enable) d c m ys) ≡ reportOf Y
-  report-is = ap (benchBy r (r .enable) d c m ys) (k .fine) ∙ ap reportOf final
+  report-is : benchOf r (r .enable) d c m ys .report ≡ reportOf Y
+  report-is = ap (λ (v : Verdict). benchBy r (r .enable) d c m ys v .report) (k .fine) ∙ ap reportOf final
 
-  memory-is : benchMem r (r .enable) d c m ys (verdictOf r (r .enable) d c m ys) ≡ Y .mem
-  memory-is = ap (benchMem r (r .enable) d c m ys) (k .fine) ∙ ap (λ (y : System). y .mem) final
+  memory-is : benchOf r (r .enable) d c m ys .mem ≡ Y .mem
+  memory-is = ap (λ (v : Verdict). benchBy r (r .enable) d c m ys v .mem) (k .fine) ∙ ap (λ (y : System). y .mem) final
 
-  buffer-is : benchBuffer r (r .enable) d c m ys (verdictOf r (r .enable) d c m ys) ≡ Y .buffer ++ drop (r .length) ys
-  buffer-is = ap (benchBuffer r (r .enable) d c m ys) (k .fine) ∙ ap (λ (y : System). y .buffer ++ drop (r .length) ys) final
+  buffer-is : benchOf r (r .enable) d c m ys .buffer ≡ Y .buffer ++ drop (r .length) ys
+  buffer-is = ap (λ (v : Verdict). benchBy r (r .enable) d c m ys v .buffer) (k .fine) ∙ ap (λ (y : System). y .buffer ++ drop (r .length) ys) final
 
   over-bound : boundOf r < n
   over-bound = subst (λ (i : ℕ). boundOf r < i) (sym turns) (enough-turns r ws (begins r d c m ys k .accepted))
@@ -182,14 +146,10 @@ module _ (n : ℕ) (turns : n ≡ enough) (r : Request) (d : ℕ) (c : Chip) (m 
   chip-of (Done q n) = refl
   chip-of (Refused f q n) = refl
 
-  in-range : Typed c → inRangeOf (factsOf (r .part)) (benchBy r (r .enable) d c m ys (verdictOf r (r .enable) d c m ys) .chip) ≡ true
+  in-range : Typed c → inRangeOf (factsOf (r .part)) (benchOf r (r .enable) d c m ys .report .chip) ≡ true
   in-range t =
       ap (λ (y : Report). inRangeOf (factsOf (r .part)) (y .chip)) report-is
-      ∙ (ap (inRangeOf (factsOf (r .part))) (chip-of (answerOf Y)) ∙ stays-in-range r ws c m bs (begins r d c m ys k) t (first (inRangeOf (factsOf (r .part)) c) (none r d c m ys k .state)) .0)
-    where
-      first : (t : Bool) → cond t (cond (r .reads) false (not (eqb (length ys) (r .length)))) true ≡ false → t ≡ true
-      first true e = refl
-      first false e = absurd (false≢true (sym e))
+      ∙ (ap (inRangeOf (factsOf (r .part))) (chip-of (answerOf Y)) ∙ stays-in-range r ws c m bs (begins r d c m ys k) t (none r d c m ys k .held .ranged) .0)
 
   written : r .reads ≡ false → Written ours r (r .enable) d c m ys
   written w =
@@ -198,9 +158,9 @@ module _ (n : ℕ) (turns : n ≡ enough) (r : Request) (d : ℕ) (c : Chip) (m 
       let x = fromOf (r .place) in
       let e = write-long r d c m ys k w in
       let same : ws ≡ ys = take-all (r .length) ys (omega arith) in
-      let cell : (i : ℕ) → getD (cellsOf t (benchMem r (r .enable) d c m ys (verdictOf r (r .enable) d c m ys))) i 0 ≡ getD (cellsOf t (Y .mem)) i 0 = λ i. ap (λ (y : Mem). getD (cellsOf t y) i 0) memory-is in
+      let cell : (i : ℕ) → getD (cellsOf t (benchOf r (r .enable) d c m ys .mem)) i 0 ≡ getD (cellsOf t (Y .mem)) i 0 = λ i. ap (λ (y : Mem). getD (cellsOf t y) i 0) memory-is in
       let asks : (i : ℕ) → getD ws i 0 ≡ getD ys i 0 = λ i. ap (λ (l : List ℕ). getD l i 0) same in
-      let b : benchBy r (r .enable) d c m ys (verdictOf r (r .enable) d c m ys) .bytes ≡ reportedOf (answerOf Y) = ap (λ (y : Report). y .bytes) report-is ∙ bytes-reported (answerOf Y) in
+      let b : benchOf r (r .enable) d c m ys .report .bytes ≡ reportedOf (answerOf Y) = ap (λ (y : Report). y .bytes) report-is ∙ bytes-reported (answerOf Y) in
       record {
         reported = λ i h. cell (x + i) ∙ (z .reported i (omega arith) ∙ asks i);
         done = λ h. b ∙ all (answerOf Y) refl ended (ap (λ (y : Report). y .verdict) (sym report-is) ∙ h);
@@ -249,7 +209,7 @@ module _ (n : ℕ) (turns : n ≡ enough) (r : Request) (d : ℕ) (c : Chip) (m 
   taken w =
       let z = read-right r ws c m (begins r d c m ys k) bs w in
       let a = read-ends r ws c m (begins r d c m ys k) bs w (omega (arith, over-bound, choices-asked (factsOf (r .part)) (r .enable) d n (startOf r ws c m))) in
-      let p : benchBy r (r .enable) d c m ys (verdictOf r (r .enable) d c m ys) ≡ reportBy Y (Done 0 (r .length)) = report-is ∙ ap (reportBy Y) a in
+      let p : benchOf r (r .enable) d c m ys .report ≡ reportBy Y (Done 0 (r .length)) = report-is ∙ ap (reportBy Y) a in
       record {
         done = ap (λ (y : Report). y .verdict) p;
         bytes = ap (λ (y : Report). y .bytes) p;
@@ -277,13 +237,13 @@ module _ (n : ℕ) (turns : n ≡ enough) (r : Request) (d : ℕ) (c : Chip) (m 
   ends : r .reads ≡ false → Writable (r .place) (c .line .core) → d ≤ r .budget → Ended ours r (r .enable) d c m ys
   ends w u h =
       let z : Complete r Y = subst (Complete r) (choices-same (factsOf (r .part)) (r .enable) d n (startOf r ws c m)) (turns-end r ws c m d n w (begins r d c m ys k) u (low-d r d c m ys k) (omega (arith, budget-is w)) over-bound) in
-      let p : benchBy r (r .enable) d c m ys (verdictOf r (r .enable) d c m ys) ≡ reportBy Y (Done (z .polls) (r .length)) = report-is ∙ ap (reportBy Y) (z .done) in
+      let p : benchOf r (r .enable) d c m ys .report ≡ reportBy Y (Done (z .polls) (r .length)) = report-is ∙ ap (reportBy Y) (z .done) in
       record { done = ap (λ (y : Report). y .verdict) p; bytes = ap (λ (y : Report). y .bytes) p; cycles = ap (λ (y : Report). y .cycles) p ∙ z .cycles }
 
   uses-up : r .reads ≡ false → Writable (r .place) (c .line .core) → 1 ≤ r .length → r .budget < d → UsedUp ours r (r .enable) d c m ys
   uses-up w u o h =
       let z = subst (λ (y : System). (answerOf y ≡ Refused PollsUsed (allowedOf r) 0) × (y .cycles ≡ 1)) (choices-same (factsOf (r .part)) (r .enable) d n (startOf r ws c m)) (turns-refused r ws c m d n w (begins r d c m ys k) u o (omega (arith, budget-is w)) over-bound) in
-      let p : benchBy r (r .enable) d c m ys (verdictOf r (r .enable) d c m ys) ≡ reportBy Y (Refused PollsUsed (allowedOf r) 0) = report-is ∙ ap (reportBy Y) (z .0) in
+      let p : benchOf r (r .enable) d c m ys .report ≡ reportBy Y (Refused PollsUsed (allowedOf r) 0) = report-is ∙ ap (reportBy Y) (z .0) in
       record {
         refused = ap (λ (y : Report). y .verdict) p;
         polls = ap (λ (y : Report). y .polls) p ∙ budget-is w;
@@ -294,13 +254,18 @@ module _ (n : ℕ) (turns : n ≡ enough) (r : Request) (d : ℕ) (c : Chip) (m 
   protects : r .reads ≡ false → Shut (r .place) (c .line .core) → 1 ≤ r .length → Protected ours r (r .enable) d c m ys
   protects w u o =
       let z = shut-refused r ws c m bs w (begins r d c m ys k) u o (subst (λ (i : ℕ). boundOf r < i) (sym (choices-asked (factsOf (r .part)) (r .enable) d n (startOf r ws c m))) over-bound) in
-      let p : benchBy r (r .enable) d c m ys (verdictOf r (r .enable) d c m ys) ≡ reportBy Y (Refused NoData 0 0) = report-is ∙ ap (reportBy Y) (z .0) in
+      let p : benchOf r (r .enable) d c m ys .report ≡ reportBy Y (Refused NoData 0 0) = report-is ∙ ap (reportBy Y) (z .0) in
       record { refused = ap (λ (y : Report). y .verdict) p; bytes = ap (λ (y : Report). y .bytes) p; cycles = ap (λ (y : Report). y .cycles) p ∙ z .2; memory = memory-is ∙ z .1 }
 
-untouched : (r : Request) (en d : ℕ) (c : Chip) (m : Mem) (ys : List ℕ) (x : Refusal) → verdictOf r en d c m ys ≡ Judged x → Untouched ours r en d c m ys x
+untouched : (r : Request) (en d : ℕ) (c : Chip) (m : Mem) (ys : List ℕ) (x : Refusal) → benchVerdict r en d c m ys ≡ Judged x → Untouched ours r en d c m ys x
 untouched r en d c m ys x e =
     let p = ap (benchBy r en d c m ys) e in
-    record { verdict = ap (λ (y : Report). y .verdict) p; chip = ap (λ (y : Report). y .chip) p; memory = ap (benchMem r en d c m ys) e; buffer = ap (benchBuffer r en d c m ys) e }
+    record {
+      verdict = ap (λ (y : BenchLeft). y .report .verdict) p;
+      chip = ap (λ (y : BenchLeft). y .report .chip) p;
+      memory = ap (λ (y : BenchLeft). y .mem) p;
+      buffer = ap (λ (y : BenchLeft). y .buffer) p;
+    }
 
 -- the memories keep their lengths
 kept-sizes : (r : Request) (d : ℕ) (c : Chip) (m : Mem) (ys : List ℕ) → Written ours r (r .enable) d c m ys → (t : Target) → length (cellsOf t (ours .memory r (r .enable) d c m ys)) ≡ length (cellsOf t m)
@@ -309,27 +274,47 @@ kept-sizes r d c m ys z t =
     (λ e. subst (λ (u : Target). length (cellsOf u (ours .memory r (r .enable) d c m ys)) ≡ length (cellsOf u m)) (sym e) (ap (λ (l : List ℕ). length l) (z .other)))
     (either (targetOf (r .place)) t)
 
--- a read that nothing refuses
-fine-read : (r : Request) (e n i b : ℕ) (c : Chip) → not (factsOf (r .part) .known) ≡ false → enableRightOf (factsOf (r .part)) (r .enable) ≡ true
-    → buffersRightOf (factsOf (r .part)) n i ≡ true → inRangeOf (factsOf (r .part)) c ≡ true → r .length ≤ b
-    → beyondAt (fromOf (r .place)) (r .length) (roomOf (factsOf (r .part)) (r .place)) (thereOf (factsOf (r .part)) (r .place)) ≡ false → 1 ≤ e → e ≤ 65535
-    → benchVerdictOf (readOf r) (r .enable) e c n i b ≡ Fine
-unfolding benchVerdictOf givenOf limitOf
-fine-read r e n i b c t1 t2 t3 t4 t5 t6 t7 t8 = simp (t1, t2, t3, t4, le-ltb b (r .length) t5, t6, le-ltb e 1 t7, le-ltb 65535 e t8)
+-- the same request as a read is not refused either
+judged-read : (r : Request) → judgeOf r ≡ Fine → judgeOf (readOf r) ≡ Fine
+unfolding judgeOf soonerOf limitOf
+judged-read r h =
+    let (part, u) = sooner-fine (claimOf (not (factsOf (r .part) .known)) NoPart) _ h in
+    let (enable, v) = sooner-fine (claimOf (not (enableRightOf (factsOf (r .part)) (r .enable))) WrongEnable) _ u in
+    let (far, _) = sooner-fine (claimOf (beyondAt (fromOf (r .place)) (r .length) (roomOf (factsOf (r .part)) (r .place)) (thereOf (factsOf (r .part)) (r .place))) Beyond) _ v in
+    rw (part, enable, far) refl
+
+read-fits : (n b : ℕ) → otherLengthOf true n b ≡ false
+unfolding otherLengthOf
+read-fits n b = refl
+
+read-room : (n b : ℕ) → n ≤ b → shortOf true n b ≡ false
+unfolding shortOf
+read-room n b h = le-ltb b n h
+
+late-not : (e : ℕ) → 1 ≤ e → e ≤ 65535 → lateOf e ≡ false
+unfolding lateOf
+late-not e lo hi = rw (le-ltb e 1 lo, le-ltb 65535 e hi) refl
 
 -- the read is not refused
 read-fine : (r : Request) (d e : ℕ) (c : Chip) (m : Mem) (ys zs : List ℕ) → Called r d c m ys → Typed c → r .reads ≡ false → 1 ≤ e → e ≤ 65535 → r .length ≤ length zs
-    → verdictOf (readOf r) (r .enable) e (ours .report r (r .enable) d c m ys .chip) (ours .memory r (r .enable) d c m ys) zs ≡ Fine
+    → benchVerdict (readOf r) (r .enable) e (ours .report r (r .enable) d c m ys .chip) (ours .memory r (r .enable) d c m ys) zs ≡ Fine
 read-fine r d e c m ys zs k typed w lo hi room =
     let f = factsOf (r .part) in
     let z = written enough refl r d c m ys k w in
     let no = none r d c m ys k in
     let b : buffersRightOf f (length (ours .memory r (r .enable) d c m ys .cells)) (length (ours .memory r (r .enable) d c m ys .ident)) ≡ true =
     ap (λ (i : ℕ). buffersRightOf f i (length (ours .memory r (r .enable) d c m ys .ident))) (kept-sizes r d c m ys z TheArray)
-    ∙ (ap (buffersRightOf f (length (m .cells))) (kept-sizes r d c m ys z TheIdent) ∙ not-false _ (no .buffer))
+    ∙ (ap (buffersRightOf f (length (m .cells))) (kept-sizes r d c m ys z TheIdent) ∙ no .held .lent)
     in
     let g : inRangeOf f (ours .report r (r .enable) d c m ys .chip) ≡ true = in-range enough refl r d c m ys k typed in
-    fine-read r e (length (ours .memory r (r .enable) d c m ys .cells)) (length (ours .memory r (r .enable) d c m ys .ident)) (length zs) (ours .report r (r .enable) d c m ys .chip) (no .part) (enabled r d c m ys k) b g room (no .beyond) lo hi
+    granted-fine (readOf r) (r .enable) e (ours .report r (r .enable) d c m ys .chip) (length (ours .memory r (r .enable) d c m ys .cells)) (length (ours .memory r (r .enable) d c m ys .ident)) (length zs)
+    record {
+      asked = judged-read r (no .asked);
+      held = record { known = no .held .known; enabled = no .held .enabled; lent = b; ranged = g };
+      fit = read-fits (r .length) (length zs);
+      room = read-room (r .length) (length zs) room;
+      ends = late-not e lo hi;
+    }
 
 reads-back : (r : Request) (d e : ℕ) (c : Chip) (m : Mem) (ys zs : List ℕ) → Called r d c m ys → Typed c → r .reads ≡ false → ours .report r (r .enable) d c m ys .verdict ≡ Fine
     → 1 ≤ e → e ≤ 65535 → r .length ≤ length zs → Bytes zs

@@ -37,6 +37,7 @@ use Rattle.bench.specs.Together.{System, answeredBy, askedOf, endedOf, together
 use Rattle.demands.proofs.Rel.{Given, F, InHeard, Rel}
 use Rattle.demands.proofs.Keep.{Sane, Same, k-close, k-drop, k-give, k-page, k-end, no-nack}
 use Rattle.demands.proofs.Whole.{Holds, Stepped, stepped, asked-elim, asked-holds, ended-holds}
+use Rattle.chip.specs.Model.{ours as model}
 
 -- the Stop of a part's data was just sent
 abbrev pub rests : Phase → ℕ
@@ -193,16 +194,16 @@ module _ (g : Given) (s : Sane g) where
   abbrev now : System → Type 0
   now y = Cyc (g .request) (y .driver .phase) (y .driver .counts) (y .cycles)
 
-  asked-cyc : (y : System) → Holds g y → now y → now (askedOf (F g) (g .request .enable) y)
+  asked-cyc : (y : System) → Holds g y → now y → now (askedOf (model (F g) (g .request .enable)) y)
   asked-cyc y h k = go (stepped g s y h)
     where
-      go : Stepped g s y → now (askedOf (F g) (g .request .enable) y)
+      go : Stepped g s y → now (askedOf (model (F g) (g .request .enable)) y)
       go t =
           asked-elim g s now y t
           (by (t .move .answer) (begun-is g s (y .chip) (y .mem) (y .driver .counts) (y .buffer) (y .level) (h .inv) (h .rel) (t .way)))
         where
           by : (a : Answer) → Begun g s (y .chip) (y .mem) (y .driver .counts) (y .buffer) (y .level) (t .move) a
-              → now (answeredBy (F g) (g .request .enable) y (at (g .request) (t .move .phase) (t .move .counts)) (bufferOf (y .driver) (y .level) (y .buffer)) a)
+              → now (answeredBy (model (F g) (g .request .enable)) y (at (g .request) (t .move .phase) (t .move .counts)) (bufferOf (y .driver) (y .level) (y .buffer)) a)
           by (Send e) n = (
             λ w. omega (arith, n, k .0 w, read-rests (g .request) (t .move .phase) (t .move .counts) w (inv-step (g .request) (h .inv) (t .way))),
             λ w. omega (arith, n, cyc-write (g .request) (y .cycles) (h .inv) w (t .way) (k .1 w)),
@@ -210,11 +211,11 @@ module _ (g : Given) (s : Sane g) where
           by (Done q n) e = k
           by (Refused f q n) e = k
 
-  pub cyc-all : (bs : List Bool) (y : System) → Holds g y → now y → now (togetherOf (F g) (g .request .enable) bs y)
-  unfolding togetherOf endedOf
+  pub cyc-all : (bs : List Bool) (y : System) → Holds g y → now y → now (togetherOf (model (F g) (g .request .enable)) bs y)
+  unfolding togetherOf endedOf eventOf
   cyc-all [] y h k = k
-  cyc-all (true ∷ bs) y h k = cyc-all bs (askedOf (F g) (g .request .enable) y) (asked-holds g s y h) (asked-cyc y h k)
-  cyc-all (false ∷ bs) y h k = cyc-all bs (endedOf (F g) (g .request .enable) y) (ended-holds g s y h) k
+  cyc-all (true ∷ bs) y h k = cyc-all bs (askedOf (model (F g) (g .request .enable)) y) (asked-holds g s y h) (asked-cyc y h k)
+  cyc-all (false ∷ bs) y h k = cyc-all bs (endedOf (model (F g) (g .request .enable)) y) (ended-holds g s y h) k
 
 pub start-cyc : (r : Request) (c : Counts) → c .seen ≡ 0 → Cyc r Ready c 0
 start-cyc r c e = (λ w. refl, λ w. omega (arith, left-all r, ap (leftOf r) e))

@@ -8,19 +8,20 @@ use lib.ListN.{length, getD, replicate}
 use native.Mathlib.Omega.{arith}
 use Rattle.parts.specs.declared.Verdict.the-variants.{Fine}
 use Rattle.parts.specs.Table.{factsOf, idSizeOf, enableRightOf, buffersRightOf}
-use Rattle.parts.specs.Refusals.{givenOf, isFine}
+use Rattle.parts.specs.Refusals.{soonerOf, lentVerdictOf, isFine}
 use Rattle.line.specs.declared.Target.{Target}
 use Rattle.line.specs.declared.Target.the-variants.{Array as TheArray, Ident as TheIdent}
 use Rattle.state.specs.declared.Chip.{Chip}
 use Rattle.state.specs.Range.{marksRightOf, pinRightOf, lockRightOf, phaseRightOf, restRightOf, inRangeOf}
 use Rattle.chip.specs.Memory.{Mem, mem, noLatch, cellsOf}
 use Rattle.chip.specs.Runs.{cyclesOf}
+use Rattle.chip.specs.Calls.{heldVerdictOf}
 use Rattle.chip.specs.Delivery.{pinAtFirstOf, standbyOf}
 use Rattle.driver.specs.declared.Place.the-variants.{Array}
 use Rattle.driver.specs.declared.Request.{Request}
-use Rattle.driver.specs.Request.{kOf, beyondAt, limitOf}
+use Rattle.driver.specs.Request.{kOf, beyondAt, limitOf, judgeOf}
 use Rattle.driver.specs.Split.{pagesMetOf}
-use Rattle.bench.specs.Calls.{benchVerdictOf}
+use Rattle.bench.specs.Calls.{otherLengthOf, shortOf, lateOf, benchVerdictOf}
 use Rattle.demands.specs.Ground.{Bytes}
 use Rattle.demands.specs.Ends.{Writable}
 use Rattle.demands.specs.Calls.{Bench, ours, Called, BenchPromises}
@@ -50,7 +51,7 @@ one-byte zero = omega arith
 one-byte (suc i) = omega arith
 
 called : (reads : Bool) → Called (one reads) 1 chip₀ mem₀ byte
-unfolding benchVerdictOf givenOf factsOf idSizeOf enableRightOf buffersRightOf marksRightOf pinRightOf lockRightOf phaseRightOf restRightOf inRangeOf beyondAt limitOf standbyOf pinAtFirstOf noLatch
+unfolding benchVerdictOf judgeOf otherLengthOf shortOf lateOf soonerOf lentVerdictOf heldVerdictOf factsOf idSizeOf enableRightOf buffersRightOf marksRightOf pinRightOf lockRightOf phaseRightOf restRightOf inRangeOf beyondAt limitOf standbyOf pinAtFirstOf noLatch
 called true = record { fine = refl; idle = refl; stored = both; lent = one-byte }
   where
     both : (t : Target) → Bytes (cellsOf t mem₀)

@@ -45,6 +45,7 @@ use Rattle.demands.proofs.Cycles.{Cyc}
 use Rattle.demands.proofs.Stored.{spoken, all-done, cycles-now, finished}
 use Rattle.demands.proofs.Live.{not-refusing}
 use Rattle.demands.proofs.Turns.{choices, choices-asked, choices-same, turn-plain, next-slot}
+use Rattle.chip.specs.Model.{ours as model}
 
 -- in the first page, and all polls so far are its own
 pub record First (c : Counts) : Type 0 where
@@ -185,16 +186,16 @@ module _ (g : Given) (s : Sane g) (free : refusing (T g) (g .pin) (g .locked) �
     pub first : First (y .driver .counts)
     pub late : Late (y .driver .phase) (y .driver .counts) (y .chip .line) (y .level)
 
-  asked-late : (y : System) → Holds g y → LateNow y → LateNow (askedOf (F g) (r .enable) y)
+  asked-late : (y : System) → Holds g y → LateNow y → LateNow (askedOf (model (F g) (r .enable)) y)
   asked-late y h t = go (stepped g s y h)
     where
-      go : Stepped g s y → LateNow (askedOf (F g) (r .enable) y)
+      go : Stepped g s y → LateNow (askedOf (model (F g) (r .enable)) y)
       go w =
           asked-elim g s LateNow y w
           (by (w .move .answer) (first-step (y .chip .line) (h .inv) (t .late) (t .first) (w .way)) (lates (y .chip) (y .mem) (y .driver .counts) (y .buffer) (y .level) (h .inv) (h .rel) (t .late) (w .way)))
         where
           by : (a : Answer) → First (w .move .counts) → NextLate (y .chip) (y .mem) (y .driver .counts) (y .buffer) (y .level) (w .move) a
-              → LateNow (answeredBy (F g) (r .enable) y (at r (w .move .phase) (w .move .counts)) (bufferOf (y .driver) (y .level) (y .buffer)) a)
+              → LateNow (answeredBy (model (F g) (r .enable)) y (at r (w .move .phase) (w .move .counts)) (bufferOf (y .driver) (y .level) (y .buffer)) a)
           by (Send e) f n = record { first = f; late = n }
           by (Done q n) f k = t
           by (Refused z q n) f k = t
@@ -215,19 +216,19 @@ module _ (g : Given) (s : Sane g) (free : refusing (T g) (g .pin) (g .locked) �
       let k : pollOf y ≤ allowedOf r = subst (λ (q : Request). pollNext (y .driver .phase) (y .driver .counts .tries) (allowedOf q) (y .level) ≤ allowedOf r) (sym (h .request)) (next-most (y .driver .phase) (y .driver .counts) (y .level) (h .inv)) in
       omega arith)
 
-  pub late-all : (d n : ℕ) → allowedOf r < d → (y : System) → Holds g y → LateNow y → LateNow (turnsOf (F g) (r .enable) d n y)
+  pub late-all : (d n : ℕ) → allowedOf r < d → (y : System) → Holds g y → LateNow y → LateNow (turnsOf (model (F g) (r .enable)) d n y)
   unfolding turnsOf
   late-all d zero o y h t = t
   late-all d (suc n) o y h t =
-      subst (λ (z : System). LateNow (turnsOf (F g) (r .enable) d n z)) (sym (turn-plain (F g) (r .enable) d y (never-due d o y h)))
-      (late-all d n o (askedOf (F g) (r .enable) y) (asked-holds g s y h) (asked-late y h t))
+      subst (λ (z : System). LateNow (turnsOf (model (F g) (r .enable)) d n z)) (sym (turn-plain (F g) (r .enable) d y (never-due d o y h)))
+      (late-all d n o (askedOf (model (F g) (r .enable)) y) (asked-holds g s y h) (asked-late y h t))
 
 module _ (r : Request) (xs : List ℕ) (c : Chip) (m : Mem) (d n : ℕ) (w : r .reads ≡ false) (b : Begins r xs c m) (u : Writable (r .place) (c .line .core)) (some : 1 ≤ r .length) (o : allowedOf r < d) (h : boundOf r < n) where
   abbrev bs : List Bool
   bs = choices (factsOf (r .part)) (r .enable) d n (startOf r xs c m)
 
   abbrev Y : System
-  Y = togetherOf (factsOf (r .part)) (r .enable) bs (startOf r xs c m)
+  Y = togetherOf (model (factsOf (r .part)) (r .enable)) bs (startOf r xs c m)
 
   abbrev now : System → Type 0
   now y = LateNow (G r xs c m b) (sane r xs c m b) (not-refusing (r .place) c u) w y
@@ -256,7 +257,7 @@ module _ (r : Request) (xs : List ℕ) (c : Chip) (m : Mem) (d n : ℕ) (w : r .
             omega (arith, left-all r, ap (leftOf r) (late .first .seen)),
           )
 
-pub turns-refused : TurnsRefused togetherOf turnsOf
+pub turns-refused : TurnsRefused (λ f en. togetherOf (model f en)) (λ f en. turnsOf (model f en))
 turns-refused r xs c m d n w b u some o h =
     subst (λ (y : System). (answerOf y ≡ Refused PollsUsed (allowedOf r) 0) × (y .cycles ≡ 1)) (sym (choices-same (factsOf (r .part)) (r .enable) d n (startOf r xs c m)))
     (used-up r xs c m d n w b u some o h)

@@ -51,6 +51,8 @@ use Rattle.demands.proofs.Cycles.{Cyc}
 use Rattle.line.specs.declared.Recv.the-variants.{Select as SelectByte}
 use Rattle.line.specs.declared.Phase.{Phase as ChipPhase}
 use Rattle.demands.proofs.Stored.{spoken, over-is, all-done, cycles-now, finished}
+use Rattle.parts.specs.Events.{eventOf}
+use Rattle.chip.specs.Model.{ours as model}
 
 -- the last poll allowed for a page is heard, and then acknowledged
 abbrev liveBits : Slot → Request → Counts → Line → Type 0
@@ -193,27 +195,27 @@ module _ (g : Given) (s : Sane g) (free : refusing (T g) (g .pin) (g .locked) �
   abbrev pub LiveNow : System → Type 0
   LiveNow y = Live (y .driver .phase) r (y .driver .counts) (y .chip .line) (y .level)
 
-  asked-live : (y : System) → Holds g y → LiveNow y → (pollOf y ≡ allowedOf (y .driver .request) → Resting (y .chip .line .phase)) → LiveNow (askedOf (F g) (r .enable) y)
+  asked-live : (y : System) → Holds g y → LiveNow y → (pollOf y ≡ allowedOf (y .driver .request) → Resting (y .chip .line .phase)) → LiveNow (askedOf (model (F g) (r .enable)) y)
   asked-live y h t f = go (stepped g s y h)
     where
       fair : pollNext (y .driver .phase) (y .driver .counts .tries) (allowedOf r) (y .level) ≡ allowedOf r → Resting (y .chip .line .phase)
       fair = subst (λ (q : Request). pollNext (y .driver .phase) (y .driver .counts .tries) (allowedOf q) (y .level) ≡ allowedOf q → Resting (y .chip .line .phase)) (h .request) f
 
-      go : Stepped g s y → LiveNow (askedOf (F g) (r .enable) y)
+      go : Stepped g s y → LiveNow (askedOf (model (F g) (r .enable)) y)
       go w = asked-elim g s LiveNow y w (by (w .move .answer) (lives (y .chip) (y .mem) (y .driver .counts) (y .buffer) (y .level) (h .inv) (h .rel) t fair (w .way)))
         where
           by : (a : Answer) → NextLive (y .chip) (y .mem) (y .driver .counts) (y .buffer) (y .level) (w .move) a
-              → LiveNow (answeredBy (F g) (r .enable) y (at r (w .move .phase) (w .move .counts)) (bufferOf (y .driver) (y .level) (y .buffer)) a)
+              → LiveNow (answeredBy (model (F g) (r .enable)) y (at r (w .move .phase) (w .move .counts)) (bufferOf (y .driver) (y .level) (y .buffer)) a)
           by (Send e) n = n
           by (Done q n) k = t
           by (Refused z q n) k = t
 
-  pub live-all : (bs : List Bool) (y : System) → Holds g y → LiveNow y → InTime (F g) (r .enable) bs y → LiveNow (togetherOf (F g) (r .enable) bs y)
-  unfolding togetherOf endedOf
+  pub live-all : (bs : List Bool) (y : System) → Holds g y → LiveNow y → InTime (F g) (r .enable) bs y → LiveNow (togetherOf (model (F g) (r .enable)) bs y)
+  unfolding togetherOf endedOf eventOf
   live-all [] y h t f = t
-  live-all (true ∷ bs) y h t f = live-all bs (askedOf (F g) (r .enable) y) (asked-holds g s y h) (asked-live y h t (f .0)) (f .1)
+  live-all (true ∷ bs) y h t f = live-all bs (askedOf (model (F g) (r .enable)) y) (asked-holds g s y h) (asked-live y h t (f .0)) (f .1)
   live-all (false ∷ bs) y h t f =
-      live-all bs (endedOf (F g) (r .enable) y) (ended-holds g s y h) (live-end (y .chip) (y .mem) (y .driver .counts) (y .buffer) (y .level) (y .driver .phase) t) f
+      live-all bs (endedOf (model (F g) (r .enable)) y) (ended-holds g s y h) (live-end (y .chip) (y .mem) (y .driver .counts) (y .buffer) (y .level) (y .driver .phase) t) f
 
 -- what may be written is not refused
 pub not-refusing : (p : Place) (c : Chip) → Writable p (c .line .core) → refusing (targetOf p) (c .line .core .pin) (c .line .core .locked) ≡ false
@@ -222,7 +224,7 @@ not-refusing (Ident i) c w = ap (λ (b : Bool). b || c .line .core .locked) (w .
 
 module _ (r : Request) (xs : List ℕ) (c : Chip) (m : Mem) (b : Begins r xs c m) (bs : List Bool) where
   abbrev Y : System
-  Y = togetherOf (factsOf (r .part)) (r .enable) bs (startOf r xs c m)
+  Y = togetherOf (model (factsOf (r .part)) (r .enable)) bs (startOf r xs c m)
 
   pub done-cycles : r .reads ≡ false → (q n : ℕ) → answerOf Y ≡ Done q n → Y .cycles ≡ kOf r
   done-cycles w q n e =
@@ -243,10 +245,10 @@ module _ (r : Request) (xs : List ℕ) (c : Chip) (m : Mem) (b : Begins r xs c m
           let t = spoken r xs c m b bs (Refused x q n) z in
           absurd (subst (λ (p : Phase). Live p r (Y .driver .counts) (Y .chip .line) (Y .level)) (t .1) live)
 
-pub writes-end : WritesEnd togetherOf
+pub writes-end : WritesEnd (λ f en. togetherOf (model f en))
 writes-end r xs c m bs w b u f h = write-ends r xs c m b bs w u f h
 
-pub writes-cycles : DoneCycles togetherOf
+pub writes-cycles : DoneCycles (λ f en. togetherOf (model f en))
 writes-cycles r xs c m bs w b q n e = done-cycles r xs c m b bs w q n e
 
 ident-named : (p : Place) → targetOf p ≡ TheIdent → Named p
@@ -260,13 +262,13 @@ ident-named (Array a) e = go e
     go e = absurd (false≢true (ap kind e))
 ident-named (Ident i) e = tt
 
-pub ident-once : IdentOnce togetherOf
+pub ident-once : IdentOnce (λ f en. togetherOf (model f en))
 ident-once r xs c m bs w b t o q n e = done-cycles r xs c m b bs w q n e ∙ ident-one r xs (b .accepted) (ident-named (r .place) t) o
 
-pub writes-taken : WritesTaken togetherOf
+pub writes-taken : WritesTaken (λ f en. togetherOf (model f en))
 writes-taken r xs c m bs w b u q n e = let z = spoken r xs c m b bs (Refused NoData q n) e in go (z .0) (z .1) (z .2)
   where
-    go : (f : Failed) → togetherOf (factsOf (r .part)) (r .enable) bs (startOf r xs c m) .driver .phase ≡ Over f → NoData ≡ refusalOf f → ⊥
+    go : (f : Failed) → togetherOf (model (factsOf (r .part)) (r .enable)) bs (startOf r xs c m) .driver .phase ≡ Over f → NoData ≡ refusalOf f → ⊥
     go AtSelect p k = omega (arith, ap numberOf k)
     go AtData p k = false≢true (sym (not-refusing (r .place) c u) ∙ over-is r xs c m b bs AtData p .0 .shut)
     go AtPolls p k = omega (arith, ap numberOf k)

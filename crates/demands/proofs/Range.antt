@@ -31,6 +31,7 @@ use Rattle.demands.specs.Together.{StaysInRange}
 use Rattle.demands.proofs.Rel.{Given, F}
 use Rattle.demands.proofs.Keep.{Sane}
 use Rattle.demands.proofs.Whole.{Holds, Stepped, stepped, asked-elim, asked-holds, ended-holds, G, sane, start-holds}
+use Rattle.chip.specs.Model.{ours as model}
 
 -- clocks, Starts and Stops
 abbrev Small : Answer → Type 0
@@ -78,26 +79,26 @@ module _ (g : Given) (s : Sane g) where
   abbrev Now : System → Type 0
   Now y = (inRangeOf (F g) (y .chip) ≡ true) × Typed (y .chip)
 
-  asked-range : (y : System) → Holds g y → Now y → Now (askedOf (F g) (g .request .enable) y)
+  asked-range : (y : System) → Holds g y → Now y → Now (askedOf (model (F g) (g .request .enable)) y)
   asked-range y h t = go (stepped g s y h)
     where
-      go : Stepped g s y → Now (askedOf (F g) (g .request .enable) y)
+      go : Stepped g s y → Now (askedOf (model (F g) (g .request .enable)) y)
       go w = asked-elim g s Now y w (by (w .move .answer) (small (g .request) (y .driver .counts) (y .level) (y .buffer) (w .way)))
         where
-          by : (a : Answer) → Small a → Now (answeredBy (F g) (g .request .enable) y (at (g .request) (w .move .phase) (w .move .counts)) (bufferOf (y .driver) (y .level) (y .buffer)) a)
+          by : (a : Answer) → Small a → Now (answeredBy (model (F g) (g .request .enable)) y (at (g .request) (w .move .phase) (w .move .counts)) (bufferOf (y .driver) (y .level) (y .buffer)) a)
           by (Send e) n = range-kept (g .request .part) (g .request .enable) (y .chip) (eventOf e) (takes-small (F g) e n) (t .1) (t .0)
           by (Done q n) k = t
           by (Refused z q n) k = t
 
-  ended-range : (y : System) → Now y → Now (endedOf (F g) (g .request .enable) y)
-  unfolding endedOf
+  ended-range : (y : System) → Now y → Now (endedOf (model (F g) (g .request .enable)) y)
+  unfolding endedOf eventOf
   ended-range y t = range-kept (g .request .part) (g .request .enable) (y .chip) Ends tt (t .1) (t .0)
 
-  range-all : (bs : List Bool) (y : System) → Holds g y → Now y → Now (togetherOf (F g) (g .request .enable) bs y)
+  range-all : (bs : List Bool) (y : System) → Holds g y → Now y → Now (togetherOf (model (F g) (g .request .enable)) bs y)
   unfolding togetherOf
   range-all [] y h t = t
-  range-all (true ∷ bs) y h t = range-all bs (askedOf (F g) (g .request .enable) y) (asked-holds g s y h) (asked-range y h t)
-  range-all (false ∷ bs) y h t = range-all bs (endedOf (F g) (g .request .enable) y) (ended-holds g s y h) (ended-range y t)
+  range-all (true ∷ bs) y h t = range-all bs (askedOf (model (F g) (g .request .enable)) y) (asked-holds g s y h) (asked-range y h t)
+  range-all (false ∷ bs) y h t = range-all bs (endedOf (model (F g) (g .request .enable)) y) (ended-holds g s y h) (ended-range y t)
 
-pub stays-in-range : StaysInRange togetherOf
+pub stays-in-range : StaysInRange (λ f en. togetherOf (model f en))
 stays-in-range r xs c m bs b t e = range-all (G r xs c m b) (sane r xs c m b) bs (startOf r xs c m) (start-holds r xs c m b) (e, t)

@@ -39,6 +39,8 @@ use Rattle.demands.proofs.Keep.{Sane, no-nack, W-write}
 use Rattle.demands.proofs.Whole.{Holds, Stepped, stepped, asked-elim, asked-holds, ended-holds, G, sane, start-holds}
 use Rattle.demands.proofs.Cycles.{Cyc}
 use Rattle.demands.proofs.Stored.{spoken, over-is, all-done, cycles-now, finished}
+use Rattle.parts.specs.Events.{eventOf}
+use Rattle.chip.specs.Model.{ours as model}
 
 abbrev shutSlot : Slot → Type 0
 shutSlot Select = Unit {0}
@@ -118,29 +120,29 @@ module _ (g : Given) (s : Sane g) (shut : refusing (T g) (g .pin) (g .locked) �
   abbrev Now : System → Type 0
   Now y = Blocked (y .driver .phase) (y .driver .counts)
 
-  asked-blocked : (y : System) → Holds g y → Now y → Now (askedOf (F g) (r .enable) y)
+  asked-blocked : (y : System) → Holds g y → Now y → Now (askedOf (model (F g) (r .enable)) y)
   asked-blocked y h t = go (stepped g s y h)
     where
-      go : Stepped g s y → Now (askedOf (F g) (r .enable) y)
+      go : Stepped g s y → Now (askedOf (model (F g) (r .enable)) y)
       go w = asked-elim g s Now y w (by (w .move .answer) (blocks (y .chip) (y .mem) (h .inv) (h .rel) t (w .way)))
         where
           by : (a : Answer) → Blocked (w .move .phase) (w .move .counts)
-              → Now (answeredBy (F g) (r .enable) y (at r (w .move .phase) (w .move .counts)) (bufferOf (y .driver) (y .level) (y .buffer)) a)
+              → Now (answeredBy (model (F g) (r .enable)) y (at r (w .move .phase) (w .move .counts)) (bufferOf (y .driver) (y .level) (y .buffer)) a)
           by (Send e) n = n
           by (Done q n) k = t
           by (Refused z q n) k = t
 
-  pub blocked-all : (bs : List Bool) (y : System) → Holds g y → Now y → Now (togetherOf (F g) (r .enable) bs y)
-  unfolding togetherOf endedOf
+  pub blocked-all : (bs : List Bool) (y : System) → Holds g y → Now y → Now (togetherOf (model (F g) (r .enable)) bs y)
+  unfolding togetherOf endedOf eventOf
   blocked-all [] y h t = t
-  blocked-all (true ∷ bs) y h t = blocked-all bs (askedOf (F g) (r .enable) y) (asked-holds g s y h) (asked-blocked y h t)
-  blocked-all (false ∷ bs) y h t = blocked-all bs (endedOf (F g) (r .enable) y) (ended-holds g s y h) t
+  blocked-all (true ∷ bs) y h t = blocked-all bs (askedOf (model (F g) (r .enable)) y) (asked-holds g s y h) (asked-blocked y h t)
+  blocked-all (false ∷ bs) y h t = blocked-all bs (endedOf (model (F g) (r .enable)) y) (ended-holds g s y h) t
 
-pub shut-refused : ShutRefused togetherOf
+pub shut-refused : ShutRefused (λ f en. togetherOf (model f en))
 shut-refused r xs c m bs w b u some h = go (answerOf Y) refl (finished r xs c m b bs h)
   where
     Y : System
-    Y = togetherOf (factsOf (r .part)) (r .enable) bs (startOf r xs c m)
+    Y = togetherOf (model (factsOf (r .part)) (r .enable)) bs (startOf r xs c m)
 
     t : Blocked (Y .driver .phase) (Y .driver .counts)
     t = blocked-all (G r xs c m b) (sane r xs c m b) (shut-refuses (r .place) c u) w bs (startOf r xs c m) (start-holds r xs c m b) (record { seen = refl; polls = refl; place = tt })

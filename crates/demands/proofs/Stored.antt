@@ -45,6 +45,7 @@ use Rattle.demands.proofs.Rel.{Given, W, Pending, InOver, At, Buffer}
 use Rattle.demands.proofs.Keep.{Sane, W-read, W-write}
 use Rattle.demands.proofs.Whole.{Holds, stepped, G, sane, start-holds, holds, tolds}
 use Rattle.demands.proofs.Cycles.{Cyc, cyc-all, start-cyc}
+use Rattle.chip.specs.Model.{ours as model}
 
 -- ---- what an answer says of the state it came from
 abbrev pub Says : Answer → Request → Phase → Counts → Type 0
@@ -147,7 +148,7 @@ room-is r c m g o = go (r .place) (g .fits)
 
 module _ (r : Request) (xs : List ℕ) (c : Chip) (m : Mem) (b : Begins r xs c m) (bs : List Bool) where
   abbrev Y : System
-  Y = togetherOf (factsOf (r .part)) (r .enable) bs (startOf r xs c m)
+  Y = togetherOf (model (factsOf (r .part)) (r .enable)) bs (startOf r xs c m)
 
   abbrev H : Holds (G r xs c m b) Y
   H = holds r xs c m b bs
@@ -260,11 +261,11 @@ module _ (r : Request) (xs : List ℕ) (c : Chip) (m : Mem) (b : Begins r xs c m
           let k = spoken (Refused x q n) z in
           absurd (reads-on (G r xs c m b) (sane r xs c m b) Y H w (k .0) (k .1))
 
-pub writes-safe : WritesSafe togetherOf
+pub writes-safe : WritesSafe (λ f en. togetherOf (model f en))
 writes-safe r xs c m bs w b = write-safe r xs c m b bs w
 
-pub reads-right : ReadsRight togetherOf
+pub reads-right : ReadsRight (λ f en. togetherOf (model f en))
 reads-right r xs c m bs w b = read-right r xs c m b bs w
 
-pub reads-end : ReadsEnd togetherOf
+pub reads-end : ReadsEnd (λ f en. togetherOf (model f en))
 reads-end r xs c m bs w b h = read-ends r xs c m b bs w h

@@ -54,38 +54,40 @@ use Rattle.demands.proofs.Keep.{Sane, Same, After′, k-poll, k-polled,
 use Rattle.demands.proofs.Whole.{Holds, Stepped, stepped, asked-elim, asked-holds, ended-holds, G, sane, start-holds}
 use Rattle.line.specs.declared.Phase.{Phase as ChipPhase}
 use Rattle.demands.proofs.Live.{write-ends}
+use Rattle.parts.specs.Events.{eventOf}
+use Rattle.chip.specs.Model.{ours as model}
 
 -- ---- a run with d as choices
 module _ (f : Facts) (en d : ℕ) where
   abbrev pub choices : ℕ → System → List Bool
   choices zero y = []
-  choices (suc n) y = cond (dueOf d y) (false ∷ true ∷ choices n (turnOf f en d y)) (true ∷ choices n (turnOf f en d y))
+  choices (suc n) y = cond (dueOf d y) (false ∷ true ∷ choices n (turnOf (model f en) d y)) (true ∷ choices n (turnOf (model f en) d y))
 
-  turn-due : (y : System) → dueOf d y ≡ true → turnOf f en d y ≡ askedOf f en (endedOf f en y)
+  turn-due : (y : System) → dueOf d y ≡ true → turnOf (model f en) d y ≡ askedOf (model f en) (endedOf (model f en) y)
   unfolding turnOf
-  turn-due y e = ap (λ (t : Bool). askedOf f en (cond t (endedOf f en y) y)) e
+  turn-due y e = ap (λ (t : Bool). askedOf (model f en) (cond t (endedOf (model f en) y) y)) e
 
-  pub turn-plain : (y : System) → dueOf d y ≡ false → turnOf f en d y ≡ askedOf f en y
+  pub turn-plain : (y : System) → dueOf d y ≡ false → turnOf (model f en) d y ≡ askedOf (model f en) y
   unfolding turnOf
-  turn-plain y e = ap (λ (t : Bool). askedOf f en (cond t (endedOf f en y) y)) e
+  turn-plain y e = ap (λ (t : Bool). askedOf (model f en) (cond t (endedOf (model f en) y) y)) e
 
   pub choices-asked : (n : ℕ) (y : System) → askings (choices n y) ≡ n
   choices-asked zero y = refl
   choices-asked (suc n) y =
-      let k = choices-asked n (turnOf f en d y) in
+      let k = choices-asked n (turnOf (model f en) d y) in
       branch (λ (bs : List Bool). askings bs ≡ suc n) (dueOf d y) (λ e. omega arith) (λ e. omega arith)
 
-  pub choices-same : (n : ℕ) (y : System) → turnsOf f en d n y ≡ togetherOf f en (choices n y) y
+  pub choices-same : (n : ℕ) (y : System) → turnsOf (model f en) d n y ≡ togetherOf (model f en) (choices n y) y
   unfolding turnsOf togetherOf
   choices-same zero y = refl
   choices-same (suc n) y =
-      let k = choices-same n (turnOf f en d y) in
-      let bs = choices n (turnOf f en d y) in
-      branch (λ (cs : List Bool). turnsOf f en d n (turnOf f en d y) ≡ togetherOf f en cs y) (dueOf d y)
-      (λ e. k ∙ ap (λ (z : System). togetherOf f en bs z) (turn-due y e))
-      (λ e. k ∙ ap (λ (z : System). togetherOf f en bs z) (turn-plain y e))
+      let k = choices-same n (turnOf (model f en) d y) in
+      let bs = choices n (turnOf (model f en) d y) in
+      branch (λ (cs : List Bool). turnsOf (model f en) d n (turnOf (model f en) d y) ≡ togetherOf (model f en) cs y) (dueOf d y)
+      (λ e. k ∙ ap (λ (z : System). togetherOf (model f en) bs z) (turn-due y e))
+      (λ e. k ∙ ap (λ (z : System). togetherOf (model f en) bs z) (turn-plain y e))
 
-pub turns-chosen : TurnsChosen togetherOf turnsOf
+pub turns-chosen : TurnsChosen (λ f en. togetherOf (model f en)) (λ f en. turnsOf (model f en))
 turns-chosen r xs c m d n =
     record {
       choices = choices (factsOf (r .part)) (r .enable) d n (startOf r xs c m);
@@ -247,17 +249,17 @@ module _ (g : Given) (s : Sane g) where
     abbrev EarlyNow : System → Type 0
     EarlyNow y = Early d (y .driver .phase) (y .driver .counts) (y .chip .line)
 
-    asked-early : (y : System) → Holds g y → EarlyNow y → (pollOf y ≡ d → Resting (y .chip .line .phase)) → EarlyNow (askedOf (F g) (r .enable) y)
+    asked-early : (y : System) → Holds g y → EarlyNow y → (pollOf y ≡ d → Resting (y .chip .line .phase)) → EarlyNow (askedOf (model (F g) (r .enable)) y)
     asked-early y h t f = go (stepped g s y h)
       where
         fair : pollNext (y .driver .phase) (y .driver .counts .tries) (allowedOf r) (y .level) ≡ d → Resting (y .chip .line .phase)
         fair = subst (λ (q : Request). pollNext (y .driver .phase) (y .driver .counts .tries) (allowedOf q) (y .level) ≡ d → Resting (y .chip .line .phase)) (h .request) f
 
-        go : Stepped g s y → EarlyNow (askedOf (F g) (r .enable) y)
+        go : Stepped g s y → EarlyNow (askedOf (model (F g) (r .enable)) y)
         go w = asked-elim g s EarlyNow y w (by (w .move .answer) (early (y .chip) (y .mem) (y .driver .counts) (y .buffer) (y .level) d pos (h .inv) (h .rel) t fair (w .way)))
           where
             by : (a : Answer) → NextEarly (y .chip) (y .mem) (y .driver .counts) (y .buffer) (y .level) d pos (w .move) a
-                → EarlyNow (answeredBy (F g) (r .enable) y (at r (w .move .phase) (w .move .counts)) (bufferOf (y .driver) (y .level) (y .buffer)) a)
+                → EarlyNow (answeredBy (model (F g) (r .enable)) y (at r (w .move .phase) (w .move .counts)) (bufferOf (y .driver) (y .level) (y .buffer)) a)
             by (Send e) n = n
             by (Done q n) k = t
             by (Refused z q n) k = t
@@ -277,8 +279,8 @@ module _ (g : Given) (s : Sane g) where
         go Rest t e o = t (omega arith)
         go (Over f) t e o = absurd (omega arith)
 
-    end-rests : (y : System) → Resting (endedOf (F g) (r .enable) y .chip .line .phase)
-    unfolding endedOf
+    end-rests : (y : System) → Resting (endedOf (model (F g) (r .enable)) y .chip .line .phase)
+    unfolding endedOf eventOf
     end-rests y = ended-rests (F g) (r .enable) (y .chip) (y .mem)
 
     not-due : (y : System) → dueOf d y ≡ false → pollOf y ≡ d → ⊥
@@ -300,18 +302,18 @@ module _ (g : Given) (s : Sane g) where
             last-rests (y .driver .phase) (y .driver .counts) (y .chip .line) (y .level) (allowedOf (y .driver .request)) (subst (λ (q : Request). d ≤ allowedOf q) (sym (h .request)) w) (λ z. absurd (not-due y e (k ∙ z))) t k
 
         go : (b : Bool) → dueOf d y ≡ b → ((u : System) → Holds g u → EarlyNow u → InTime f en (choices f en d n u) u)
-            → InTime f en (cond b (false ∷ true ∷ choices f en d n (turnOf f en d y)) (true ∷ choices f en d n (turnOf f en d y))) y
+            → InTime f en (cond b (false ∷ true ∷ choices f en d n (turnOf (model f en) d y)) (true ∷ choices f en d n (turnOf (model f en) d y))) y
         go true e k =
-            let z = endedOf f en y in
+            let z = endedOf (model f en) y in
             let hz = ended-holds g s y h in
             let q = end-rests y in
-            let u = k (askedOf f en z) (asked-holds g s z hz) (asked-early z hz (early-rests d (z .driver .phase) (z .driver .counts) (z .chip .line) q) (λ _. q)) in
-            (λ _. q, subst (λ (v : System). InTime f en (choices f en d n v) (askedOf f en z)) (sym (turn-due f en d y e)) u)
+            let u = k (askedOf (model f en) z) (asked-holds g s z hz) (asked-early z hz (early-rests d (z .driver .phase) (z .driver .counts) (z .chip .line) q) (λ _. q)) in
+            (λ _. q, subst (λ (v : System). InTime f en (choices f en d n v) (askedOf (model f en) z)) (sym (turn-due f en d y e)) u)
         go false e k =
-            let u = k (askedOf f en y) (asked-holds g s y h) (asked-early y h t (λ z. absurd (not-due y e z))) in
-            (plain e, subst (λ (v : System). InTime f en (choices f en d n v) (askedOf f en y)) (sym (turn-plain f en d y e)) u)
+            let u = k (askedOf (model f en) y) (asked-holds g s y h) (asked-early y h t (λ z. absurd (not-due y e z))) in
+            (plain e, subst (λ (v : System). InTime f en (choices f en d n v) (askedOf (model f en) y)) (sym (turn-plain f en d y e)) u)
 
-pub turns-end : TurnsEnd togetherOf turnsOf
+pub turns-end : TurnsEnd (λ f en. togetherOf (model f en)) (λ f en. turnsOf (model f en))
 turns-end r xs c m d n w b u lo hi h =
     let f = factsOf (r .part) in
     let y = startOf r xs c m in

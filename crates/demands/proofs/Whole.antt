@@ -32,6 +32,8 @@ use Rattle.demands.specs.Together.{Begins, answerOf, askings}
 use Rattle.demands.proofs.Wrote.{with-same}
 use Rattle.demands.proofs.Rel.{Given, F, Buffer, Rel}
 use Rattle.demands.proofs.Keep.{Sane, Next, keeps, end-keeps}
+use Rattle.parts.specs.Events.{eventOf}
+use Rattle.chip.specs.Model.{ours as model}
 
 -- where a run starts
 abbrev pub givenOf : Request → List ℕ → Chip → Mem → Given
@@ -62,7 +64,7 @@ module _ (g : Given) (s : Sane g) where
   r = g .request
 
   abbrev ask : System → System
-  ask y = askedOf (F g) (r .enable) y
+  ask y = askedOf (model (F g) (r .enable)) y
 
   -- the step of the driver in the system
   pub record Stepped (y : System) : Type 0 where
@@ -83,10 +85,10 @@ module _ (g : Given) (s : Sane g) where
 
   -- whatever is to hold after an asking, by the move that was made
   pub asked-elim : (Q : System → Type 0) (y : System) (t : Stepped y)
-      → Q (answeredBy (F g) (r .enable) y (at r (t .move .phase) (t .move .counts)) (bufferOf (y .driver) (y .level) (y .buffer)) (t .move .answer)) → Q (ask y)
+      → Q (answeredBy (model (F g) (r .enable)) y (at r (t .move .phase) (t .move .counts)) (bufferOf (y .driver) (y .level) (y .buffer)) (t .move .answer)) → Q (ask y)
   unfolding askedOf
   asked-elim Q y t q =
-      subst (λ (a : Asked). Q (answeredBy (F g) (r .enable) y (a .driver) (bufferOf (y .driver) (y .level) (y .buffer)) (a .answer))) (sym (t .asked)) q
+      subst (λ (a : Asked). Q (answeredBy (model (F g) (r .enable)) y (a .driver) (bufferOf (y .driver) (y .level) (y .buffer)) (a .answer))) (sym (t .asked)) q
 
   pub asked-holds : (y : System) → Holds g y → Holds g (ask y)
   asked-holds y h = go (stepped y h)
@@ -100,13 +102,13 @@ module _ (g : Given) (s : Sane g) where
           zs = bufferOf (y .driver) (y .level) (y .buffer)
 
           by : (a : Answer) → Inv r (t .move .phase) (t .move .counts) → Next g s (y .chip) (y .mem) (y .driver .counts) (y .buffer) (y .level) (t .move) zs a
-              → Holds g (answeredBy (F g) (r .enable) y (at r (t .move .phase) (t .move .counts)) zs a)
+              → Holds g (answeredBy (model (F g) (r .enable)) y (at r (t .move .phase) (t .move .counts)) zs a)
           by (Send e) i n = record { request = refl; inv = i; size = buffer-length (y .driver) (y .level) (y .buffer) ∙ h .size; rel = n }
           by (Done q k) i n = h
           by (Refused f q k) i n = h
 
-  pub ended-holds : (y : System) → Holds g y → Holds g (endedOf (F g) (r .enable) y)
-  unfolding endedOf
+  pub ended-holds : (y : System) → Holds g y → Holds g (endedOf (model (F g) (r .enable)) y)
+  unfolding endedOf eventOf
   ended-holds y h =
       record {
         request = h .request;
@@ -115,11 +117,11 @@ module _ (g : Given) (s : Sane g) where
         rel = end-keeps g s (y .chip) (y .mem) (y .driver .phase) (y .driver .counts) (y .buffer) (y .level) (h .inv) (h .rel);
       }
 
-  pub holds-all : (bs : List Bool) (y : System) → Holds g y → Holds g (togetherOf (F g) (r .enable) bs y)
+  pub holds-all : (bs : List Bool) (y : System) → Holds g y → Holds g (togetherOf (model (F g) (r .enable)) bs y)
   unfolding togetherOf
   holds-all [] y h = h
   holds-all (true ∷ bs) y h = holds-all bs (ask y) (asked-holds y h)
-  holds-all (false ∷ bs) y h = holds-all bs (endedOf (F g) (r .enable) y) (ended-holds y h)
+  holds-all (false ∷ bs) y h = holds-all bs (endedOf (model (F g) (r .enable)) y) (ended-holds y h)
 
   -- ---- the tie
   pub asked-told : (xs : List ℕ) → Accepted r xs → (n : ℕ) (y : System) → Told r xs n y → Told r xs (n + 1) (ask y)
@@ -140,18 +142,18 @@ module _ (g : Given) (s : Sane g) where
           let e = promises .one-each r xs a (t .levels) (y .level) .again (subst (λ (h : Held). Finished (Rattle.driver_laws.specs.Run.answerOf ours h (y .level))) (t .run) f) .0 in
           t .run ∙ (sym e ∙ sym (after-more (begun r xs) (t .levels) (y .level)))
 
-      by : (k : Answer) → nextOf (y .driver) (y .level) (y .buffer) .answer ≡ k → Told r xs (n + 1) (answeredBy (F g) (r .enable) y (nextOf (y .driver) (y .level) (y .buffer) .driver) (bufferOf (y .driver) (y .level) (y .buffer)) k)
+      by : (k : Answer) → nextOf (y .driver) (y .level) (y .buffer) .answer ≡ k → Told r xs (n + 1) (answeredBy (model (F g) (r .enable)) y (nextOf (y .driver) (y .level) (y .buffer) .driver) (bufferOf (y .driver) (y .level) (y .buffer)) k)
       by (Send e) z = record { levels = ls; count = long; run = goes }
       by (Done q k) z = record { levels = ls; count = long; run = stays (subst Finished (sym z) tt) }
       by (Refused f q k) z = record { levels = ls; count = long; run = stays (subst Finished (sym z) tt) }
 
-  pub told-all : (xs : List ℕ) → Accepted r xs → (bs : List Bool) (n : ℕ) (y : System) → Told r xs n y → Told r xs (n + askings bs) (togetherOf (F g) (r .enable) bs y)
-  unfolding togetherOf endedOf
+  pub told-all : (xs : List ℕ) → Accepted r xs → (bs : List Bool) (n : ℕ) (y : System) → Told r xs n y → Told r xs (n + askings bs) (togetherOf (model (F g) (r .enable)) bs y)
+  unfolding togetherOf endedOf eventOf
   told-all xs a [] n y t = subst (λ (k : ℕ). Told r xs k y) (omega arith) t
   told-all xs a (true ∷ bs) n y t =
       let e : n + 1 + askings bs ≡ n + (askings bs + 1) = omega arith in
-      subst (λ (k : ℕ). Told r xs k (togetherOf (F g) (r .enable) bs (ask y))) e (told-all xs a bs (n + 1) (ask y) (asked-told xs a n y t))
-  told-all xs a (false ∷ bs) n y t = told-all xs a bs n (endedOf (F g) (r .enable) y) (record { levels = t .levels; count = t .count; run = t .run })
+      subst (λ (k : ℕ). Told r xs k (togetherOf (model (F g) (r .enable)) bs (ask y))) e (told-all xs a bs (n + 1) (ask y) (asked-told xs a n y t))
+  told-all xs a (false ∷ bs) n y t = told-all xs a bs n (endedOf (model (F g) (r .enable)) y) (record { levels = t .levels; count = t .count; run = t .run })
 
 -- ---- from the start
 module _ (r : Request) (xs : List ℕ) (c : Chip) (m : Mem) (b : Begins r xs c m) where
@@ -186,8 +188,8 @@ module _ (r : Request) (xs : List ℕ) (c : Chip) (m : Mem) (b : Begins r xs c m
   pub start-told : Told r xs 0 (startOf r xs c m)
   start-told = record { levels = []; count = refl; run = refl }
 
-  pub holds : (bs : List Bool) → Holds G (togetherOf (factsOf (r .part)) (r .enable) bs (startOf r xs c m))
+  pub holds : (bs : List Bool) → Holds G (togetherOf (model (factsOf (r .part)) (r .enable)) bs (startOf r xs c m))
   holds bs = holds-all G sane bs (startOf r xs c m) start-holds
 
-  pub tolds : (bs : List Bool) → Told r xs (0 + askings bs) (togetherOf (factsOf (r .part)) (r .enable) bs (startOf r xs c m))
+  pub tolds : (bs : List Bool) → Told r xs (0 + askings bs) (togetherOf (model (factsOf (r .part)) (r .enable)) bs (startOf r xs c m))
   tolds bs = told-all G sane xs (b .accepted) bs 0 (startOf r xs c m) start-told

@@ -28,6 +28,7 @@ use Rattle.bench.specs.Together.{System, startOf, askedOf, endedOf, pollNext, e
 use Rattle.demands.specs.Ground.{targetOf}
 use Rattle.line.specs.declared.Target.the-variants.{Ident as TheIdent}
 use Rattle.demands.specs.Together.{Runs, Begins, answerOf, askings, from}
+use Rattle.chip.specs.Model.{ours as model}
 
 -- "its pin not high"; and a locked identification page cannot be written
 abbrev pub Writable : Place → Core → Type 0
@@ -49,8 +50,8 @@ pollOf s = pollNext (s .driver .phase) (s .driver .counts .tries) (allowedOf (s 
 -- budget allows for a page, no cycle runs
 abbrev pub InTime : Facts → ℕ → List Bool → System → Type 0
 InTime f enable [] s = Unit {0}
-InTime f enable (true ∷ bs) s = (pollOf s ≡ allowedOf (s .driver .request) → Resting (s .chip .line .phase)) × InTime f enable bs (askedOf f enable s)
-InTime f enable (false ∷ bs) s = InTime f enable bs (endedOf f enable s)
+InTime f enable (true ∷ bs) s = (pollOf s ≡ allowedOf (s .driver .request) → Resting (s .chip .line .phase)) × InTime f enable bs (askedOf (model f enable) s)
+InTime f enable (false ∷ bs) s = InTime f enable bs (endedOf (model f enable) s)
 
 -- "ends done and not refused, reports all n bytes and begins exactly one cycle for each page it meets"
 pub record Complete (r : Request) (s : System) : Type 0 where

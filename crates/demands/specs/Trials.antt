@@ -17,6 +17,7 @@ use Rattle.driver.specs.Split.{partsOf}
 use Rattle.bench.specs.Together.{System, startOf, turnsOf}
 use Rattle.laws.specs.Trials.{Trial, firstWrong, chipTrials}
 use Rattle.demands.specs.Together.{answerOf}
+use Rattle.chip.specs.Model.{ours as model}
 
 -- 11. "Part 2, 5 bytes at 30: 30..31, 32..34; with d = 1, 117 clocks"
 abbrev pub fiveBytes : List ℕ
@@ -27,7 +28,7 @@ fiveAt30 = record { part = 2; enable = 0; place = Array (record { 0 = 30 }); rea
 
 -- 117 clocks, eight Starts and Stops; a driver that has finished stays so
 unfoldable pub ranAt30 : System
-ranAt30 = turnsOf (factsOf 2) 0 1 130 (startOf fiveAt30 fiveBytes (standbyOf (factsOf 2) false) (deliveredOf 2))
+ranAt30 = turnsOf (model (factsOf 2) 0) 1 130 (startOf fiveAt30 fiveBytes (standbyOf (factsOf 2) false) (deliveredOf 2))
 
 unfoldable pub doneWith : Answer → ℕ → ℕ → Bool
 doneWith (Send e) polls bytes = false

@@ -9,16 +9,19 @@ use lib.Dec.{eqb, leb, ltb, eqb·suc-zero}
 use native.Mathlib.Omega.{arith}
 use native.Mathlib.Nat.{mod-le, div-le-self, mul-le-mul}
 use borrow.Author.Tests.{ltb-true, ltb-false, leb-true, leb-false, eqb-true, eq-eqb, le-leb}
+use Rattle.parts.specs.declared.Refusal.the-variants.{NoPart, WrongEnable, Beyond, BadLimit}
 use Rattle.parts.specs.declared.Verdict.{Verdict}
+use Rattle.parts.specs.declared.Verdict.the-variants.{Fine, Refused}
 use Rattle.parts.specs.Table.{factsOf, idSizeOf, enableRightOf}
-use Rattle.parts.specs.Refusals.{givenOf, isFine}
+use Rattle.parts.specs.Refusals.{isFine, claimOf}
 use Rattle.parts.proofs.Laws.{sound, branch}
+use Rattle.parts.proofs.Claims.{claim-fine, right-fine, sooner-fine}
 use Rattle.driver.specs.Split.{firstOf, pagesMetOf}
 use Rattle.driver.specs.declared.Place.{Place}
 use Rattle.driver.specs.declared.Place.the-variants.{Array, Ident}
 use Rattle.driver.specs.declared.Request.{Request}
 use Rattle.driver.specs.declared.Driver.{Driver}
-use Rattle.driver.specs.Request.{fromOf, roomOf, thereOf, beyondAt, limitOf, faultsOf, judgeOf, allowedOf, kOf, GoodRequest}
+use Rattle.driver.specs.Request.{fromOf, roomOf, thereOf, beyondAt, limitOf, judgeOf, allowedOf, kOf, GoodRequest}
 use Rattle.driver.specs.Step.{nameOf, selectAt, hereOf, wireOf, phaseRight, countsRight, clocksOf, rangeOf, GoodCounts, shiftOf, wholeOf, keptOf, bufferOf}
 
 pub room-most : (n : ℕ) (p : Place) → roomOf (factsOf n) p ≤ 32768
@@ -74,15 +77,6 @@ both-yes : (a : Bool) {b : Bool} → (a && b) ≡ true → (a ≡ true) × (b �
 both-yes true e = (refl, e)
 both-yes false e = absurd (false≢true e)
 
--- a test that refuses did not apply
-not-refused : (b : Bool) (r v : Verdict) → isFine r ≡ false → isFine (cond b r v) ≡ true → (b ≡ false) × (isFine v ≡ true)
-not-refused true r v f e = absurd (false≢true (sym f ∙ e))
-not-refused false r v f e = (refl, e)
-
-not-no : (b : Bool) → not b ≡ false → b ≡ true
-not-no true e = refl
-not-no false e = absurd (false≢true (sym e))
-
 within : (from length room : ℕ) (there : Bool) → beyondAt from length room there ≡ false → (there ≡ true) × (from + length ≤ room)
 unfolding beyondAt
 within from length room true e = (refl, ltb-false _ _ e)
@@ -98,16 +92,21 @@ unfolding limitOf
 budget-most true b e = omega arith
 budget-most false b e = branch (λ (t : Bool). t ≡ false → b ≤ 1000) (ltb b 1) (λ t z. absurd (false≢true (sym z))) (λ t z. ltb-false 1000 b z) e
 
+fine-is : (v : Verdict) → isFine v ≡ true → v ≡ Fine
+fine-is Fine e = refl
+fine-is (Refused r) e = absurd (false≢true e)
+
 pub good-request : (r : Request) → isFine (judgeOf r) ≡ true → GoodRequest r
-unfolding judgeOf givenOf faultsOf enableRightOf allowedOf
-good-request r e0 =
-    let (t1, e1) = not-refused (not (factsOf (r .part) .known)) _ _ refl e0 in
-    let (t2, e2) = not-refused (not (ltb (r .enable) (factsOf (r .part) .enables))) _ _ refl e1 in
-    let (t3, e3) = not-refused (beyondAt (fromOf (r .place)) (r .length) (roomOf (factsOf (r .part)) (r .place)) (thereOf (factsOf (r .part)) (r .place))) _ _ refl e2 in
-    let (t4, e4) = not-refused (limitOf (r .reads) (r .budget)) _ _ refl e3 in
+unfolding judgeOf enableRightOf allowedOf
+good-request r e =
+    let (e1, f1) = sooner-fine (claimOf (not (factsOf (r .part) .known)) NoPart) _ (fine-is _ e) in
+    let (e2, f2) = sooner-fine (claimOf (not (ltb (r .enable) (factsOf (r .part) .enables))) WrongEnable) _ f1 in
+    let (e3, e4) = sooner-fine (claimOf (beyondAt (fromOf (r .place)) (r .length) (roomOf (factsOf (r .part)) (r .place)) (thereOf (factsOf (r .part)) (r .place))) Beyond) _ f2 in
+    let t3 = claim-fine _ Beyond e3 in
+    let t4 = claim-fine (limitOf (r .reads) (r .budget)) BadLimit e4 in
     record {
-      known = not-no _ t1;
-      enable = ltb-true _ _ (not-no _ t2);
+      known = right-fine _ NoPart e1;
+      enable = ltb-true _ _ (right-fine _ WrongEnable e2);
       there = within _ _ _ _ t3 .0;
       fits = within _ _ _ _ t3 .1;
       low = budget-low (r .reads) (r .budget) t4;

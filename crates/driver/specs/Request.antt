@@ -5,10 +5,10 @@ use mathlib.Core.Path.{_≡_}
 use mathlib.Core.Bool.{Bool, true, false, cond, not}
 use lib.Dec.{ltb}
 use Rattle.parts.specs.declared.Facts.{Facts}
-use Rattle.parts.specs.declared.Faults.{Faults}
+use Rattle.parts.specs.declared.Refusal.the-variants.{NoPart, WrongEnable, Beyond, BadLimit}
 use Rattle.parts.specs.declared.Verdict.{Verdict}
 use Rattle.parts.specs.Table.{factsOf, idSizeOf, enableRightOf}
-use Rattle.parts.specs.Refusals.{givenOf}
+use Rattle.parts.specs.Refusals.{claimOf, soonerOf}
 use Rattle.driver.specs.Split.{pagesMetOf}
 use Rattle.driver.specs.declared.Place.{Place}
 use Rattle.driver.specs.declared.Place.the-variants.{Array, Ident}
@@ -37,26 +37,13 @@ beyondAt from length room there = cond there (ltb room (from + length)) true
 unfoldable pub limitOf : Bool → ℕ → Bool
 limitOf reads budget = cond reads false (cond (ltb budget 1) true (ltb 1000 budget))
 
--- the refusals that a request can meet
-unfoldable pub faultsOf : Request → Faults
-faultsOf r =
-    record {
-      part = not (factsOf (r .part) .known);
-      enable = not (enableRightOf (factsOf (r .part)) (r .enable));
-      buffer = false;
-      state = false;
-      many = false;
-      event = false;
-      place = 0;
-      short = false;
-      beyond = beyondAt (fromOf (r .place)) (r .length) (roomOf (factsOf (r .part)) (r .place)) (thereOf (factsOf (r .part)) (r .place));
-      limit = limitOf (r .reads) (r .budget);
-      image = false;
-    }
-
--- the lowest that applies
+-- the refusals that a request can meet: 1, 2, 7, 8
 unfoldable pub judgeOf : Request → Verdict
-judgeOf r = givenOf (faultsOf r)
+judgeOf r =
+    soonerOf (claimOf (not (factsOf (r .part) .known)) NoPart)
+    (soonerOf (claimOf (not (enableRightOf (factsOf (r .part)) (r .enable))) WrongEnable)
+    (soonerOf (claimOf (beyondAt (fromOf (r .place)) (r .length) (roomOf (factsOf (r .part)) (r .place)) (thereOf (factsOf (r .part)) (r .place))) Beyond)
+    (claimOf (limitOf (r .reads) (r .budget)) BadLimit)))
 
 -- the polls allowed for a page: a read sends none
 unfoldable pub allowedOf : Request → ℕ

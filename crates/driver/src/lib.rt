@@ -10,7 +10,6 @@ ghost use Rattle.driver.specs.Request.{
   thereOf,
   beyondAt,
   limitOf,
-  faultsOf,
   judgeOf,
   allowedOf,
   kOf,
@@ -20,7 +19,6 @@ ghost use Rattle.parts.specs.Refusals.{isFine};
 ghost use Rattle.driver.specs.Step.{nameOf, selectAt, wireOf, byteOf, bitOf, ninthOf, shiftOf, takenOf, sentOf, readyOf, bitsAt, followOf, leadAt, lowAt, dataAt, pollOf, answeredOf, takeAt, endOf, heardAt, heardOf, bitsOf, refusalOf, moveAt, stepOf, clocksOf, slotRight, phaseRight, countsRight, rangeOf, GoodCounts, nextOf, slotWhole, wholeOf, keptOf, bufferOf, begunOf, unfitOf};
 use parts::ArrayAddress;
 use parts::Facts;
-use parts::Faults;
 use parts::IdLocation;
 use parts::Refusal;
 use parts::Verdict;
@@ -214,34 +212,21 @@ fn limit(reads: bool, budget: usize) -> bool
     1000 < budget
 }
 
-fn faults(request: Request) -> Faults
-    ensures { λ r. ⌜ r ≡ faultsOf request ⌝ }
-{
-    let place = request.place;
-    let f = parts::facts_of(request.part);
-    let right = parts::enable_right(f, request.enable);
-    let b = beyond(from(place), request.length, room(f, place), there(f, place));
-    let l = limit(request.reads, request.budget);
-    Faults {
-        part: !f.known,
-        enable: !right,
-        buffer: false,
-        state: false,
-        many: false,
-        event: false,
-        place: 0,
-        short: false,
-        beyond: b,
-        limit: l,
-        image: false,
-    }
-}
-
-// What refuses a request.
+// What refuses a request: 1, 2, 7 or 8.
 pub fn judge(request: Request) -> Verdict
     ensures { λ r. ⌜ r ≡ judgeOf request ⌝ }
 {
-    parts::given(faults(request))
+    let place = request.place;
+    let f = parts::facts_of(request.part);
+    let known = f.known;
+    let right = parts::enable_right(f, request.enable);
+    let b = beyond(from(place), request.length, room(f, place), there(f, place));
+    let l = limit(request.reads, request.budget);
+    let part = parts::claim(!known, Refusal::NoPart);
+    let enable = parts::claim(!right, Refusal::WrongEnable);
+    let far = parts::claim(b, Refusal::Beyond);
+    let polls = parts::claim(l, Refusal::BadLimit);
+    parts::sooner(part, parts::sooner(enable, parts::sooner(far, polls)))
 }
 
 // A driver for a request. Where the request is refused, its driver answers refusal 4 at each step.

@@ -7,12 +7,12 @@ use mathlib.Core.List.{[], _∷_}
 use lib.ListN.{replicate}
 use native.Mathlib.Omega.{arith}
 use Rattle.parts.specs.declared.Refusal.{Refusal}
-use Rattle.parts.specs.Refusals.{givenOf}
+use Rattle.parts.specs.Refusals.{soonerOf}
 use Rattle.parts.specs.Table.{factsOf, enableRightOf, addressBytesOf}
 use Rattle.driver.specs.declared.Place.the-variants.{Array}
 use Rattle.driver.specs.declared.Request.{Request}
 use Rattle.driver.specs.Split.{pagesMetOf}
-use Rattle.driver.specs.Request.{beyondAt, limitOf, faultsOf, judgeOf, allowedOf, kOf}
+use Rattle.driver.specs.Request.{beyondAt, limitOf, judgeOf, allowedOf, kOf}
 use Rattle.driver.specs.Step.{readyOf, stepOf, countsRight, rangeOf, nextOf}
 use Rattle.driver_laws.specs.Promises.{Accepted, Promises}
 use Rattle.driver_laws.specs.Idle.{refusing, atOnce, endless, inventing, IdleDriversBreak}
@@ -22,11 +22,11 @@ abbrev reading : ℕ → Request
 reading n = record { part = 0; enable = 0; place = Array (record { 0 = 0 }); reads = true; length = n; budget = 0 }
 
 none : Accepted (reading 0) []
-unfolding judgeOf givenOf faultsOf factsOf enableRightOf beyondAt limitOf
+unfolding judgeOf soonerOf factsOf enableRightOf beyondAt limitOf
 none = record { fine = refl; size = refl }
 
 one : Accepted (reading 1) (90 ∷ [])
-unfolding judgeOf givenOf faultsOf factsOf enableRightOf beyondAt limitOf
+unfolding judgeOf soonerOf factsOf enableRightOf beyondAt limitOf
 one = record { fine = refl; size = refl }
 
 -- no level was told, so none can have been the refused byte's
@@ -41,7 +41,7 @@ unfolding addressBytesOf factsOf
 endless-breaks p = p .one-each (reading 0) [] none (replicate 31 0) 0 .bound (omega arith)
 
 inventing-breaks : Promises inventing → ⊥
-unfolding nextOf rangeOf judgeOf givenOf faultsOf factsOf enableRightOf beyondAt limitOf countsRight allowedOf kOf pagesMetOf stepOf readyOf
+unfolding nextOf rangeOf judgeOf soonerOf factsOf enableRightOf beyondAt limitOf countsRight allowedOf kOf pagesMetOf stepOf readyOf
 inventing-breaks p = let e = p .polls-sent (reading 0) [] none [] 0 .done 1 0 refl in omega arith
 
 pub idle-drivers-break : IdleDriversBreak

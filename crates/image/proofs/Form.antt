@@ -13,9 +13,10 @@ use Rattle.parts.specs.declared.Facts.{Facts}
 use Rattle.parts.specs.declared.Verdict.the-variants.{Fine}
 use Rattle.parts.specs.Table.{factsOf, enableRightOf}
 use Rattle.parts.specs.Sound.{Sound}
-use Rattle.parts.specs.Refusals.{givenOf}
+use Rattle.parts.specs.Refusals.{soonerOf}
 use Rattle.parts.proofs.Tests.{both}
 use Rattle.parts.proofs.Laws.{buffers-right}
+use Rattle.parts.proofs.Claims.{fine-lent}
 use Rattle.parts.specs.Bytes.{flagOf}
 use Rattle.parts.proofs.Bytes.{flag-back}
 use Rattle.line.specs.declared.Pin.the-variants.{Absent, Floating}
@@ -74,10 +75,10 @@ module _ (part : ℕ) (lock : Bool) (m : Mem) (known : factsOf part .known ≡ t
 
   pub accepted : (enable : ℕ) (old : Mem) → enableRightOf (factsOf part) enable ≡ true → Fits part old
       → loadVerdictOf (imageOf part lock m) enable (length (old .cells)) (length (old .ident)) ≡ Fine
-  unfolding loadVerdictOf judgedOf givenOf imageLengthOf
+  unfolding loadVerdictOf judgedOf soonerOf imageLengthOf
   accepted enable old e o =
       let long : 6 ≤ length (imageOf part lock m) = omega (arith, length-of-image part lock m t) in
-      rw (le-ltb (length (imageOf part lock m)) 6 long, part-of-image part lock m, e, buffers-right (factsOf part) (length (old .cells)) (length (old .ident)) (o .cells) (o .ident), formed, known) refl
+      rw (le-ltb (length (imageOf part lock m)) 6 long, part-of-image part lock m, fine-lent (factsOf part) (length (old .cells)) (length (old .ident)) known (buffers-right (factsOf part) (length (old .cells)) (length (old .ident)) (o .cells) (o .ident)), e, formed) refl
 
 -- ---- a list of bytes that is accepted is one
 
@@ -181,6 +182,6 @@ range-lockable f c h e =
 
 module _ (part : ℕ) (c : Chip) (m : Mem) (known : factsOf part .known ≡ true) (r : inRangeOf (factsOf part) c ≡ true) (t : Fits part m) where
   pub saves : (room : ℕ) → imageLengthOf (factsOf part) ≤ room → saveVerdictOf part c (length (m .cells)) (length (m .ident)) room ≡ Fine
-  unfolding saveVerdictOf givenOf
+  unfolding saveVerdictOf soonerOf
   saves room h =
-      rw (buffers-right (factsOf part) (length (m .cells)) (length (m .ident)) (t .cells) (t .ident), r, le-ltb room (imageLengthOf (factsOf part)) h, known) refl
+      rw (fine-lent (factsOf part) (length (m .cells)) (length (m .ident)) known (buffers-right (factsOf part) (length (m .cells)) (length (m .ident)) (t .cells) (t .ident)), r, le-ltb room (imageLengthOf (factsOf part)) h) refl

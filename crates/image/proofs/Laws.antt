@@ -2,7 +2,7 @@
 -- Assumes nothing.
 use Prim.Native.Nat.{ℕ, _+_, _-_, _≤_, _<_}
 use mathlib.Core.Path.{_≡_, _∙_, refl}
-use mathlib.Core.Bool.{Bool, true, false, cond}
+use mathlib.Core.Bool.{Bool, true, false, not, cond}
 use mathlib.Core.List.{List, _++_, append-nil}
 use native.Mathlib.Numerals.{add-one}
 use native.Mathlib.Nat.{zero-add, add-sub-cancel-left}
@@ -10,11 +10,14 @@ use native.Mathlib.Omega.{arith}
 use lib.ListN.{length, getD, take, drop, set, length-append, length-take, length-drop, drop-of-length-le}
 use lib.Seq.{paste, paste-suc, take-all, take-at, drop-append-add, drop-drop}
 use lib.Dec.{ltb, eqb}
-use borrow.Author.Tests.{eqb-true, ltb-false, not-false}
+use borrow.Author.Tests.{eqb-true, ltb-false}
 use Rattle.parts.specs.declared.Facts.{Facts}
+use Rattle.parts.specs.declared.Refusal.the-variants.{WrongEnable, BadState, ShortBuffer, BadImage}
 use Rattle.parts.specs.declared.Verdict.the-variants.{Fine}
 use Rattle.parts.specs.Table.{factsOf, idSizeOf, enableRightOf}
-use Rattle.parts.proofs.Laws.{faultless, passed}
+use Rattle.parts.specs.Refusals.{claimOf, lentVerdictOf}
+use Rattle.parts.proofs.Laws.{passed}
+use Rattle.parts.proofs.Claims.{claim-fine, right-fine, sooner-fine, lent-fine}
 use Rattle.parts.proofs.Tests.{both}
 use Rattle.state.specs.declared.Chip.{Chip}
 use Rattle.state.specs.Range.{inRangeOf}
@@ -105,9 +108,11 @@ pub record CanSave (part : ℕ) (c : Chip) (n d room : ℕ) : Type 0 where
 pub save-fine : (part : ℕ) (c : Chip) (n d room : ℕ) → saveVerdictOf part c n d room ≡ Fine → CanSave part c n d room
 unfolding saveVerdictOf
 save-fine part c n d room h =
-    let l = faultless _ h in
-    let b = buffers-are (factsOf part) n d (not-false _ (l .buffer)) in
-    record { known = not-false _ (l .part); cells = b .0; ident = b .1; ranged = not-false _ (l .state); fits = ltb-false room (imageLengthOf (factsOf part)) (l .short) }
+    let (lent, r) = sooner-fine (lentVerdictOf (factsOf part) n d) _ h in
+    let (state, short) = sooner-fine (claimOf (not (inRangeOf (factsOf part) c)) BadState) (claimOf (ltb room (imageLengthOf (factsOf part))) ShortBuffer) r in
+    let l = lent-fine (factsOf part) n d lent in
+    let b = buffers-are (factsOf part) n d (l .1) in
+    record { known = l .0; cells = b .0; ident = b .1; ranged = right-fine _ BadState state; fits = ltb-false room (imageLengthOf (factsOf part)) (claim-fine _ ShortBuffer short) }
 
 pub save-room : (part : ℕ) (c : Chip) (n d room : ℕ) → saveVerdictOf part c n d room ≡ Fine
     → (imageLengthOf (factsOf part) ≡ 7 + n + d) × (7 + n + d ≤ room)
@@ -128,11 +133,13 @@ pub record CanLoad (l : List ℕ) (enable n d : ℕ) : Type 0 where
 pub load-fine : (l : List ℕ) (enable n d : ℕ) → loadVerdictOf l enable n d ≡ Fine → CanLoad l enable n d
 unfolding loadVerdictOf judgedOf formedOf
 load-fine l enable n d h =
-    let f = faultless _ (passed (ltb (length l) 6) _ _ h .1) in
-    let b = buffers-are (factsOf (partIn l)) n d (not-false _ (f .buffer)) in
-    let w = both (eqb (length l) (imageLengthOf (factsOf (partIn l)))) (cond (markRightOf l) (lockByteRightOf (factsOf (partIn l)) (getD l 6 0)) false) (not-false _ (f .image)) in
+    let (lent, r) = sooner-fine (lentVerdictOf (factsOf (partIn l)) n d) _ (passed (ltb (length l) 6) _ _ h .1) in
+    let (enable-right, form) = sooner-fine (claimOf (not (enableRightOf (factsOf (partIn l)) enable)) WrongEnable) (claimOf (not (cond (eqb (length l) (imageLengthOf (factsOf (partIn l)))) (cond (markRightOf l) (lockByteRightOf (factsOf (partIn l)) (getD l 6 0)) false) false)) BadImage) r in
+    let f = lent-fine (factsOf (partIn l)) n d lent in
+    let b = buffers-are (factsOf (partIn l)) n d (f .1) in
+    let w = both (eqb (length l) (imageLengthOf (factsOf (partIn l)))) (cond (markRightOf l) (lockByteRightOf (factsOf (partIn l)) (getD l 6 0)) false) (right-fine _ BadImage form) in
     let t = both (markRightOf l) (lockByteRightOf (factsOf (partIn l)) (getD l 6 0)) (w .1) in
-    record { known = not-false _ (f .part); enabled = not-false _ (f .enable); cells = b .0; ident = b .1; long = eqb-true (length l) (imageLengthOf (factsOf (partIn l))) (w .0); marked = t .0; lock = t .1 }
+    record { known = f .0; enabled = right-fine _ WrongEnable enable-right; cells = b .0; ident = b .1; long = eqb-true (length l) (imageLengthOf (factsOf (partIn l))) (w .0); marked = t .0; lock = t .1 }
 
 pub load-room : (l : List ℕ) (enable n d part : ℕ) → loadVerdictOf l enable n d ≡ Fine → part ≡ partIn l
     → (n ≡ factsOf part .size) × (length l ≡ 7 + n + d)

@@ -6,11 +6,11 @@ use mathlib.Core.List.{List, _++_}
 use lib.ListN.{length, drop}
 use lib.Dec.{ltb}
 use Rattle.parts.specs.declared.Facts.{Facts}
-use Rattle.parts.specs.declared.Refusal.the-variants.{BadImage}
+use Rattle.parts.specs.declared.Refusal.the-variants.{WrongEnable, BadState, ShortBuffer, BadImage}
 use Rattle.parts.specs.declared.Verdict.{Verdict}
 use Rattle.parts.specs.declared.Verdict.the-variants.{Fine, Refused}
-use Rattle.parts.specs.Table.{factsOf, enableRightOf, buffersRightOf}
-use Rattle.parts.specs.Refusals.{givenOf}
+use Rattle.parts.specs.Table.{factsOf, enableRightOf}
+use Rattle.parts.specs.Refusals.{claimOf, soonerOf, lentVerdictOf}
 use Rattle.state.specs.declared.Chip.{Chip}
 use Rattle.state.specs.Range.{inRangeOf}
 use Rattle.chip.specs.Memory.{Mem}
@@ -23,8 +23,9 @@ use Rattle.image.specs.Layout.{imageOf, imageLengthOf, partIn, lockIn, s
 
 unfoldable pub saveVerdictOf : ℕ → Chip → ℕ → ℕ → ℕ → Verdict
 saveVerdictOf part c n d room =
-    givenOf
-    record { part = not (factsOf part .known); enable = false; buffer = not (buffersRightOf (factsOf part) n d); state = not (inRangeOf (factsOf part) c); many = false; event = false; place = 0; short = ltb room (imageLengthOf (factsOf part)); beyond = false; limit = false; image = false }
+    soonerOf (lentVerdictOf (factsOf part) n d)
+    (soonerOf (claimOf (not (inRangeOf (factsOf part) c)) BadState)
+    (claimOf (ltb room (imageLengthOf (factsOf part))) ShortBuffer))
 
 abbrev pub saveBy : Facts → Verdict → Saved
 saveBy f Fine = record { verdict = Fine; length = imageLengthOf f }
@@ -39,8 +40,9 @@ saveOut part c m out (Refused r) = out
 
 unfoldable pub judgedOf : List ℕ → ℕ → ℕ → ℕ → Verdict
 judgedOf l enable n d =
-    givenOf
-    record { part = not (factsOf (partIn l) .known); enable = not (enableRightOf (factsOf (partIn l)) enable); buffer = not (buffersRightOf (factsOf (partIn l)) n d); state = false; many = false; event = false; place = 0; short = false; beyond = false; limit = false; image = not (formedOf (factsOf (partIn l)) l) }
+    soonerOf (lentVerdictOf (factsOf (partIn l)) n d)
+    (soonerOf (claimOf (not (enableRightOf (factsOf (partIn l)) enable)) WrongEnable)
+    (claimOf (not (formedOf (factsOf (partIn l)) l)) BadImage))
 
 unfoldable pub loadVerdictOf : List ℕ → ℕ → ℕ → ℕ → Verdict
 loadVerdictOf l enable n d = cond (ltb (length l) 6) (Refused BadImage) (judgedOf l enable n d)

@@ -7,7 +7,6 @@ ghost use Rattle.parts.specs.Table.{factsOf};
 ghost use Rattle.chip.specs.Memory.{mem};
 ghost use Rattle.image.specs.Layout.{headOf, imageOf, imageLengthOf, putOf, partIn, lockIn, storedIn, markRightOf, lockByteRightOf, formedOf};
 ghost use Rattle.image.specs.Calls.{saveVerdictOf, judgedOf, loadVerdictOf, saving, loading};
-use parts::Faults;
 use parts::Refusal;
 use parts::Verdict;
 use state::Chip;
@@ -59,23 +58,12 @@ fn save_verdict(part: u8, chip: Chip, n: usize, d: usize, room: usize) -> Verdic
     ensures { λ r. ⌜ r ≡ saveVerdictOf part chip n d room ⌝ }
 {
     let f = parts::facts_of(part);
-    let known = f.known;
-    let lent = parts::buffers_right(f, n, d);
+    let lent = parts::lent_verdict(f, n, d);
     let ranged = state::in_range(part, chip);
     let need = image_length(part);
-    parts::given(Faults {
-        part: !known,
-        enable: false,
-        buffer: !lent,
-        state: !ranged,
-        many: false,
-        event: false,
-        place: 0,
-        short: room < need,
-        beyond: false,
-        limit: false,
-        image: false,
-    })
+    let state = parts::claim(!ranged, Refusal::BadState);
+    let short = parts::claim(room < need, Refusal::ShortBuffer);
+    parts::sooner(lent, parts::sooner(state, short))
 }
 
 fn write(part: u8, lock: bool, array: &[u8], id: &[u8], out: &mut [u8])
@@ -181,23 +169,12 @@ fn judged(image: &[u8], enable: u8, n: usize, d: usize) -> Verdict
 {
     let part = part_in(image);
     let f = parts::facts_of(part);
-    let known = f.known;
+    let lent = parts::lent_verdict(f, n, d);
     let enabled = parts::enable_right(f, enable);
-    let lent = parts::buffers_right(f, n, d);
     let right = formed(part, image);
-    parts::given(Faults {
-        part: !known,
-        enable: !enabled,
-        buffer: !lent,
-        state: false,
-        many: false,
-        event: false,
-        place: 0,
-        short: false,
-        beyond: false,
-        limit: false,
-        image: !right,
-    })
+    let enable = parts::claim(!enabled, Refusal::WrongEnable);
+    let form = parts::claim(!right, Refusal::BadImage);
+    parts::sooner(lent, parts::sooner(enable, form))
 }
 
 fn load_verdict(image: &[u8], enable: u8, n: usize, d: usize) -> Verdict

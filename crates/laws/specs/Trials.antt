@@ -13,7 +13,7 @@ use Rattle.parts.specs.Bytes.{sameOf}
 use Rattle.state.specs.declared.Chip.{Chip}
 use Rattle.chip.specs.Memory.{Mem}
 use Rattle.chip.specs.Delivery.{standbyOf, deliveredOf}
-use Rattle.laws.specs.Runs.{ran, ranMem, ranAnswers}
+use Rattle.chip.specs.Calls.{runOf}
 use Rattle.laws.specs.Bytes.{bitsOf, byteOf, bytesOf}
 
 -- ---- a table of trials, of any kind
@@ -49,11 +49,11 @@ doneOf part enable es =
     let m = deliveredOf part in
     let answers : List ℕ = replicate (length es) 9 in
     record {
-      chip = ran part enable c m es answers .chip;
-      mem = ranMem part enable c m es answers;
-      levels = ranAnswers part enable c m es answers;
-      cycles = ran part enable c m es answers .cycles;
-      fine = isFine (ran part enable c m es answers .verdict);
+      chip = runOf part enable c m es answers .answer .chip;
+      mem = runOf part enable c m es answers .mem;
+      levels = runOf part enable c m es answers .answers;
+      cycles = runOf part enable c m es answers .answer .cycles;
+      fine = isFine (runOf part enable c m es answers .answer .verdict);
     }
 
 unfoldable pub trialOf : ℕ → ℕ → ℕ → List ℕ → (Done → Bool) → Trial

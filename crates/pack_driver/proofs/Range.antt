@@ -7,7 +7,7 @@ use native.Mathlib.Omega.{arith}
 use lib.ListN.{length, getD}
 use lib.Dec.{eqb, ltb}
 use Rattle.parts.specs.Table.{factsOf, enableRightOf}
-use Rattle.parts.specs.Refusals.{givenOf}
+use Rattle.parts.specs.Refusals.{soonerOf}
 use Rattle.parts.proofs.Laws.{branch}
 use Rattle.driver.specs.declared.Place.the-variants.{Array}
 use Rattle.driver.specs.declared.Request.{Request}
@@ -19,7 +19,7 @@ use Rattle.driver.specs.declared.Counts.{Counts}
 use Rattle.driver.specs.declared.Driver.{Driver}
 use Rattle.driver.specs.declared.Move.{Move}
 use Rattle.driver.specs.declared.Asked.{Asked}
-use Rattle.driver.specs.Request.{beyondAt, limitOf, faultsOf, judgeOf, allowedOf, kOf}
+use Rattle.driver.specs.Request.{beyondAt, limitOf, judgeOf, allowedOf, kOf}
 use Rattle.driver.specs.Split.{pagesMetOf}
 use Rattle.driver.specs.Step.{
   countsRight,
@@ -55,7 +55,7 @@ use Rattle.pack_driver.proofs.Kept.{all-small, small-all}
 -- ---- bytes that hold none
 
 none-range : (n : ℕ) → rangeOf noDriver n ≡ false
-unfolding rangeOf judgeOf givenOf faultsOf factsOf
+unfolding rangeOf judgeOf soonerOf factsOf
 none-range n = refl
 
 pub refuses-others : RefusesOthers unpackedOf
@@ -103,7 +103,7 @@ abbrev reader : Driver
 reader = fresh (record { part = 0; enable = 0; place = Array (record { 0 = 0 }); reads = true; length = 0; budget = wordEnd })
 
 pub some-not-packed : SomeNotPacked
-unfolding rangeOf countsRight judgeOf givenOf faultsOf beyondAt limitOf enableRightOf factsOf kOf pagesMetOf allowedOf smallOf
+unfolding rangeOf countsRight judgeOf soonerOf beyondAt limitOf enableRightOf factsOf kOf pagesMetOf allowedOf smallOf
 some-not-packed = (reader, refl, refl, refl)
 
 -- ---- a step adds at most one to a number, or sets it to another

@@ -1,7 +1,7 @@
 -- The promises of `specs/Promise.antt` are kept by the definitions that the contracts cite.
 -- Assumes nothing.
 use mathlib.Core.Path.{_≡_, refl, _∙_, ap}
-use mathlib.Core.Bool.{true, false, not}
+use mathlib.Core.Bool.{true, false}
 use mathlib.Core.List.{List, []}
 use Prim.Native.Nat.{ℕ, _+_, _*_, _/_, _%_, _<_, _≤_}
 use native.Mathlib.Nat.{mod-lt, div-add-mod', le-of-eq}
@@ -9,17 +9,20 @@ use native.Mathlib.Omega.{arith}
 use lib.Dec.{eqb}
 use lib.ListN.{length, take, drop, getD, length-take, length-drop}
 use lib.Seq.{getD-take, getD-drop, take-all}
-use borrow.Author.Tests.{le-leb, lt-leb, eq-eqb, ne-eqb, eqb-true, eqb-false}
+use borrow.Author.Tests.{le-leb, lt-leb, ne-eqb, eqb-true, eqb-false}
 use Rattle.parts.specs.declared.ArrayAddress.{ArrayAddress}
 use Rattle.parts.specs.declared.Facts.{Facts}
+use Rattle.parts.specs.declared.Refusal.{Refusal}
+use Rattle.parts.specs.declared.Refusal.the-variants.{NoPart, WrongBuffer, Beyond}
 use Rattle.parts.specs.declared.Verdict.{Verdict}
 use Rattle.parts.specs.declared.Verdict.the-variants.{Fine, Refused}
 use Rattle.parts.specs.Table.{factsOf, idSizeOf, buffersRightOf}
-use Rattle.parts.specs.Refusals.{verdictNumberOf, givenOf}
-use Rattle.parts.proofs.Laws.{branch, fine}
+use Rattle.parts.specs.Refusals.{rankOf, verdictNumberOf, claimOf, soonerOf, lentVerdictOf}
+use Rattle.parts.proofs.Laws.{branch, fine, buffers-right}
+use Rattle.parts.proofs.Claims.{fine-lent, lent-unknown, lent-wrong, later-claim, given-first}
 use Rattle.page.specs.declared.Place.{Place}
 use Rattle.page.specs.declared.Place.the-variants.{Array, Ident}
-use Rattle.page.specs.Look.{lookRefusalOf, pageStartOf, lookSpanOf, lookOf, shownOf, pageSpanOf, ofArray}
+use Rattle.page.specs.Look.{outsideOf, lookRefusalOf, pageStartOf, lookSpanOf, lookOf, shownOf, pageSpanOf, ofArray}
 use Rattle.page.specs.Promise.{Lengths, RefusesRightly, IsPage, ShowsPages, LiesInBuffer}
 use Rattle.page.proofs.Laws.{room, accepted}
 
@@ -45,33 +48,34 @@ known part h =
 
 -- ---- the refusals
 
-pub right : (f : Facts) (array id : ℕ) → array ≡ f .size → id ≡ idSizeOf f → not (buffersRightOf f array id) ≡ false
-unfolding buffersRightOf
-right f array id a i = simp (eq-eqb array (f .size) a, eq-eqb id (idSizeOf f) i)
-
-wrong : (f : Facts) (array id : ℕ) → ((array ≡ f .size) × (id ≡ idSizeOf f) → ⊥) → not (buffersRightOf f array id) ≡ true
+wrong : (f : Facts) (array id : ℕ) → ((array ≡ f .size) × (id ≡ idSizeOf f) → ⊥) → buffersRightOf f array id ≡ false
 unfolding buffersRightOf
 wrong f array id n =
-    branch (λ b. not b ≡ true) (eqb array (f .size))
-    (λ h. simp (ne-eqb id (idSizeOf f) (λ e. n (eqb-true array (f .size) h, e))))
-    (λ _. refl)
+    branch (λ b. b ≡ false) (eqb array (f .size)) (λ h. ne-eqb id (idSizeOf f) (λ e. n (eqb-true array (f .size) h, e))) (λ _. refl)
+
+-- the buffers are the part's, so the place decides
+lent : (part array id : ℕ) (place : Place) → factsOf part .known ≡ true → Lengths part array id → lookRefusalOf part array id place ≡ claimOf (outsideOf (factsOf part) place) Beyond
+unfolding lookRefusalOf soonerOf
+lent part array id place k l = rw (fine-lent (factsOf part) array id k (buffers-right (factsOf part) array id (l .0) (l .1)))
 
 -- a look within the array, and one at an identification page that is there, are not refused
 in-array : (part array id : ℕ) (a : ArrayAddress) → factsOf part .known ≡ true → Lengths part array id → a .0 < factsOf part .size → lookRefusalOf part array id (Array a) ≡ Fine
-unfolding lookRefusalOf givenOf
-in-array part array id a k l low = simp (k, right (factsOf part) array id (l .0) (l .1), lt-leb (factsOf part .size) (a .0) low)
+in-array part array id a k l low = rw (lent part array id (Array a) k l, lt-leb (factsOf part .size) (a .0) low)
 
 is-there : (part array id : ℕ) → factsOf part .known ≡ true → Lengths part array id → factsOf part .ident ≡ true → lookRefusalOf part array id Ident ≡ Fine
-unfolding lookRefusalOf givenOf
-is-there part array id k l i = simp (k, right (factsOf part) array id (l .0) (l .1), i)
+is-there part array id k l i = rw (lent part array id Ident k l, i)
+
+-- 1 and 3 go before 7
+before-7 : (part array id : ℕ) (place : Place) (r : Refusal) → rankOf r ≤ rankOf Beyond → lentVerdictOf (factsOf part) array id ≡ Refused r → lookRefusalOf part array id place ≡ Refused r
+unfolding lookRefusalOf
+before-7 part array id place r low h = rw h (given-first r _ (later-claim _ (outsideOf (factsOf part) place) Beyond low))
 
 pub refuses-rightly : RefusesRightly lookRefusalOf
-unfolding lookRefusalOf givenOf
 refuses-rightly = record {
-  noPart = λ part array id place h. simp (unknown part h);
-  wrongBuffer = λ part array id place h n. simp (known part h, wrong (factsOf part) array id n);
-  beyond = λ part array id a h l far. simp (known part h, right (factsOf part) array id (l .0) (l .1), le-leb (factsOf part .size) (a .0) far);
-  noPage = λ part array id h l i. simp (known part h, right (factsOf part) array id (l .0) (l .1), i);
+  noPart = λ part array id place h. ap verdictNumberOf (before-7 part array id place NoPart (omega arith) (lent-unknown (factsOf part) array id (unknown part h)));
+  wrongBuffer = λ part array id place h n. ap verdictNumberOf (before-7 part array id place WrongBuffer (omega arith) (lent-wrong (factsOf part) array id (known part h) (wrong (factsOf part) array id n)));
+  beyond = λ part array id a h l far. rw (lent part array id (Array a) (known part h) l, le-leb (factsOf part .size) (a .0) far);
+  noPage = λ part array id h l i. rw (lent part array id Ident (known part h) l, i);
   inArray = λ part array id a h l low. ap verdictNumberOf (in-array part array id a (known part h) l low);
   isPage = λ part array id h l i. ap verdictNumberOf (is-there part array id (known part h) l i);
 }

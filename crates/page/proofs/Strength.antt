@@ -2,7 +2,7 @@
 -- Looks that do nothing, or show other bytes than the page, break them.
 -- Assumes nothing.
 use mathlib.Core.Path.{_≡_, refl, sym, _∙_}
-use mathlib.Core.Bool.{Bool, true, false, not}
+use mathlib.Core.Bool.{Bool, true, false}
 use mathlib.Core.List.{List, []}
 use mathlib.Core.Logic.{⊎-elim}
 use Prim.Native.Nat.{ℕ, _<_, _≤_}
@@ -16,21 +16,22 @@ use Rattle.parts.specs.declared.Refusal.the-variants.{Beyond}
 use Rattle.parts.specs.declared.Verdict.the-variants.{Refused}
 use Rattle.parts.specs.Table.{factsOf, idSizeOf, buffersRightOf}
 use Rattle.parts.specs.Refusals.{verdictNumberOf}
+use Rattle.parts.proofs.Laws.{buffers-right}
 use Rattle.page.specs.declared.Place.{Place}
 use Rattle.page.specs.declared.Place.the-variants.{Array, Ident}
 use Rattle.page.specs.Look.{lookRefusalOf}
 use Rattle.page.specs.Promise.{Refusing, Looking, Lengths, RefusesRightly, ShowsPages}
 use Rattle.page.proofs.Laws.{lengths-right}
-use Rattle.page.proofs.Promise.{right, refuses-rightly}
+use Rattle.page.proofs.Promise.{refuses-rightly}
 
 -- both ways of a test, each with what the test said
 either {ℓ} : {A : Type ℓ} (b : Bool) → (b ≡ true → A) → (b ≡ false → A) → A
 either true f g = f refl
 either false f g = g refl
 
-lengths-wrong : (part array id : ℕ) → not (buffersRightOf (factsOf part) array id) ≡ true → Lengths part array id → ⊥
+lengths-wrong : (part array id : ℕ) → buffersRightOf (factsOf part) array id ≡ false → Lengths part array id → ⊥
 lengths-wrong part array id w l =
-    let e = right (factsOf part) array id (l .0) (l .1) in
+    let e = buffers-right (factsOf part) array id (l .0) (l .1) in
     let z : _≡_ {A = ℕ} 0 1 = cc in
     omega arith
 
@@ -49,11 +50,11 @@ module _ (r q : Refusing) (R : RefusesRightly r) (Q : RefusesRightly q) (part ar
   same-number place =
       either (leb part 5)
       (λ t.
-      either (not (buffersRightOf (factsOf part) array id))
+      either (buffersRightOf (factsOf part) array id)
+      (λ w. known-same (leb-true part 5 t) (lengths-right (factsOf part) array id w) place)
       (λ w.
       let n = lengths-wrong part array id w in
-      R .wrongBuffer part array id place (leb-true part 5 t) n ∙ sym (Q .wrongBuffer part array id place (leb-true part 5 t) n))
-      (λ w. known-same (leb-true part 5 t) (lengths-right (factsOf part) array id w) place))
+      R .wrongBuffer part array id place (leb-true part 5 t) n ∙ sym (Q .wrongBuffer part array id place (leb-true part 5 t) n)))
       (λ t. R .noPart part array id place (leb-false part 5 t) ∙ sym (Q .noPart part array id place (leb-false part 5 t)))
 
 module _ (r q : Refusing) (R : RefusesRightly r) (Q : RefusesRightly q) (l k : Looking) (L : ShowsPages r l) (K : ShowsPages q k) (part : ℕ) (array id : List ℕ) where

@@ -8,11 +8,11 @@ use mathlib.Core.List.{List}
 use lib.Dec.{leb}
 use lib.ListN.{length, take, drop}
 use Rattle.parts.specs.declared.Facts.{Facts}
-use Rattle.parts.specs.declared.Faults.{Faults}
+use Rattle.parts.specs.declared.Refusal.the-variants.{Beyond}
 use Rattle.parts.specs.declared.Verdict.{Verdict}
 use Rattle.parts.specs.declared.Verdict.the-variants.{Fine, Refused}
 use Rattle.parts.specs.Table.{factsOf, buffersRightOf}
-use Rattle.parts.specs.Refusals.{givenOf}
+use Rattle.parts.specs.Refusals.{claimOf, soonerOf, lentVerdictOf}
 use Rattle.page.specs.declared.Place.{Place}
 use Rattle.page.specs.declared.Place.the-variants.{Array, Ident}
 
@@ -21,14 +21,10 @@ abbrev pub outsideOf : Facts → Place → Bool
 outsideOf f (Array a) = leb (f .size) (a .0)
 outsideOf f Ident = not (f .ident)
 
--- refusals 1, 3 and 7; no other applies to a look: it has no enable, state, event, output or limit
-abbrev pub lookFaultsOf : Facts → ℕ → ℕ → Place → Faults
-lookFaultsOf f array id place =
-    record { part = not (f .known); enable = false; buffer = not (buffersRightOf f array id); state = false; many = false; event = false; place = 0; short = false; beyond = outsideOf f place; limit = false; image = false }
-
--- from the part's number, the lengths of the two lent buffers, and the place
+-- refusals 1, 3 and 7; no other applies to a look: it has no enable, state, event, output or limit. From the part's number, the
+-- lengths of the two lent buffers, and the place
 unfoldable pub lookRefusalOf : ℕ → ℕ → ℕ → Place → Verdict
-lookRefusalOf part array id place = givenOf (lookFaultsOf (factsOf part) array id place)
+lookRefusalOf part array id place = soonerOf (lentVerdictOf (factsOf part) array id) (claimOf (outsideOf (factsOf part) place) Beyond)
 
 -- a part of one of the two lent buffers: from where, and how many bytes
 pub data Span : Type 0 where

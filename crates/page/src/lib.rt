@@ -2,10 +2,10 @@
 ghost use mathlib.Core.Path.{_≡_};
 ghost use Prim.Native.Nat.{_+_, _<_, _≤_};
 ghost use lib.ListN.{length, take, drop};
-ghost use Rattle.page.specs.Look.{outsideOf, lookFaultsOf, lookRefusalOf, pageStartOf, pageSpanOf, lookSpanOf, spanBytes, spanAt, lookOf, Room};
+ghost use Rattle.page.specs.Look.{outsideOf, lookRefusalOf, pageStartOf, pageSpanOf, lookSpanOf, spanBytes, spanAt, lookOf, Room};
 use parts::ArrayAddress;
 use parts::Facts;
-use parts::Faults;
+use parts::Refusal;
 use parts::Verdict;
 
 // "by an array address in it or as the identification page": a chip has one such page at most, so no location is asked for.
@@ -24,26 +24,14 @@ fn outside(f: Facts, place: Place) -> bool
     }
 }
 
-fn faults(f: Facts, array: usize, id: usize, place: Place) -> Faults
-    ensures { λ r. ⌜ r ≡ lookFaultsOf f array id place ⌝ }
-{
-    let none = parts::no_faults();
-    let lent = parts::buffers_right(f, array, id);
-    let beyond = outside(f, place);
-    Faults {
-        part: !f.known,
-        buffer: !lent,
-        beyond: beyond,
-        ..none
-    }
-}
-
 // Whether a look is refused, and why: it takes what `look` takes.
 pub fn look_refusal(part: u8, array: &[u8], id: &[u8], place: Place) -> Verdict
     ensures { λ r. ⌜ r ≡ lookRefusalOf part (length (now (array .entry))) (length (now (id .entry))) place ⌝ }
 {
     let f = parts::facts_of(part);
-    parts::given(faults(f, array.len(), id.len(), place))
+    let lent = parts::lent_verdict(f, array.len(), id.len());
+    let beyond = outside(f, place);
+    parts::sooner(lent, parts::claim(beyond, Refusal::Beyond))
 }
 
 // Where the page of p bytes that holds address a starts.

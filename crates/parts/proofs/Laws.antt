@@ -1,4 +1,4 @@
--- Laws of the part table, of a verdict's number, of a call that is not refused, of events and buffers.
+-- Laws of the part table, of a verdict's number, of events and buffers.
 -- Assumes nothing.
 use mathlib.Core.Path.{_≡_, refl}
 use Prim.Native.Nat.{ℕ, zero, suc, _<_}
@@ -13,10 +13,9 @@ use Rattle.parts.specs.Events.{eventOf}
 use Rattle.parts.specs.Sound.{Sound}
 use Rattle.parts.specs.declared.Refusal.{Refusal}
 use Rattle.parts.specs.declared.Refusal.the-variants.{NoPart, WrongEnable, WrongBuffer, BadState, BadEvent, ShortBuffer, Beyond, BadLimit, NoSelect, NoData, PollsUsed, BadImage, TooMany}
-use Rattle.parts.specs.declared.Faults.{Faults}
 use Rattle.parts.specs.declared.Verdict.{Verdict}
 use Rattle.parts.specs.declared.Verdict.the-variants.{Fine, Refused}
-use Rattle.parts.specs.Refusals.{numberOf, verdictNumberOf, givenOf}
+use Rattle.parts.specs.Refusals.{numberOf, verdictNumberOf}
 
 -- both ways of a test, each with what the test said
 pub branch {ℓ κ} : {A : Type ℓ} (Q : A → Type κ) (b : Bool) {x y : A} → (b ≡ true → Q x) → (b ≡ false → Q y) → Q (cond b x y)
@@ -54,38 +53,9 @@ pub fine : (v : Verdict) → verdictNumberOf v ≡ 0 → v ≡ Fine
 fine Fine h = refl
 fine (Refused r) h = absurd (omega (arith, positive r))
 
--- ---- a call that is not refused has no fault
-
-pub record Faultless (f : Faults) : Type 0 where
-  pub part : f .part ≡ false
-  pub enable : f .enable ≡ false
-  pub buffer : f .buffer ≡ false
-  pub state : f .state ≡ false
-  pub many : f .many ≡ false
-  pub event : f .event ≡ false
-  pub short : f .short ≡ false
-  pub beyond : f .beyond ≡ false
-  pub limit : f .limit ≡ false
-  pub image : f .image ≡ false
-
 pub passed : (b : Bool) (r : Refusal) (v : Verdict) → cond b (Refused r) v ≡ Fine → (b ≡ false) × (v ≡ Fine)
 passed true r v h = let z : _≡_ {A = ℕ} 0 1 = cc in absurd (omega arith)
 passed false r v h = (refl, h)
-
-pub faultless : (f : Faults) → givenOf f ≡ Fine → Faultless f
-unfolding givenOf
-faultless f h =
-    let a = passed (f .part) _ _ h in
-    let b = passed (f .enable) _ _ (a .1) in
-    let c = passed (f .buffer) _ _ (b .1) in
-    let d = passed (f .state) _ _ (c .1) in
-    let e = passed (f .many) _ _ (d .1) in
-    let g = passed (f .event) _ _ (e .1) in
-    let i = passed (f .short) _ _ (g .1) in
-    let j = passed (f .beyond) _ _ (i .1) in
-    let k = passed (f .limit) _ _ (j .1) in
-    let l = passed (f .image) _ _ (k .1) in
-    record { part = a .0; enable = b .0; buffer = c .0; state = d .0; many = e .0; event = g .0; short = i .0; beyond = j .0; limit = k .0; image = l .0 }
 
 -- ---- events and buffers
 

@@ -1,54 +1,79 @@
--- Document 01, 'Refusal numbers': the number of each refusal, and the order in which they are given.
+-- Document 01, 'Refusal numbers': number, rank and place of each refusal, and which of several is given.
 -- Assumes nothing.
 use Prim.Native.Nat.{ℕ}
-use mathlib.Core.Bool.{Bool, true, false, cond}
+use mathlib.Core.Bool.{Bool, true, false, not, cond}
+use lib.Dec.{ltb}
+use Rattle.parts.specs.declared.Facts.{Facts}
 use Rattle.parts.specs.declared.Refusal.{Refusal}
 use Rattle.parts.specs.declared.Refusal.the-variants.{NoPart, WrongEnable, WrongBuffer, BadState, BadEvent, ShortBuffer, Beyond, BadLimit, NoSelect, NoData, PollsUsed, BadImage, TooMany}
-use Rattle.parts.specs.declared.Faults.{Faults}
+use Rattle.parts.specs.declared.Spot.{Spot}
+use Rattle.parts.specs.declared.Spot.the-variants.{Nowhere, At}
+use Rattle.parts.specs.declared.Entry.{Entry}
 use Rattle.parts.specs.declared.Verdict.{Verdict}
 use Rattle.parts.specs.declared.Verdict.the-variants.{Fine, Refused}
+use Rattle.parts.specs.Table.{buffersRightOf}
 
--- the number that document 01 gives each
+-- a refusal's number, its rank and its place
+abbrev entry : ℕ → ℕ → Spot → Entry
+entry number rank spot = record { 0 = number; 1 = rank; 2 = spot }
+
+-- the number that document 01 gives each, and its rank beside it: "The lowest of 1 to 8, 12 and 13 that applies is given, before
+-- anything changes, except that 13 goes before 5". So a rank is a hundred times the number, and that of 13 stands between 4 and 5.
+-- 9 to 11 end a driver that has begun, one at a time. 5 goes "with the first place"
+abbrev pub entryOf : Refusal → Entry
+entryOf NoPart = entry 1 100 Nowhere
+entryOf WrongEnable = entry 2 200 Nowhere
+entryOf WrongBuffer = entry 3 300 Nowhere
+entryOf BadState = entry 4 400 Nowhere
+entryOf (BadEvent k) = entry 5 500 (At k)
+entryOf ShortBuffer = entry 6 600 Nowhere
+entryOf Beyond = entry 7 700 Nowhere
+entryOf BadLimit = entry 8 800 Nowhere
+entryOf NoSelect = entry 9 900 Nowhere
+entryOf NoData = entry 10 1000 Nowhere
+entryOf PollsUsed = entry 11 1100 Nowhere
+entryOf BadImage = entry 12 1200 Nowhere
+entryOf TooMany = entry 13 450 Nowhere
+
 abbrev pub numberOf : Refusal → ℕ
-numberOf NoPart = 1
-numberOf WrongEnable = 2
-numberOf WrongBuffer = 3
-numberOf BadState = 4
-numberOf (BadEvent k) = 5
-numberOf ShortBuffer = 6
-numberOf Beyond = 7
-numberOf BadLimit = 8
-numberOf NoSelect = 9
-numberOf NoData = 10
-numberOf PollsUsed = 11
-numberOf BadImage = 12
-numberOf TooMany = 13
+numberOf r = entryOf r .0
+
+abbrev pub rankOf : Refusal → ℕ
+rankOf r = entryOf r .1
+
+abbrev pub spotOf : Refusal → Spot
+spotOf r = entryOf r .2
+
+-- 0 where there is no place
+abbrev pub placeTold : Spot → ℕ
+placeTold Nowhere = 0
+placeTold (At k) = k
 
 -- 0 where nothing is refused, else the refusal's number
 abbrev pub verdictNumberOf : Verdict → ℕ
 verdictNumberOf Fine = 0
 verdictNumberOf (Refused r) = numberOf r
 
+-- the place that is told; 0 where there is none
+abbrev pub verdictPlaceOf : Verdict → ℕ
+verdictPlaceOf Fine = 0
+verdictPlaceOf (Refused r) = placeTold (spotOf r)
+
 -- nothing is refused
 abbrev pub isFine : Verdict → Bool
 isFine Fine = true
 isFine (Refused r) = false
 
--- "The lowest of 1 to 8, 12 and 13 that applies is given, before anything changes, except that 13 goes before 5":
--- 1 2 3 4 13 5 6 7 8 12
-unfoldable pub givenOf : Faults → Verdict
-givenOf f =
-    cond (f .part) (Refused NoPart)
-    (cond (f .enable) (Refused WrongEnable)
-    (cond (f .buffer) (Refused WrongBuffer)
-    (cond (f .state) (Refused BadState)
-    (cond (f .many) (Refused TooMany)
-    (cond (f .event) (Refused (BadEvent (f .place)))
-    (cond (f .short) (Refused ShortBuffer)
-    (cond (f .beyond) (Refused Beyond)
-    (cond (f .limit) (Refused BadLimit)
-    (cond (f .image) (Refused BadImage)
-    Fine)))))))))
+-- a call claims each refusal that it can give, with what it is given for
+abbrev pub claimOf : Bool → Refusal → Verdict
+claimOf wrong r = cond wrong (Refused r) Fine
 
-abbrev pub noFaults : Faults
-noFaults = record { part = false; enable = false; buffer = false; state = false; many = false; event = false; place = 0; short = false; beyond = false; limit = false; image = false }
+-- of two claims the one of lower rank
+unfoldable pub soonerOf : Verdict → Verdict → Verdict
+soonerOf Fine b = b
+soonerOf (Refused r) Fine = Refused r
+soonerOf (Refused r) (Refused s) = cond (ltb (rankOf s) (rankOf r)) (Refused s) (Refused r)
+
+-- 1 and 3: no such part, or lent buffers that are not the part's
+unfoldable pub lentVerdictOf : Facts → ℕ → ℕ → Verdict
+lentVerdictOf f array id = soonerOf (claimOf (not (f .known)) NoPart) (claimOf (not (buffersRightOf f array id)) WrongBuffer)

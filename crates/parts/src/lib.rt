@@ -4,7 +4,7 @@ ghost use lib.ListN.{getD};
 ghost use Rattle.parts.specs.Table.{factsOf, idSizeOf, buffersRightOf, addressBytesOf, enableRightOf};
 ghost use Rattle.parts.specs.Sound.{Sound};
 ghost use Rattle.parts.specs.Events.{eventOf, eventRightOf};
-ghost use Rattle.parts.specs.Refusals.{numberOf, verdictNumberOf, givenOf};
+ghost use Rattle.parts.specs.Refusals.{entryOf, numberOf, rankOf, spotOf, placeTold, verdictNumberOf, verdictPlaceOf, claimOf, soonerOf, lentVerdictOf};
 ghost use Rattle.parts.specs.Bytes.{flagOf};
 
 // The address of a byte of the array.
@@ -218,41 +218,49 @@ pub enum Refusal {
     TooMany,
 }
 
+// The place that a refusal tells.
+pub enum Spot {
+    Nowhere,
+    At(usize),
+}
+
+// What document 01 says of a refusal: the number that is answered; its rank: of two refusals that apply to a call, the one of lower
+// rank is given; and the place.
+struct Entry(pub u8, pub u16, pub Spot);
+
+fn entry_of(r: Refusal) -> Entry
+    ensures { λ e. ⌜ e ≡ entryOf r ⌝ }
+{
+    match r {
+        Refusal::NoPart => Entry(1, 100, Spot::Nowhere),
+        Refusal::WrongEnable => Entry(2, 200, Spot::Nowhere),
+        Refusal::WrongBuffer => Entry(3, 300, Spot::Nowhere),
+        Refusal::BadState => Entry(4, 400, Spot::Nowhere),
+        Refusal::BadEvent(k) => Entry(5, 500, Spot::At(k)),
+        Refusal::ShortBuffer => Entry(6, 600, Spot::Nowhere),
+        Refusal::Beyond => Entry(7, 700, Spot::Nowhere),
+        Refusal::BadLimit => Entry(8, 800, Spot::Nowhere),
+        Refusal::NoSelect => Entry(9, 900, Spot::Nowhere),
+        Refusal::NoData => Entry(10, 1000, Spot::Nowhere),
+        Refusal::PollsUsed => Entry(11, 1100, Spot::Nowhere),
+        Refusal::BadImage => Entry(12, 1200, Spot::Nowhere),
+        Refusal::TooMany => Entry(13, 450, Spot::Nowhere),
+    }
+}
+
 // Document 01's number of a refusal.
 pub fn number(r: Refusal) -> u8
     ensures { λ n. ⌜ n ≡ numberOf r ⌝ }
 {
-    match r {
-        Refusal::NoPart => 1,
-        Refusal::WrongEnable => 2,
-        Refusal::WrongBuffer => 3,
-        Refusal::BadState => 4,
-        Refusal::BadEvent(_) => 5,
-        Refusal::ShortBuffer => 6,
-        Refusal::Beyond => 7,
-        Refusal::BadLimit => 8,
-        Refusal::NoSelect => 9,
-        Refusal::NoData => 10,
-        Refusal::PollsUsed => 11,
-        Refusal::BadImage => 12,
-        Refusal::TooMany => 13,
-    }
+    let e = entry_of(r);
+    e.0
 }
 
-// Which of the refusals of bad input apply to a call.
-pub struct Faults {
-    pub part: bool,
-    pub enable: bool,
-    pub buffer: bool,
-    pub state: bool,
-    pub many: bool,
-    pub event: bool,
-    // The first place of a bad event.
-    pub place: usize,
-    pub short: bool,
-    pub beyond: bool,
-    pub limit: bool,
-    pub image: bool,
+fn rank(r: Refusal) -> u16
+    ensures { λ n. ⌜ n ≡ rankOf r ⌝ }
+{
+    let e = entry_of(r);
+    e.1
 }
 
 pub enum Verdict {
@@ -270,58 +278,69 @@ pub fn verdict_number(verdict: Verdict) -> u8
     }
 }
 
-// Which refusal a call is given: the order of document 01.
-pub fn given(f: Faults) -> Verdict
-    ensures { λ r. ⌜ r ≡ givenOf f ⌝ }
+// The place that a refusal carries: whoever tells it reads it here.
+pub fn spot_of(r: Refusal) -> Spot
+    ensures { λ s. ⌜ s ≡ spotOf r ⌝ }
 {
-    if f.part {
-        return Verdict::Refused(Refusal::NoPart);
+    let e = entry_of(r);
+    e.2
+}
+
+fn place_told(spot: Spot) -> usize
+    ensures { λ r. ⌜ r ≡ placeTold spot ⌝ }
+{
+    match spot {
+        Spot::Nowhere => 0,
+        Spot::At(k) => k,
     }
-    if f.enable {
-        return Verdict::Refused(Refusal::WrongEnable);
+}
+
+// The place that a verdict tells; 0 where it tells none.
+pub fn verdict_place(verdict: Verdict) -> usize
+    ensures { λ r. ⌜ r ≡ verdictPlaceOf verdict ⌝ }
+{
+    match verdict {
+        Verdict::Fine => 0,
+        Verdict::Refused(refusal) => place_told(spot_of(refusal)),
     }
-    if f.buffer {
-        return Verdict::Refused(Refusal::WrongBuffer);
-    }
-    if f.state {
-        return Verdict::Refused(Refusal::BadState);
-    }
-    if f.many {
-        return Verdict::Refused(Refusal::TooMany);
-    }
-    if f.event {
-        return Verdict::Refused(Refusal::BadEvent(f.place));
-    }
-    if f.short {
-        return Verdict::Refused(Refusal::ShortBuffer);
-    }
-    if f.beyond {
-        return Verdict::Refused(Refusal::Beyond);
-    }
-    if f.limit {
-        return Verdict::Refused(Refusal::BadLimit);
-    }
-    if f.image {
-        return Verdict::Refused(Refusal::BadImage);
+}
+
+// A refusal, where what it is given for applies.
+pub fn claim(wrong: bool, r: Refusal) -> Verdict
+    ensures { λ v. ⌜ v ≡ claimOf wrong r ⌝ }
+{
+    if wrong {
+        return Verdict::Refused(r);
     }
     Verdict::Fine
 }
 
-// A call with nothing wrong: what later functions fill in.
-pub fn no_faults() -> Faults
-    ensures { λ r. ⌜ r ≡ Rattle.parts.specs.Refusals.noFaults ⌝ }
+// Of two verdicts the one that is given: the order of document 01.
+pub fn sooner(a: Verdict, b: Verdict) -> Verdict
+    ensures { λ v. ⌜ v ≡ soonerOf a b ⌝ }
 {
-    Faults {
-        part: false,
-        enable: false,
-        buffer: false,
-        state: false,
-        many: false,
-        event: false,
-        place: 0,
-        short: false,
-        beyond: false,
-        limit: false,
-        image: false,
+    let Verdict::Refused(r) = a else {
+        return b;
+    };
+    let Verdict::Refused(s) = b else {
+        return a;
+    };
+    let x = rank(r);
+    let y = rank(s);
+    if y < x {
+        return b;
     }
+    a
+}
+
+// Refusals 1 and 3: no such part, or lent buffers that are not the part's.
+pub fn lent_verdict(f: Facts, array: usize, id: usize) -> Verdict
+    ensures { λ v. ⌜ v ≡ lentVerdictOf f array id ⌝ }
+{
+    let known = f.known;
+    let lent = buffers_right(f, array, id);
+    sooner(
+        claim(!known, Refusal::NoPart),
+        claim(!lent, Refusal::WrongBuffer),
+    )
 }

@@ -1,7 +1,7 @@
 use mathlib.Core.Path.{refl}
 use native.Mathlib.Omega.{arith}
 use borrow.Author.Tests.{not-true, not-false}
-use Rattle.bench.proofs.Laws.{fine-step, ended-is, ends-is, stored-is}
+use Rattle.bench.proofs.Laws.{fine-step, ended-is, stored-is}
 use borrow.Author.Needs.{needs}
 use Rattle.bench.proofs.end.Statement.{statement}
 use Rattle.bench.proofs.end.Tie as tie
@@ -24,7 +24,7 @@ returns-2 c =
     let a = c .before .before .before .before .before .before .before .before .before .before .before .before .before .args in
     let v = fine-step _ _ _ _ _ (c .before .before .before .before .before .before .before .before .before .before .before .before .before .pre) 4 (omega arith) in
     rw (not-false (a .due) (c .before .before .before .before .before .before .before .before .before .before .if1 .left))
-    (ended-is _ _ (a .held) _ 4 (st .result) _ v (st .ensures .0) refl, rw ends-is at (stored-is _ _ _ 4 _ _ _ v (st .ensures .1 .0) (st .ensures .1 .1)))
+    (ended-is _ _ (a .held) _ 4 (st .result) _ v (st .ensures .0) refl, stored-is _ _ _ 4 _ _ _ v (st .ensures .1 .0) (st .ensures .1 .1))
 
 pub end-spec : {M : Type 1} → statement M
 end-spec = tie.close (tie.spec returns step-requires same-length same-length-2 returns-2)

@@ -13,6 +13,7 @@ use Rattle.bench.proofs.Laws.{turn-still, turn-few, turn-fit, turn-on, 
 use Rattle.bench.proofs.Taped.{Left, left-start, left-on, left-still, left-end, not-going, two}
 use Rattle.bench.proofs.go.Statement.{statement}
 use Rattle.bench.proofs.go.Tie as tie
+use Rattle.chip.specs.Model.{ours}
 
 abbrev Inv-loop : tie.InvT-loop
 Inv-loop part enable d array₀ id₀ buffer₀ events₀ levels₀ held₀ sent₀ left₀ array id buffer events levels held sent left =
@@ -22,11 +23,11 @@ Inv-loop part enable d array₀ id₀ buffer₀ events₀ levels₀ held₀ sent
     × (length buffer ≡ length buffer₀)
     × ((held .cycles + left ≤ 6000000) × (held .clocks + left ≤ 6000000))
     × Fit part enable (held .chip) (length array₀) (length id₀)
-    × (turnsOf (factsOf part) enable d left (whole held buffer (mem array id)) ≡ turnsOf (factsOf part) enable d enough (whole held₀ buffer₀ (mem array₀ id₀)))
+    × (turnsOf (ours (factsOf part) enable) d left (whole held buffer (mem array id)) ≡ turnsOf (ours (factsOf part) enable) d enough (whole held₀ buffer₀ (mem array₀ id₀)))
     × (length events ≡ length events₀)
     × (length levels ≡ length levels₀)
     × (sent + 2 * left ≤ 12000000)
-    × Left (factsOf part) enable d left (whole held buffer (mem array id)) sent events levels (length (eventsOf (factsOf part) enable d enough (whole held₀ buffer₀ (mem array₀ id₀)))) (laidOf events₀ (eventsOf (factsOf part) enable d enough (whole held₀ buffer₀ (mem array₀ id₀)))) (laidOf levels₀ (heardOf (factsOf part) enable d enough (whole held₀ buffer₀ (mem array₀ id₀))))
+    × Left (factsOf part) enable d left (whole held buffer (mem array id)) sent events levels (length (eventsOf (ours (factsOf part) enable) d enough (whole held₀ buffer₀ (mem array₀ id₀)))) (laidOf events₀ (eventsOf (ours (factsOf part) enable) d enough (whole held₀ buffer₀ (mem array₀ id₀)))) (laidOf levels₀ (heardOf (ours (factsOf part) enable) d enough (whole held₀ buffer₀ (mem array₀ id₀))))
 
 abbrev μ-loop : tie.MeasureT-loop
 μ-loop part enable d array₀ id₀ buffer₀ events₀ levels₀ held₀ sent₀ left₀ array id buffer events levels held sent left =

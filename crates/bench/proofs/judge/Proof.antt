@@ -1,56 +1,62 @@
-use mathlib.Core.Path.{_∙_}
-use Rattle.bench.proofs.Laws.{judge-by}
+use borrow.Author.Needs.{needs}
 use Rattle.bench.specs.Calls.{benchVerdictOf}
 use Rattle.bench.proofs.judge.Statement.{statement}
 use Rattle.bench.proofs.judge.Tie as tie
 
-facts-of-requires : tie.Need-facts-of-requires
-facts-of-requires c κs = tt
-
-enables-wrong-requires : tie.Need-enables-wrong-requires
-enables-wrong-requires c κs = tt
-
-buffers-right-requires : tie.Need-buffers-right-requires
-buffers-right-requires c κs = tt
-
-in-range-requires : tie.Need-in-range-requires
-in-range-requires c κs = tt
-
 judge-requires : tie.Need-judge-requires
-judge-requires c κs = tt
+judge-requires c κs = search needs
 
-verdict-number-requires : tie.Need-verdict-number-requires
-verdict-number-requires c κs = tt
+held-verdict-requires : tie.Need-held-verdict-requires
+held-verdict-requires c κs = search needs
 
-unfit-requires : tie.Need-unfit-requires
-unfit-requires c κs = tt
+other-length-requires : tie.Need-other-length-requires
+other-length-requires c κs = search needs
 
 short-requires : tie.Need-short-requires
-short-requires c κs = tt
+short-requires c κs = search needs
 
-limited-requires : tie.Need-limited-requires
-limited-requires c κs = tt
+late-requires : tie.Need-late-requires
+late-requires c κs = search needs
 
-given-requires : tie.Need-given-requires
-given-requires c κs = tt
+claim-requires : tie.Need-claim-requires
+claim-requires c κs = search needs
+
+claim-requires-2 : tie.Need-claim-requires-2
+claim-requires-2 c κs = search needs
+
+claim-requires-3 : tie.Need-claim-requires-3
+claim-requires-3 c κs = search needs
+
+sooner-requires : tie.Need-sooner-requires
+sooner-requires c κs = search needs
+
+sooner-requires-2 : tie.Need-sooner-requires-2
+sooner-requires-2 c κs = search needs
+
+sooner-requires-3 : tie.Need-sooner-requires-3
+sooner-requires-3 c κs = search needs
+
+sooner-requires-4 : tie.Need-sooner-requires-4
+sooner-requires-4 c κs = search needs
 
 returns : tie.Need-returns
 unfolding benchVerdictOf
-returns c =
-    c .given .ensures ∙ judge-by _ _ _ _ _ _ _ _ _ _ _ _ _ _ _ _ (c .before .before .before .before .before .before .before .before .before .facts-of .ensures .0) (c .before .before .before .before .before .before .before .before .enables-wrong .ensures) (c .before .before .before .before .before .before .before .buffers-right .ensures) (c .before .before .before .before .before .before .in-range .ensures) (c .before .before .before .before .before .judge .ensures) (c .before .before .before .before .verdict-number .ensures) (c .before .before .before .unfit .ensures) (c .before .before .short .ensures) (c .before .limited .ensures)
+returns c = rw (c .sooner4 .ensures, c .before .sooner3 .ensures, c .before .before .sooner2 .ensures, c .before .before .before .sooner .ensures, c .before .before .before .before .claim3 .ensures, c .before .before .before .before .before .claim2 .ensures, c .before .before .before .before .before .before .claim .ensures, c .before .before .before .before .before .before .before .late .ensures, c .before .before .before .before .before .before .before .before .short .ensures, c .before .before .before .before .before .before .before .before .before .other-length .ensures, c .before .before .before .before .before .before .before .before .before .before .held-verdict .ensures, c .before .before .before .before .before .before .before .before .before .before .before .judge .ensures)
 
 pub judge-spec : {M : Type 1} → statement M
 judge-spec =
     tie.close
     (tie.spec
-    facts-of-requires
-    enables-wrong-requires
-    buffers-right-requires
-    in-range-requires
     judge-requires
-    verdict-number-requires
-    unfit-requires
+    held-verdict-requires
+    other-length-requires
     short-requires
-    limited-requires
-    given-requires
+    late-requires
+    claim-requires
+    claim-requires-2
+    claim-requires-3
+    sooner-requires
+    sooner-requires-2
+    sooner-requires-3
+    sooner-requires-4
     returns)

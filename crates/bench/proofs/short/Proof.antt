@@ -1,5 +1,5 @@
 use Rattle.parts.proofs.Kit.{tests}
-use Rattle.bench.specs.Held.{shortOf}
+use Rattle.bench.specs.Calls.{shortOf}
 use Rattle.bench.proofs.short.Statement.{statement}
 use Rattle.bench.proofs.short.Tie as tie
 

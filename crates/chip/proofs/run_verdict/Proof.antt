@@ -1,46 +1,46 @@
-use Rattle.chip.specs.Calls.{runVerdictOf}
 use borrow.Author.Needs.{needs}
+use Rattle.chip.specs.Calls.{runVerdictOf}
 use Rattle.chip.proofs.run_verdict.Statement.{statement}
 use Rattle.chip.proofs.run_verdict.Tie as tie
 
 facts-of-requires : tie.Need-facts-of-requires
 facts-of-requires c κs = search needs
 
-enable-right-requires : tie.Need-enable-right-requires
-enable-right-requires c κs = search needs
-
-buffers-right-requires : tie.Need-buffers-right-requires
-buffers-right-requires c κs = search needs
-
-in-range-requires : tie.Need-in-range-requires
-in-range-requires c κs = search needs
+held-verdict-requires : tie.Need-held-verdict-requires
+held-verdict-requires c κs = search needs
 
 first-bad-requires : tie.Need-first-bad-requires
 first-bad-requires c κs = search needs
 
-is-bad-requires : tie.Need-is-bad-requires
-is-bad-requires c κs = search needs
+claim-requires : tie.Need-claim-requires
+claim-requires c κs = search needs
 
-place-of-requires : tie.Need-place-of-requires
-place-of-requires c κs = search needs
+claim-requires-2 : tie.Need-claim-requires-2
+claim-requires-2 c κs = search needs
 
-given-requires : tie.Need-given-requires
-given-requires c κs = search needs
+sooner-requires : tie.Need-sooner-requires
+sooner-requires c κs = search needs
+
+sooner-requires-2 : tie.Need-sooner-requires-2
+sooner-requires-2 c κs = search needs
+
+sooner-requires-3 : tie.Need-sooner-requires-3
+sooner-requires-3 c κs = search needs
 
 returns : tie.Need-returns
 unfolding runVerdictOf
-returns c = rw (c .given .ensures, c .before .place-of .ensures, c .before .before .is-bad .ensures, c .before .before .before .first-bad .ensures, c .before .before .before .before .in-range .ensures, c .before .before .before .before .before .buffers-right .ensures, c .before .before .before .before .before .before .enable-right .ensures, c .before .before .before .before .before .before .before .facts-of .ensures .0)
+returns c = rw (c .sooner3 .ensures, c .before .sooner2 .ensures, c .before .before .sooner .ensures, c .before .before .before .claim2 .ensures, c .before .before .before .before .claim .ensures, c .before .before .before .before .before .first-bad .ensures, c .before .before .before .before .before .before .held-verdict .ensures, c .before .before .before .before .before .before .before .facts-of .ensures .0)
 
 pub run-verdict-spec : {M : Type 1} → statement M
 run-verdict-spec =
     tie.close
     (tie.spec
     facts-of-requires
-    enable-right-requires
-    buffers-right-requires
-    in-range-requires
+    held-verdict-requires
     first-bad-requires
-    is-bad-requires
-    place-of-requires
-    given-requires
+    claim-requires
+    claim-requires-2
+    sooner-requires
+    sooner-requires-2
+    sooner-requires-3
     returns)

@@ -1,38 +1,34 @@
-use Rattle.chip.specs.Calls.{stepVerdictOf}
 use borrow.Author.Needs.{needs}
+use Rattle.chip.specs.Calls.{stepVerdictOf}
 use Rattle.chip.proofs.step_verdict.Statement.{statement}
 use Rattle.chip.proofs.step_verdict.Tie as tie
 
 facts-of-requires : tie.Need-facts-of-requires
 facts-of-requires c κs = search needs
 
-enable-right-requires : tie.Need-enable-right-requires
-enable-right-requires c κs = search needs
-
-buffers-right-requires : tie.Need-buffers-right-requires
-buffers-right-requires c κs = search needs
-
-in-range-requires : tie.Need-in-range-requires
-in-range-requires c κs = search needs
+held-verdict-requires : tie.Need-held-verdict-requires
+held-verdict-requires c κs = search needs
 
 event-right-requires : tie.Need-event-right-requires
 event-right-requires c κs = search needs
 
-given-requires : tie.Need-given-requires
-given-requires c κs = search needs
+claim-requires : tie.Need-claim-requires
+claim-requires c κs = search needs
+
+sooner-requires : tie.Need-sooner-requires
+sooner-requires c κs = search needs
 
 returns : tie.Need-returns
 unfolding stepVerdictOf
-returns c = rw (c .given .ensures, c .before .event-right .ensures, c .before .before .in-range .ensures, c .before .before .before .buffers-right .ensures, c .before .before .before .before .enable-right .ensures, c .before .before .before .before .before .facts-of .ensures .0)
+returns c = rw (c .sooner .ensures, c .before .claim .ensures, c .before .before .event-right .ensures, c .before .before .before .held-verdict .ensures, c .before .before .before .before .facts-of .ensures .0)
 
 pub step-verdict-spec : {M : Type 1} → statement M
 step-verdict-spec =
     tie.close
     (tie.spec
     facts-of-requires
-    enable-right-requires
-    buffers-right-requires
-    in-range-requires
+    held-verdict-requires
     event-right-requires
-    given-requires
+    claim-requires
+    sooner-requires
     returns)

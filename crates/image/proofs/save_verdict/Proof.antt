@@ -6,8 +6,8 @@ use Rattle.image.proofs.save_verdict.Tie as tie
 facts-of-requires : tie.Need-facts-of-requires
 facts-of-requires c κs = search needs
 
-buffers-right-requires : tie.Need-buffers-right-requires
-buffers-right-requires c κs = search needs
+lent-verdict-requires : tie.Need-lent-verdict-requires
+lent-verdict-requires c κs = search needs
 
 in-range-requires : tie.Need-in-range-requires
 in-range-requires c κs = search needs
@@ -15,20 +15,32 @@ in-range-requires c κs = search needs
 image-length-requires : tie.Need-image-length-requires
 image-length-requires c κs = search needs
 
-given-requires : tie.Need-given-requires
-given-requires c κs = search needs
+claim-requires : tie.Need-claim-requires
+claim-requires c κs = search needs
+
+claim-requires-2 : tie.Need-claim-requires-2
+claim-requires-2 c κs = search needs
+
+sooner-requires : tie.Need-sooner-requires
+sooner-requires c κs = search needs
+
+sooner-requires-2 : tie.Need-sooner-requires-2
+sooner-requires-2 c κs = search needs
 
 returns : tie.Need-returns
 unfolding saveVerdictOf
-returns c = rw (c .given .ensures, c .before .image-length .ensures, c .before .before .in-range .ensures, c .before .before .before .buffers-right .ensures, c .before .before .before .before .facts-of .ensures .0)
+returns c = rw (c .sooner2 .ensures, c .before .sooner .ensures, c .before .before .claim2 .ensures, c .before .before .before .claim .ensures, c .before .before .before .before .image-length .ensures, c .before .before .before .before .before .in-range .ensures, c .before .before .before .before .before .before .lent-verdict .ensures, c .before .before .before .before .before .before .before .facts-of .ensures .0)
 
 pub save-verdict-spec : {M : Type 1} → statement M
 save-verdict-spec =
     tie.close
     (tie.spec
     facts-of-requires
-    buffers-right-requires
+    lent-verdict-requires
     in-range-requires
     image-length-requires
-    given-requires
+    claim-requires
+    claim-requires-2
+    sooner-requires
+    sooner-requires-2
     returns)

@@ -6,15 +6,29 @@ use Rattle.page.proofs.look_refusal.Tie as tie
 facts-of-requires : tie.Need-facts-of-requires
 facts-of-requires c κs = search needs
 
-faults-requires : tie.Need-faults-requires
-faults-requires c κs = search needs
+lent-verdict-requires : tie.Need-lent-verdict-requires
+lent-verdict-requires c κs = search needs
 
-given-requires : tie.Need-given-requires
-given-requires c κs = search needs
+outside-requires : tie.Need-outside-requires
+outside-requires c κs = search needs
+
+claim-requires : tie.Need-claim-requires
+claim-requires c κs = search needs
+
+sooner-requires : tie.Need-sooner-requires
+sooner-requires c κs = search needs
 
 returns : tie.Need-returns
 unfolding lookRefusalOf
-returns c = simp (c .given .ensures, c .before .faults .ensures, c .before .before .facts-of .ensures .0)
+returns c = rw (c .sooner .ensures, c .before .claim .ensures, c .before .before .outside .ensures, c .before .before .before .lent-verdict .ensures, c .before .before .before .before .facts-of .ensures .0)
 
 pub look-refusal-spec : {M : Type 1} → statement M
-look-refusal-spec = tie.close (tie.spec facts-of-requires faults-requires given-requires returns)
+look-refusal-spec =
+    tie.close
+    (tie.spec
+    facts-of-requires
+    lent-verdict-requires
+    outside-requires
+    claim-requires
+    sooner-requires
+    returns)

@@ -1,4 +1,4 @@
-use Rattle.trace.specs.Trace.{laidOf, countOf}
+use Rattle.trace.specs.Trace.{roomVerdictOf}
 use Rattle.parts.proofs.Kit.{tests}
 use mathlib.Core.Path.{_∙_}
 use borrow.Author.Needs.{needs}
@@ -6,7 +6,7 @@ use Rattle.trace.proofs.lay.Statement.{statement}
 use Rattle.trace.proofs.lay.Tie as tie
 
 returns : tie.Need-returns
-unfolding laidOf countOf
+unfolding roomVerdictOf
 returns c = (simp (tests, c .if1 .taken), simp (tests, c .if1 .taken))
 
 copy-requires : tie.Need-copy-requires
@@ -16,7 +16,7 @@ same-length : tie.Need-same-length
 same-length c = search needs
 
 returns-2 : tie.Need-returns-2
-unfolding laidOf countOf
+unfolding roomVerdictOf
 returns-2 c = (simp (tests, c .before .before .before .before .if1 .left), c .before .before .copy .ensures ∙ simp (tests, c .before .before .before .before .if1 .left))
 
 pub lay-spec : {M : Type 1} → statement M

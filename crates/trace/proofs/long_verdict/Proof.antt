@@ -1,5 +1,5 @@
-use Rattle.trace.proofs.Runs.{long-given}
 use borrow.Author.Needs.{needs}
+use Rattle.trace.specs.Trace.{longVerdictOf}
 use Rattle.trace.proofs.long_verdict.Statement.{statement}
 use Rattle.trace.proofs.long_verdict.Tie as tie
 
@@ -9,12 +9,30 @@ facts-of-requires c κs = search needs
 enable-right-requires : tie.Need-enable-right-requires
 enable-right-requires c κs = search needs
 
-given-requires : tie.Need-given-requires
-given-requires c κs = search needs
+claim-requires : tie.Need-claim-requires
+claim-requires c κs = search needs
+
+claim-requires-2 : tie.Need-claim-requires-2
+claim-requires-2 c κs = search needs
+
+sooner-requires : tie.Need-sooner-requires
+sooner-requires c κs = search needs
+
+sooner-requires-2 : tie.Need-sooner-requires-2
+sooner-requires-2 c κs = search needs
 
 returns : tie.Need-returns
-returns c = long-given (c .before .before .before .args .part) (c .before .before .before .args .enable) (c .before .before .facts-of .result) (c .before .enable-right .result) (c .given .result) (c .before .before .facts-of .ensures .0) (c .before .enable-right .ensures) (c .given .ensures)
+unfolding longVerdictOf
+returns c = rw (c .sooner2 .ensures, c .before .sooner .ensures, c .before .before .claim2 .ensures, c .before .before .before .claim .ensures, c .before .before .before .before .enable-right .ensures, c .before .before .before .before .before .facts-of .ensures .0)
 
 pub long-verdict-spec : {M : Type 1} → statement M
 long-verdict-spec =
-    tie.close (tie.spec facts-of-requires enable-right-requires given-requires returns)
+    tie.close
+    (tie.spec
+    facts-of-requires
+    enable-right-requires
+    claim-requires
+    claim-requires-2
+    sooner-requires
+    sooner-requires-2
+    returns)

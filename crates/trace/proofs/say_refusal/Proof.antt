@@ -11,8 +11,8 @@ use Rattle.trace.proofs.say_refusal.Tie as tie
 number-requires : tie.Need-number-requires
 number-requires c κs = search needs
 
-place-in-requires : tie.Need-place-in-requires
-place-in-requires c κs = search needs
+spot-of-requires : tie.Need-spot-of-requires
+spot-of-requires c κs = search needs
 
 slice-aggregate-say : tie.Need-slice-aggregate-say
 slice-aggregate-say c = search needs
@@ -40,7 +40,7 @@ returns c =
     let third = c .before .before .say-place .ensures in
     let n = c .before .before .before .before .before .before .before .before .before .before .before .before .before .before .number in (
       omega (arith, third .0, second .0, first .0, decimal-short (n .result)),
-      third .1 ∙ ap (λ (x : List ℕ). x ++ placeTextOf (c .before .before .before .before .before .before .before .before .before .before .before .before .before .place-in .result)) (second .1 ∙ ap (λ (x : List ℕ). x ++ decimalOf (n .result)) (first .1)) ∙ rw (n .ensures, c .before .before .before .before .before .before .before .before .before .before .before .before .before .place-in .ensures),
+      third .1 ∙ ap (λ (x : List ℕ). x ++ placeTextOf (c .before .before .before .before .before .before .before .before .before .before .before .before .before .spot-of .result)) (second .1 ∙ ap (λ (x : List ℕ). x ++ decimalOf (n .result)) (first .1)) ∙ rw (n .ensures, c .before .before .before .before .before .before .before .before .before .before .before .before .before .spot-of .ensures),
     )
 
 pub say-refusal-spec : {M : Type 1} → statement M
@@ -48,7 +48,7 @@ say-refusal-spec =
     tie.close
     (tie.spec
     number-requires
-    place-in-requires
+    spot-of-requires
     slice-aggregate-say
     say-requires
     cast-say-number

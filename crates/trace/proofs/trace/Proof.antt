@@ -1,4 +1,6 @@
-use Rattle.trace.specs.Trace.{laidOf, countOf}
+use mathlib.Core.List.{List}
+use Prim.Native.Nat.{ℕ}
+use Rattle.trace.specs.Trace.{layingOf}
 use lib.Seq.{length-take-le}
 use native.Mathlib.Omega.{arith}
 use denote.Ref.{now}
@@ -28,7 +30,8 @@ same-length c = search needs
 returns : tie.Need-returns
 returns c =
     let text = c .before .before .before .before .before .before .compose .ensures .1 in
-    (c .before .before .lay .ensures .0 ∙ ap (countOf (now (c .before .before .before .before .before .before .before .before .before .before .args .out))) text, c .before .before .lay .ensures .1 ∙ ap (laidOf (now (c .before .before .before .before .before .before .before .before .before .before .args .out))) text)
+    let out = now (c .before .before .before .before .before .before .before .before .before .before .args .out) in
+    (c .before .before .lay .ensures .0 ∙ ap (λ (x : List ℕ). layingOf out x .answer) text, c .before .before .lay .ensures .1 ∙ ap (λ (x : List ℕ). layingOf out x .out) text)
 
 pub trace-spec : {M : Type 1} → statement M
 trace-spec =

@@ -1,7 +1,9 @@
-use mathlib.Core.Path.{refl}
 use borrow.Author.Needs.{needs}
-use Rattle.trace.proofs.place_in.Statement.{statement}
-use Rattle.trace.proofs.place_in.Tie as tie
+use Rattle.parts.proofs.Kit.{tests}
+use mathlib.Core.Path.{sym, refl}
+use borrow.Author.Tests.{not-true, not-false}
+use Rattle.parts.proofs.entry_of.Statement.{statement}
+use Rattle.parts.proofs.entry_of.Tie as tie
 
 enum-told : tie.Need-enum-told
 enum-told c = search needs
@@ -43,46 +45,46 @@ enum-told-12 : tie.Need-enum-told-12
 enum-told-12 c = search needs
 
 returns : tie.Need-returns
-returns c = search needs
+returns c = simp (tests, c .enum-told .given .1)
 
 returns-2 : tie.Need-returns-2
-returns-2 c = search needs
+returns-2 c = simp (tests, c .enum-told2 .given .1)
 
 returns-3 : tie.Need-returns-3
-returns-3 c = search needs
+returns-3 c = simp (tests, c .enum-told3 .given .1)
 
 returns-4 : tie.Need-returns-4
-returns-4 c = search needs
+returns-4 c = simp (tests, c .enum-told4 .given .1)
 
 returns-5 : tie.Need-returns-5
-returns-5 c = rw (c .before .r .given .1) refl
+returns-5 c = simp (tests, c .before .r .given .1)
 
 returns-6 : tie.Need-returns-6
-returns-6 c = search needs
+returns-6 c = simp (tests, c .enum-told5 .given .1)
 
 returns-7 : tie.Need-returns-7
-returns-7 c = search needs
+returns-7 c = simp (tests, c .enum-told6 .given .1)
 
 returns-8 : tie.Need-returns-8
-returns-8 c = search needs
+returns-8 c = simp (tests, c .enum-told7 .given .1)
 
 returns-9 : tie.Need-returns-9
-returns-9 c = search needs
+returns-9 c = simp (tests, c .enum-told8 .given .1)
 
 returns-10 : tie.Need-returns-10
-returns-10 c = search needs
+returns-10 c = simp (tests, c .enum-told9 .given .1)
 
 returns-11 : tie.Need-returns-11
-returns-11 c = search needs
+returns-11 c = simp (tests, c .enum-told10 .given .1)
 
 returns-12 : tie.Need-returns-12
-returns-12 c = search needs
+returns-12 c = simp (tests, c .enum-told11 .given .1)
 
 returns-13 : tie.Need-returns-13
-returns-13 c = search needs
+returns-13 c = simp (tests, c .enum-told12 .given .1)
 
-pub place-in-spec : {M : Type 1} → statement M
-place-in-spec =
+pub entry-of-spec : {M : Type 1} → statement M
+entry-of-spec =
     tie.close
     (tie.spec
     enum-told
