@@ -38,7 +38,9 @@ extern "C" {
  *     4 M24256-B         32,768     64                     0   yes             0 to 7
  *     5 M24256-D         32,768     64                    64   yes             0 to 7
  *
- * What a chip stores stands in two buffers that the caller lends to each call: the array, and the identification page (`id`). */
+ * What a chip stores stands in two buffers that the caller lends to each call: the array, and the identification page (`id`). On a part
+ * without such a page its length is 0, and nothing is read or written there: `id` may then point to any byte of the caller's, but is
+ * not NULL. */
 #define SAPWOODLE_ARRAY_MOST 32768
 #define SAPWOODLE_ID_MOST 64
 
@@ -186,10 +188,11 @@ unsigned char sapwoodle_bench_run(unsigned char part, unsigned char enable, unsi
     unsigned char *data, unsigned long data_length,
     unsigned long *polls, unsigned long *bytes, unsigned long *cycles, unsigned long *clocks);
 
-/* ---- the trace program: a typed trace in, what the program prints out, `refused N` too. Answers the number of bytes written, at most
- * 32,800; 0 where `out` is too short for them, and then it is as before. */
-unsigned long sapwoodle_trace(const unsigned char *text, unsigned long text_length,
-    unsigned char *out, unsigned long out_length);
+/* ---- the trace program: a typed trace in, what the program prints out, `refused N` too. `length` gets the number of bytes written, at
+ * most 32,800. Refused with 6 where `out` is too short for them: it is then as before, and `length` gets 0. */
+unsigned char sapwoodle_trace(const unsigned char *text, unsigned long text_length,
+    unsigned char *out, unsigned long out_length,
+    unsigned long *length);
 
 /* ---- lengths: of the array and the identification page of a part, 0 for a number that is no part; and the two above */
 unsigned long sapwoodle_array_length(unsigned char part);

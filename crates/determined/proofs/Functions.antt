@@ -30,8 +30,12 @@ use Rattle.determined.specs.Functions.{
   ByteAtDetermined,
   NumberDetermined,
   VerdictNumberDetermined,
-  GivenDetermined,
-  NoFaultsDetermined,
+  SpotOfDetermined,
+  VerdictPlaceDetermined,
+  ClaimDetermined,
+  SoonerDetermined,
+  LentVerdictDetermined,
+  HeldVerdictDetermined,
   IsHighDetermined,
   SendDetermined,
   AdvanceDetermined,
@@ -92,11 +96,23 @@ number-determined = plainly (λ κs a u v. refl)
 pub verdict-number-determined : VerdictNumberDetermined
 verdict-number-determined = plainly (λ κs a u v. refl)
 
-pub given-determined : GivenDetermined
-given-determined = plainly (λ κs a u v. refl)
+pub spot-of-determined : SpotOfDetermined
+spot-of-determined = plainly (λ κs a u v. refl)
 
-pub no-faults-determined : NoFaultsDetermined
-no-faults-determined = plainly (λ κs a u v. refl)
+pub verdict-place-determined : VerdictPlaceDetermined
+verdict-place-determined = plainly (λ κs a u v. refl)
+
+pub claim-determined : ClaimDetermined
+claim-determined = plainly (λ κs a u v. refl)
+
+pub sooner-determined : SoonerDetermined
+sooner-determined = plainly (λ κs a u v. refl)
+
+pub lent-verdict-determined : LentVerdictDetermined
+lent-verdict-determined = plainly (λ κs a u v. refl)
+
+pub held-verdict-determined : HeldVerdictDetermined
+held-verdict-determined = plainly (λ κs a u v. refl)
 
 pub is-high-determined : IsHighDetermined
 is-high-determined = plainly (λ κs a u v. refl)
@@ -301,5 +317,5 @@ pub sapwoodle-trace-determined : SapwoodleTraceDetermined
 sapwoodle-trace-determined = record {
   taken = λ κs a. tt;
   equal = λ κs a x y p q. same (agree (p .0) (q .0))
-      (λ i. (tt, (agree (p .1) (q .1) i, tt)));
+      (λ i. (tt, (agree (p .1 .0) (q .1 .0) i, (agree (p .1 .1) (q .1 .1) i, tt))));
 }

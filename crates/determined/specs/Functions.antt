@@ -12,12 +12,16 @@ use Rattle.parts.proofs.flag as flag
 use Rattle.parts.proofs.byte_at as byte-at
 use Rattle.parts.proofs.number as number
 use Rattle.parts.proofs.verdict_number as verdict-number
-use Rattle.parts.proofs.given as given
-use Rattle.parts.proofs.no_faults as no-faults
+use Rattle.parts.proofs.spot_of as spot-of
+use Rattle.parts.proofs.verdict_place as verdict-place
+use Rattle.parts.proofs.claim as claim
+use Rattle.parts.proofs.sooner as sooner
+use Rattle.parts.proofs.lent_verdict as lent-verdict
 use Rattle.line.proofs.is_high as is-high
 use Rattle.line.proofs.send as send
 use Rattle.line.proofs.advance as advance
 use Rattle.state.proofs.in_range as in-range
+use Rattle.chip.proofs.held_verdict as held-verdict
 use Rattle.chip.proofs.standby as standby
 use Rattle.chip.proofs.deliver as deliver
 use Rattle.chip.proofs.step as step
@@ -91,11 +95,20 @@ NumberDetermined = Determined number.ended number.Reads.Asked number.Reads.Learn
 abbrev pub VerdictNumberDetermined : Type 0
 VerdictNumberDetermined = Determined verdict-number.ended verdict-number.Reads.Asked verdict-number.Reads.Learnt
 
-abbrev pub GivenDetermined : Type 0
-GivenDetermined = Determined given.ended given.Reads.Asked given.Reads.Learnt
+abbrev pub SpotOfDetermined : Type 0
+SpotOfDetermined = Determined spot-of.ended spot-of.Reads.Asked spot-of.Reads.Learnt
 
-abbrev pub NoFaultsDetermined : Type 0
-NoFaultsDetermined = Determined no-faults.ended no-faults.Reads.Asked no-faults.Reads.Learnt
+abbrev pub VerdictPlaceDetermined : Type 0
+VerdictPlaceDetermined = Determined verdict-place.ended verdict-place.Reads.Asked verdict-place.Reads.Learnt
+
+abbrev pub ClaimDetermined : Type 0
+ClaimDetermined = Determined claim.ended claim.Reads.Asked claim.Reads.Learnt
+
+abbrev pub SoonerDetermined : Type 0
+SoonerDetermined = Determined sooner.ended sooner.Reads.Asked sooner.Reads.Learnt
+
+abbrev pub LentVerdictDetermined : Type 0
+LentVerdictDetermined = Determined lent-verdict.ended lent-verdict.Reads.Asked lent-verdict.Reads.Learnt
 
 -- ---- line
 
@@ -114,6 +127,9 @@ abbrev pub InRangeDetermined : Type 0
 InRangeDetermined = Determined in-range.ended in-range.Reads.Asked in-range.Reads.Learnt
 
 -- ---- chip
+
+abbrev pub HeldVerdictDetermined : Type 0
+HeldVerdictDetermined = Determined held-verdict.ended held-verdict.Reads.Asked held-verdict.Reads.Learnt
 
 abbrev pub StandbyDetermined : Type 0
 StandbyDetermined = Determined standby.ended standby.Reads.Asked standby.Reads.Learnt

@@ -7,15 +7,12 @@ use lib.ListN.{length}
 use lib.Dec.{eqb}
 use Rattle.parts.specs.declared.Verdict.{Verdict}
 use Rattle.parts.specs.Table.{factsOf}
-use Rattle.parts.specs.Refusals.{verdictNumberOf}
-use Rattle.chip.specs.Model.{ours}
-use Rattle.chip.specs.declared.Stepped.{Stepped}
-use Rattle.chip.specs.declared.Ran.{Ran}
+use Rattle.parts.specs.Refusals.{verdictNumberOf, verdictPlaceOf}
 use Rattle.chip.specs.Memory.{Mem}
 use Rattle.chip.specs.Delivery.{standbyOf}
-use Rattle.chip.specs.Calls.{deliverVerdictOf, deliverMem, stepVerdictOf, stepBy, stepMem, runVerdictOf, runBy, runMem, runAnswers}
+use Rattle.chip.specs.Calls.{deliverVerdictOf, deliverMem, stepOf, runOf}
 use Rattle.pack_chip.specs.Layout.{packedLength, unpackedOf}
-use Rattle.sapwoodle.specs.Answers.{placeOf, keptOf, unheldOf}
+use Rattle.sapwoodle.specs.Answers.{keptOf, unheldOf}
 
 -- ---- what a call answers, and each lent byte after it: of the part, the enable, the state's bytes, what is stored, and the rest
 
@@ -41,39 +38,27 @@ pub record AfterDeliver : Type 0 where
 
 -- ---- one event
 
-abbrev pub stepVerdict : ℕ → ℕ → List ℕ → Mem → ℕ → Verdict
-stepVerdict part enable s m e = stepVerdictOf part enable (unpackedOf s) (length (m .cells)) (length (m .ident)) e
-
-abbrev pub steppedOf : ℕ → ℕ → List ℕ → Mem → ℕ → Stepped
-steppedOf part enable s m e = stepBy (ours (factsOf part) enable) (unpackedOf s) m e (stepVerdict part enable s m e)
-
 abbrev pub stepping : ℕ → ℕ → List ℕ → Mem → ℕ → AfterStep
 stepping part enable s m e =
     record {
-      number = verdictNumberOf (steppedOf part enable s m e .verdict);
-      level = steppedOf part enable s m e .level;
-      cycles = steppedOf part enable s m e .cycles;
-      state = keptOf (steppedOf part enable s m e .verdict) (steppedOf part enable s m e .chip) s;
-      stored = stepMem (ours (factsOf part) enable) (unpackedOf s) m e (stepVerdict part enable s m e);
+      number = verdictNumberOf (stepOf part enable (unpackedOf s) m e .answer .verdict);
+      level = stepOf part enable (unpackedOf s) m e .answer .level;
+      cycles = stepOf part enable (unpackedOf s) m e .answer .cycles;
+      state = keptOf (stepOf part enable (unpackedOf s) m e .answer .verdict) (stepOf part enable (unpackedOf s) m e .answer .chip) s;
+      stored = stepOf part enable (unpackedOf s) m e .mem;
     }
 
 -- ---- a list of events
 
-abbrev pub runVerdict : ℕ → ℕ → List ℕ → Mem → List ℕ → List ℕ → Verdict
-runVerdict part enable s m es a = runVerdictOf part enable (unpackedOf s) (length (m .cells)) (length (m .ident)) es (length a)
-
-abbrev pub ranOf : ℕ → ℕ → List ℕ → Mem → List ℕ → List ℕ → Ran
-ranOf part enable s m es a = runBy (ours (factsOf part) enable) (unpackedOf s) es (runVerdict part enable s m es a)
-
 abbrev pub running : ℕ → ℕ → List ℕ → Mem → List ℕ → List ℕ → AfterRun
 running part enable s m es a =
     record {
-      number = verdictNumberOf (ranOf part enable s m es a .verdict);
-      cycles = ranOf part enable s m es a .cycles;
-      place = placeOf (ranOf part enable s m es a .verdict);
-      state = keptOf (ranOf part enable s m es a .verdict) (ranOf part enable s m es a .chip) s;
-      stored = runMem (ours (factsOf part) enable) (unpackedOf s) m es (runVerdict part enable s m es a);
-      answers = runAnswers (ours (factsOf part) enable) (unpackedOf s) m es a (runVerdict part enable s m es a);
+      number = verdictNumberOf (runOf part enable (unpackedOf s) m es a .answer .verdict);
+      cycles = runOf part enable (unpackedOf s) m es a .answer .cycles;
+      place = verdictPlaceOf (runOf part enable (unpackedOf s) m es a .answer .verdict);
+      state = keptOf (runOf part enable (unpackedOf s) m es a .answer .verdict) (runOf part enable (unpackedOf s) m es a .answer .chip) s;
+      stored = runOf part enable (unpackedOf s) m es a .mem;
+      answers = runOf part enable (unpackedOf s) m es a .answers;
     }
 
 -- ---- delivery

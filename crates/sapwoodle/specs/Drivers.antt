@@ -1,14 +1,15 @@
 -- What the driver's functions leave for callers that hold bytes only: the number answered, and each lent byte.
 -- Assumes nothing.
 use Prim.Native.Nat.{ℕ}
-use mathlib.Core.Bool.{Bool, true, false, cond, not}
+use mathlib.Core.Bool.{Bool, true, cond, not}
 use mathlib.Core.List.{List}
 use lib.ListN.{length}
 use lib.Dec.{eqb, ltb}
+use Rattle.parts.specs.declared.Refusal.the-variants.{NoPart, WrongEnable, BadState}
 use Rattle.parts.specs.declared.Verdict.{Verdict}
 use Rattle.parts.specs.declared.Verdict.the-variants.{Fine, Refused as Judged}
 use Rattle.parts.specs.Table.{factsOf, enableRightOf}
-use Rattle.parts.specs.Refusals.{numberOf, verdictNumberOf, givenOf}
+use Rattle.parts.specs.Refusals.{numberOf, verdictNumberOf, claimOf, soonerOf}
 use Rattle.driver.specs.declared.Place.{Place}
 use Rattle.driver.specs.declared.Place.the-variants.{Array, Ident}
 use Rattle.driver.specs.declared.Request.{Request}
@@ -46,8 +47,8 @@ pub record AfterBegin : Type 0 where
 -- the refusal where the driver has no room: 1, 2 or 4
 unfoldable pub roomlessOf : ℕ → ℕ → Verdict
 roomlessOf part enable =
-    givenOf
-    record { part = not (factsOf part .known); enable = not (enableRightOf (factsOf part) enable); buffer = false; state = true; many = false; event = false; place = 0; short = false; beyond = false; limit = false; image = false }
+    soonerOf (claimOf (not (factsOf part .known)) NoPart)
+    (soonerOf (claimOf (not (enableRightOf (factsOf part) enable)) WrongEnable) (Judged BadState))
 
 unfoldable pub beginVerdict : Request → List ℕ → Verdict
 beginVerdict r s = cond (eqb (length s) packedLength) (judgeOf r) (roomlessOf (r .part) (r .enable))
@@ -76,7 +77,7 @@ pub record AfterNext : Type 0 where
 
 -- 4 is the one refusal that says nothing of a driver; 9 to 11 end it, and its bytes say so
 unfoldable pub keptOf : ℕ → Driver → List ℕ → List ℕ
-keptOf number d s = cond (eqb number 4) s (packInto s d)
+keptOf number d s = cond (eqb number (numberOf BadState)) s (packInto s d)
 
 -- of the driver's bytes, the level told and the data buffer
 abbrev pub asking : List ℕ → ℕ → List ℕ → AfterNext

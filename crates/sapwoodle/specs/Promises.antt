@@ -8,25 +8,23 @@ use mathlib.Core.Bool.{true, false}
 use mathlib.Core.List.{List}
 use lib.ListN.{length}
 use Rattle.parts.specs.declared.Refusal.{Refusal}
-use Rattle.parts.specs.declared.Verdict.{Verdict}
+use Rattle.parts.specs.declared.Refusal.the-variants.{BadState}
 use Rattle.parts.specs.declared.Verdict.the-variants.{Refused}
 use Rattle.parts.specs.Table.{factsOf, idSizeOf, enableRightOf}
-use Rattle.parts.specs.Refusals.{numberOf, verdictNumberOf}
+use Rattle.parts.specs.Refusals.{numberOf, verdictNumberOf, verdictPlaceOf}
 use Rattle.parts.specs.Bytes.{AllBelow}
 use Rattle.state.specs.declared.Chip.{Chip}
-use Rattle.chip.specs.Model.{ours}
 use Rattle.chip.specs.Memory.{Mem}
 use Rattle.chip.specs.Delivery.{standbyOf}
-use Rattle.chip.specs.Calls.{stepVerdictOf, stepBy, stepMem, runVerdictOf, runBy, runMem, runAnswers}
+use Rattle.chip.specs.Calls.{stepOf, runOf}
 use Rattle.image.specs.Layout.{partIn, lockIn}
 use Rattle.image.specs.Calls.{saving}
 use Rattle.driver.specs.declared.Request.{Request}
 use Rattle.driver.specs.Step.{fresh, nextOf}
-use Rattle.bench.specs.Calls.{benchVerdictOf, benchBy, benchMem, benchBuffer}
+use Rattle.bench.specs.Calls.{benchVerdict, benchOf}
 use Rattle.pack_chip.specs.Layout.{packedOf, holdsOf, unpackedOf}
 use Rattle.pack_chip.specs.Promises.{Fits}
 use Rattle.pack_driver.specs.Layout.{holdsOf as holdsDriver, unpackedOf as unpackedDriver}
-use Rattle.sapwoodle.specs.Answers.{placeOf}
 use Rattle.sapwoodle.specs.Chips.{AfterStep, AfterRun, AfterDeliver}
 use Rattle.sapwoodle.specs.Images.{AfterSave, AfterLoad}
 use Rattle.sapwoodle.specs.Drivers.{requestOf, AfterBegin, AfterNext}
@@ -65,29 +63,27 @@ DeliverKeeps deliver =
 
 abbrev pub StepIsChips : Stepping → Type 0
 StepIsChips step =
-    (part enable : ℕ) (c : Chip) (m : Mem) (e : ℕ) (v : Verdict) → Fits c
-    → stepVerdictOf part enable c (length (m .cells)) (length (m .ident)) e ≡ v
+    (part enable : ℕ) (c : Chip) (m : Mem) (e : ℕ) → Fits c
     → step part enable (packedOf c) m e
     ≡ record {
-      number = verdictNumberOf v;
-      level = stepBy (ours (factsOf part) enable) c m e v .level;
-      cycles = stepBy (ours (factsOf part) enable) c m e v .cycles;
-      state = packedOf (stepBy (ours (factsOf part) enable) c m e v .chip);
-      stored = stepMem (ours (factsOf part) enable) c m e v;
+      number = verdictNumberOf (stepOf part enable c m e .answer .verdict);
+      level = stepOf part enable c m e .answer .level;
+      cycles = stepOf part enable c m e .answer .cycles;
+      state = packedOf (stepOf part enable c m e .answer .chip);
+      stored = stepOf part enable c m e .mem;
     }
 
 abbrev pub RunIsChips : Running → Type 0
 RunIsChips run =
-    (part enable : ℕ) (c : Chip) (m : Mem) (es a : List ℕ) (v : Verdict) → Fits c
-    → runVerdictOf part enable c (length (m .cells)) (length (m .ident)) es (length a) ≡ v
+    (part enable : ℕ) (c : Chip) (m : Mem) (es a : List ℕ) → Fits c
     → run part enable (packedOf c) m es a
     ≡ record {
-      number = verdictNumberOf v;
-      cycles = runBy (ours (factsOf part) enable) c es v .cycles;
-      place = placeOf v;
-      state = packedOf (runBy (ours (factsOf part) enable) c es v .chip);
-      stored = runMem (ours (factsOf part) enable) c m es v;
-      answers = runAnswers (ours (factsOf part) enable) c m es a v;
+      number = verdictNumberOf (runOf part enable c m es a .answer .verdict);
+      cycles = runOf part enable c m es a .answer .cycles;
+      place = verdictPlaceOf (runOf part enable c m es a .answer .verdict);
+      state = packedOf (runOf part enable c m es a .answer .chip);
+      stored = runOf part enable c m es a .mem;
+      answers = runOf part enable c m es a .answers;
     }
 
 -- what is delivered is held
@@ -106,7 +102,7 @@ StepRefuses4 step =
     → length (m .cells) ≡ factsOf part .size
     → length (m .ident) ≡ idSizeOf (factsOf part)
     → holdsOf s ≡ false
-    → step part enable s m e .number ≡ 4
+    → step part enable s m e .number ≡ numberOf BadState
 
 abbrev pub RunRefuses4 : Running → Type 0
 RunRefuses4 run =
@@ -116,7 +112,7 @@ RunRefuses4 run =
     → length (m .cells) ≡ factsOf part .size
     → length (m .ident) ≡ idSizeOf (factsOf part)
     → holdsOf s ≡ false
-    → run part enable s m es a .number ≡ 4
+    → run part enable s m es a .number ≡ numberOf BadState
 
 -- ======== the image
 
@@ -175,7 +171,7 @@ BeginKeeps begin = (r : Request) (s : List ℕ) → (begin r s .number ≡ 0 →
 
 abbrev pub NextKeeps : Asking → Type 0
 NextKeeps next =
-    (s : List ℕ) (level : ℕ) (b : List ℕ) → AllBelow 256 s → next s level b .told .number ≡ 4
+    (s : List ℕ) (level : ℕ) (b : List ℕ) → AllBelow 256 s → next s level b .told .number ≡ numberOf BadState
     → (next s level b .state ≡ s) × (next s level b .buffer ≡ b)
 
 -- ---- the bytes hold the driver that was begun, and the one after each step
@@ -188,13 +184,13 @@ BeginHolds begin =
 
 abbrev pub NextHolds : Asking → Type 0
 NextHolds next =
-    (s : List ℕ) (level : ℕ) (b : List ℕ) → AllBelow 256 s → (next s level b .told .number ≡ 4 → ⊥)
+    (s : List ℕ) (level : ℕ) (b : List ℕ) → AllBelow 256 s → (next s level b .told .number ≡ numberOf BadState → ⊥)
     → (holdsDriver (next s level b .state) ≡ true) × (unpackedDriver (next s level b .state) ≡ nextOf (unpackedDriver s) level b .driver)
 
 -- ---- bytes that hold no driver are refused with 4
 
 abbrev pub NextRefuses4 : Asking → Type 0
-NextRefuses4 next = (s : List ℕ) (level : ℕ) (b : List ℕ) → holdsDriver s ≡ false → next s level b .told .number ≡ 4
+NextRefuses4 next = (s : List ℕ) (level : ℕ) (b : List ℕ) → holdsDriver s ≡ false → next s level b .told .number ≡ numberOf BadState
 
 -- ======== driver and chip together
 
@@ -206,7 +202,7 @@ Benching = Request → ℕ → ℕ → List ℕ → Mem → List ℕ → AfterBe
 abbrev pub BenchKeeps : Benching → Type 0
 BenchKeeps bench =
     (r : Request) (enable d : ℕ) (s : List ℕ) (m : Mem) (b : List ℕ) (x : Refusal) → AllBelow 256 s
-    → benchVerdictOf r enable d (unpackedOf s) (length (m .cells)) (length (m .ident)) (length b) ≡ Refused x
+    → benchVerdict r enable d (unpackedOf s) m b ≡ Refused x
     → (bench r enable d s m b .number ≡ numberOf x)
     × (bench r enable d s m b .state ≡ s)
     × (bench r enable d s m b .stored ≡ m)
@@ -215,16 +211,15 @@ BenchKeeps bench =
 -- on the bytes of a state a run is the bench's own, and leaves the bytes of the state after it
 abbrev pub BenchIsBenchs : Benching → Type 0
 BenchIsBenchs bench =
-    (r : Request) (enable d : ℕ) (c : Chip) (m : Mem) (b : List ℕ) (v : Verdict) → Fits c
-    → benchVerdictOf r enable d c (length (m .cells)) (length (m .ident)) (length b) ≡ v
+    (r : Request) (enable d : ℕ) (c : Chip) (m : Mem) (b : List ℕ) → Fits c
     → bench r enable d (packedOf c) m b
     ≡ record {
-      number = verdictNumberOf (benchBy r enable d c m b v .verdict);
-      polls = benchBy r enable d c m b v .polls;
-      bytes = benchBy r enable d c m b v .bytes;
-      cycles = benchBy r enable d c m b v .cycles;
-      clocks = benchBy r enable d c m b v .clocks;
-      state = packedOf (benchBy r enable d c m b v .chip);
-      stored = benchMem r enable d c m b v;
-      buffer = benchBuffer r enable d c m b v;
+      number = verdictNumberOf (benchOf r enable d c m b .report .verdict);
+      polls = benchOf r enable d c m b .report .polls;
+      bytes = benchOf r enable d c m b .report .bytes;
+      cycles = benchOf r enable d c m b .report .cycles;
+      clocks = benchOf r enable d c m b .report .clocks;
+      state = packedOf (benchOf r enable d c m b .report .chip);
+      stored = benchOf r enable d c m b .mem;
+      buffer = benchOf r enable d c m b .buffer;
     }

@@ -3,15 +3,12 @@
 use Prim.Native.Nat.{ℕ}
 use mathlib.Core.Bool.{cond}
 use mathlib.Core.List.{List}
-use lib.ListN.{length}
-use Rattle.parts.specs.declared.Verdict.{Verdict}
 use Rattle.parts.specs.Refusals.{verdictNumberOf}
 use Rattle.state.specs.declared.Chip.{Chip}
 use Rattle.chip.specs.Memory.{Mem}
 use Rattle.pack_chip.specs.Layout.{packInto, holdsOf, unpackedOf}
 use Rattle.driver.specs.declared.Request.{Request}
-use Rattle.bench.specs.declared.Report.{Report}
-use Rattle.bench.specs.Calls.{benchVerdictOf, benchBy, benchMem, benchBuffer}
+use Rattle.bench.specs.Calls.{benchOf}
 
 pub record AfterBench : Type 0 where
   pub number : ℕ
@@ -23,12 +20,6 @@ pub record AfterBench : Type 0 where
   pub stored : Mem
   pub buffer : List ℕ
 
-abbrev pub benchVerdict : Request → ℕ → ℕ → List ℕ → Mem → List ℕ → Verdict
-benchVerdict r enable d s m b = benchVerdictOf r enable d (unpackedOf s) (length (m .cells)) (length (m .ident)) (length b)
-
-abbrev pub reportedOf : Request → ℕ → ℕ → List ℕ → Mem → List ℕ → Report
-reportedOf r enable d s m b = benchBy r enable d (unpackedOf s) m b (benchVerdict r enable d s m b)
-
 -- bytes that hold no state stay as they were; a refused call leaves its chip as it was, and so its bytes
 unfoldable pub keptOf : List ℕ → Chip → List ℕ
 keptOf s c = cond (holdsOf s) (packInto s c) s
@@ -37,12 +28,12 @@ keptOf s c = cond (holdsOf s) (packInto s c) s
 abbrev pub benching : Request → ℕ → ℕ → List ℕ → Mem → List ℕ → AfterBench
 benching r enable d s m b =
     record {
-      number = verdictNumberOf (reportedOf r enable d s m b .verdict);
-      polls = reportedOf r enable d s m b .polls;
-      bytes = reportedOf r enable d s m b .bytes;
-      cycles = reportedOf r enable d s m b .cycles;
-      clocks = reportedOf r enable d s m b .clocks;
-      state = keptOf s (reportedOf r enable d s m b .chip);
-      stored = benchMem r enable d (unpackedOf s) m b (benchVerdict r enable d s m b);
-      buffer = benchBuffer r enable d (unpackedOf s) m b (benchVerdict r enable d s m b);
+      number = verdictNumberOf (benchOf r enable d (unpackedOf s) m b .report .verdict);
+      polls = benchOf r enable d (unpackedOf s) m b .report .polls;
+      bytes = benchOf r enable d (unpackedOf s) m b .report .bytes;
+      cycles = benchOf r enable d (unpackedOf s) m b .report .cycles;
+      clocks = benchOf r enable d (unpackedOf s) m b .report .clocks;
+      state = keptOf s (benchOf r enable d (unpackedOf s) m b .report .chip);
+      stored = benchOf r enable d (unpackedOf s) m b .mem;
+      buffer = benchOf r enable d (unpackedOf s) m b .buffer;
     }

@@ -80,6 +80,6 @@ pub extern "C" fn sapwoodle_run(
     let verdict = r.verdict;
     let next = r.chip;
     *cycles = r.cycles;
-    *at = answers::place(verdict);
+    *at = parts::verdict_place(verdict);
     answers::settle(verdict, next, state)
 }

@@ -17,8 +17,8 @@ use driver::Driver;
 use driver::Place;
 use driver::Request;
 use parts::ArrayAddress;
-use parts::Faults;
 use parts::IdLocation;
+use parts::Refusal;
 use parts::Verdict;
 
 // An answer of the driver as numbers.
@@ -97,19 +97,12 @@ fn roomless(part: u8, enable: u8) -> Verdict
     let f = parts::facts_of(part);
     let known = f.known;
     let enabled = parts::enable_right(f, enable);
-    parts::given(Faults {
-        part: !known,
-        enable: !enabled,
-        buffer: false,
-        state: true,
-        many: false,
-        event: false,
-        place: 0,
-        short: false,
-        beyond: false,
-        limit: false,
-        image: false,
-    })
+    let part = parts::claim(!known, Refusal::NoPart);
+    let named = parts::claim(!enabled, Refusal::WrongEnable);
+    parts::sooner(
+        part,
+        parts::sooner(named, Verdict::Refused(Refusal::BadState)),
+    )
 }
 
 fn keep_begun(verdict: Verdict, begun: Driver, state: &mut [u8])
@@ -179,7 +172,8 @@ fn spoken(answer: Answer) -> Told
 fn keep(number: u8, next: Driver, state: &mut [u8])
     ensures { λ _. ⌜ now (state .exit) ≡ keptOf number next (now (state .entry)) ⌝ }
 {
-    if number == 4 {
+    let unfit = parts::number(Refusal::BadState);
+    if number == unfit {
         return;
     }
     pack_driver::pack(next, state);

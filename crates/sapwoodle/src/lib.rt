@@ -7,9 +7,10 @@ pub mod runs;
 
 ghost use mathlib.Core.Path.{_≡_};
 ghost use Rattle.parts.specs.Table.{factsOf, idSizeOf};
+ghost use Rattle.parts.specs.Refusals.{verdictNumberOf};
 ghost use Rattle.pack_chip.specs.Layout.{packedLength};
 ghost use Rattle.pack_driver.specs.Layout.{packedLength as driverLength};
-ghost use Rattle.trace.specs.Trace.{traceOf, laidOf, countOf};
+ghost use Rattle.trace.specs.Trace.{traceOf, layingOf};
 ghost use Rattle.sapwoodle.specs.Lengths.{arrayLengthOf};
 
 // ---- lengths
@@ -50,9 +51,13 @@ pub extern "C" fn sapwoodle_driver_length() -> usize
 // ---- a trace
 
 #[no_mangle]
-pub extern "C" fn sapwoodle_trace(text: &[u8], out: &mut [u8]) -> usize
-    ensures count { λ r. ⌜ r ≡ countOf (now (out .entry)) (traceOf (now (text .entry))) ⌝ }
-    ensures text { λ r. ⌜ now (out .exit) ≡ laidOf (now (out .entry)) (traceOf (now (text .entry))) ⌝ }
+pub extern "C" fn sapwoodle_trace(text: &[u8], out: &mut [u8], length: &mut usize) -> u8
+    ensures answer { λ r. ⌜ r ≡ verdictNumberOf (layingOf (now (out .entry)) (traceOf (now (text .entry))) .answer .verdict) ⌝ }
+    ensures text { λ _. ⌜ now (out .exit) ≡ layingOf (now (out .entry)) (traceOf (now (text .entry))) .out ⌝ }
+    ensures length { λ _. ⌜ now (length .exit) ≡ layingOf (now (out .entry)) (traceOf (now (text .entry))) .answer .length ⌝ }
 {
-    trace::trace(text, out)
+    let t = trace::trace(text, out);
+    let verdict = t.verdict;
+    *length = t.length;
+    parts::verdict_number(verdict)
 }

@@ -2,13 +2,16 @@
 -- Assumes nothing.
 use Prim.Native.Nat.{ℕ, zero, suc, _<_}
 use mathlib.Core.Path.{_≡_, refl}
-use mathlib.Core.Bool.{Bool}
+use mathlib.Core.Bool.{Bool, not}
 use native.Mathlib.Omega.{arith}
-use lib.ListN.{replicate}
+use lib.ListN.{length, replicate}
 use Rattle.parts.specs.declared.Facts.{Facts}
-use Rattle.parts.specs.declared.Verdict.the-variants.{Fine}
+use Rattle.parts.specs.declared.Refusal.the-variants.{WrongEnable, BadState}
+use Rattle.parts.specs.declared.Verdict.the-variants.{Fine, Refused}
+use Rattle.parts.specs.Table.{factsOf, enableRightOf}
 use Rattle.parts.specs.Bytes.{AllBelow}
-use Rattle.parts.proofs.Laws.{faultless}
+use Rattle.parts.specs.Refusals.{claimOf, soonerOf, lentVerdictOf}
+use Rattle.parts.proofs.Claims.{refused-not, sooner-fine}
 use Rattle.chip.specs.Memory.{Mem, noLatch}
 use Rattle.chip.specs.Delivery.{standbyOf}
 use Rattle.pack_chip.specs.Promises.{Fits}
@@ -17,7 +20,10 @@ use Rattle.sapwoodle.specs.Answers.{unheldOf}
 -- where no state is held, the call is refused
 pub unheld-refused : (part enable : ℕ) (m : Mem) → unheldOf part enable m ≡ Fine → ⊥
 unfolding unheldOf
-unheld-refused part enable m h = let z : _≡_ {A = ℕ} 0 1 = cc (faultless _ h .state) in omega arith
+unheld-refused part enable m h =
+    let named = claimOf (not (enableRightOf (factsOf part) enable)) WrongEnable in
+    let u = sooner-fine (lentVerdictOf (factsOf part) (length (m .cells)) (length (m .ident))) (soonerOf named (Refused BadState)) h in
+    refused-not (sooner-fine named (Refused BadState) (u .1) .1)
 
 -- ---- a chip in standby is packed
 

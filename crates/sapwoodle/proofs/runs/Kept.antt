@@ -13,6 +13,7 @@ use Rattle.pack_chip.specs.Layout.{packedLength, packedOf, packInto, holdsOf, u
 use Rattle.pack_chip.specs.Promises.{Fits}
 use Rattle.pack_chip.proofs.Laws.{holds-long}
 use Rattle.pack_chip.proofs.Kept.{packs-back, unpacks-back}
+use Rattle.bench.specs.Calls.{benchOf}
 use Rattle.sapwoodle.specs.Runs.{keptOf, benching}
 use Rattle.sapwoodle.specs.Promises.{BenchKeeps, BenchIsBenchs}
 
@@ -34,4 +35,4 @@ unfolding keptOf
 kept-over c n f = rw (packs-back c f .1) (into (packedOf c) n (packs-back c f .1))
 
 pub bench-is-benchs : BenchIsBenchs benching
-bench-is-benchs r enable d c m b v f h = rw (packs-back c f .2, h, kept-over c _ f) refl
+bench-is-benchs r enable d c m b f = rw (packs-back c f .2, kept-over c (benchOf r enable d c m b .report .chip) f) refl

@@ -9,8 +9,8 @@ unpack-requires c κs = search needs
 run-requires : tie.Need-run-requires
 run-requires c κs = search needs
 
-place-requires : tie.Need-place-requires
-place-requires c κs = search needs
+verdict-place-requires : tie.Need-verdict-place-requires
+verdict-place-requires c κs = search needs
 
 settle-requires : tie.Need-settle-requires
 settle-requires c κs = search needs
@@ -32,7 +32,7 @@ returns c =
     let u = c .before .before .before .before .before .before .before .before .before .before .before .before .before .before .before .before .unpack .ensures in
     let s = c .before .before .before .before .before .before .before .before .before .before .before .before .run .ensures in
     let k = c .before .before .settle .ensures in
-    (rw (k .0, s .0, u) refl, (rw (k .1, s .0, u) refl, (rw (s .1 .0, u) refl, (rw (s .1 .1, u) refl, (rw (s .0, u) refl, rw (c .before .before .before .before .place .ensures, s .0, u) refl)))))
+    (rw (k .0, s .0, u) refl, (rw (k .1, s .0, u) refl, (rw (s .1 .0, u) refl, (rw (s .1 .1, u) refl, (rw (s .0, u) refl, rw (c .before .before .before .before .verdict-place .ensures, s .0, u) refl)))))
 
 pub sapwoodle-run-spec : {M : Type 1} → statement M
 sapwoodle-run-spec =
@@ -40,7 +40,7 @@ sapwoodle-run-spec =
     (tie.spec
     unpack-requires
     run-requires
-    place-requires
+    verdict-place-requires
     settle-requires
     same-length
     same-length-2

@@ -4,9 +4,12 @@ use borrow.Author.Needs.{needs}
 use Rattle.sapwoodle.proofs.drivers.keep.Statement.{statement}
 use Rattle.sapwoodle.proofs.drivers.keep.Tie as tie
 
+number-requires : tie.Need-number-requires
+number-requires c κs = search needs
+
 returns : tie.Need-returns
 unfolding keptOf
-returns c = simp (tests, c .if1 .taken)
+returns c = simp (tests, ← c .before .number .ensures, c .if1 .taken)
 
 pack-requires : tie.Need-pack-requires
 pack-requires c κs = search needs
@@ -16,7 +19,7 @@ same-length c = search needs
 
 returns-2 : tie.Need-returns-2
 unfolding keptOf
-returns-2 c = simp (tests, c .before .before .before .before .if1 .left) (c .before .before .pack .ensures .1)
+returns-2 c = simp (tests, ← c .before .before .before .before .before .number .ensures, c .before .before .before .before .if1 .left) (c .before .before .pack .ensures .1)
 
 pub keep-spec : {M : Type 1} → statement M
-keep-spec = tie.close (tie.spec returns pack-requires same-length returns-2)
+keep-spec = tie.close (tie.spec number-requires returns pack-requires same-length returns-2)

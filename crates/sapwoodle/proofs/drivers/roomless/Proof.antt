@@ -1,6 +1,4 @@
-use mathlib.Core.Path.{refl}
 use borrow.Author.Needs.{needs}
-use mathlib.Core.Path.{refl}
 use Rattle.sapwoodle.specs.Drivers.{roomlessOf}
 use Rattle.sapwoodle.proofs.drivers.roomless.Statement.{statement}
 use Rattle.sapwoodle.proofs.drivers.roomless.Tie as tie
@@ -11,12 +9,30 @@ facts-of-requires c κs = search needs
 enable-right-requires : tie.Need-enable-right-requires
 enable-right-requires c κs = search needs
 
-given-requires : tie.Need-given-requires
-given-requires c κs = search needs
+claim-requires : tie.Need-claim-requires
+claim-requires c κs = search needs
+
+claim-requires-2 : tie.Need-claim-requires-2
+claim-requires-2 c κs = search needs
+
+sooner-requires : tie.Need-sooner-requires
+sooner-requires c κs = search needs
+
+sooner-requires-2 : tie.Need-sooner-requires-2
+sooner-requires-2 c κs = search needs
 
 returns : tie.Need-returns
 unfolding roomlessOf
-returns c = rw (c .given .ensures, c .before .enable-right .ensures, c .before .before .facts-of .ensures .0) refl
+returns c = rw (c .sooner2 .ensures, c .before .sooner .ensures, c .before .before .claim2 .ensures, c .before .before .before .claim .ensures, c .before .before .before .before .enable-right .ensures, c .before .before .before .before .before .facts-of .ensures .0)
 
 pub roomless-spec : {M : Type 1} → statement M
-roomless-spec = tie.close (tie.spec facts-of-requires enable-right-requires given-requires returns)
+roomless-spec =
+    tie.close
+    (tie.spec
+    facts-of-requires
+    enable-right-requires
+    claim-requires
+    claim-requires-2
+    sooner-requires
+    sooner-requires-2
+    returns)
