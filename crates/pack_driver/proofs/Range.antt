@@ -55,7 +55,7 @@ use Rattle.pack_driver.proofs.Kept.{all-small, small-all}
 -- ---- bytes that hold none
 
 none-range : (n : ℕ) → rangeOf noDriver n ≡ false
-unfolding rangeOf judgeOf soonerOf factsOf
+unfolding rangeOf judgeOf soonerOf factsOf enableRightOf beyondAt limitOf
 none-range n = refl
 
 pub refuses-others : RefusesOthers unpackedOf
