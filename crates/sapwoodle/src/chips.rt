@@ -68,12 +68,18 @@ pub extern "C" fn sapwoodle_run(
     cycles: &mut usize,
     at: &mut usize,
 ) -> u8
-    ensures answer { λ r. ⌜ r ≡ running part enable (now (state .entry)) (mem (now (array .entry)) (now (id .entry))) (now (events .entry)) (now (answers .entry)) .number ⌝ }
-    ensures state { λ _. ⌜ now (state .exit) ≡ running part enable (now (state .entry)) (mem (now (array .entry)) (now (id .entry))) (now (events .entry)) (now (answers .entry)) .state ⌝ }
-    ensures stored { λ _. ⌜ mem (now (array .exit)) (now (id .exit)) ≡ running part enable (now (state .entry)) (mem (now (array .entry)) (now (id .entry))) (now (events .entry)) (now (answers .entry)) .stored ⌝ }
-    ensures levels { λ _. ⌜ now (answers .exit) ≡ running part enable (now (state .entry)) (mem (now (array .entry)) (now (id .entry))) (now (events .entry)) (now (answers .entry)) .answers ⌝ }
-    ensures cycles { λ _. ⌜ now (cycles .exit) ≡ running part enable (now (state .entry)) (mem (now (array .entry)) (now (id .entry))) (now (events .entry)) (now (answers .entry)) .cycles ⌝ }
-    ensures place { λ _. ⌜ now (at .exit) ≡ running part enable (now (state .entry)) (mem (now (array .entry)) (now (id .entry))) (now (events .entry)) (now (answers .entry)) .place ⌝ }
+    ensures answer { λ r. ⌜ r
+        ≡ running part enable (now (state .entry)) (mem (now (array .entry)) (now (id .entry))) (now (events .entry)) (now (answers .entry)) .number ⌝ }
+    ensures state { λ _. ⌜ now (state .exit)
+        ≡ running part enable (now (state .entry)) (mem (now (array .entry)) (now (id .entry))) (now (events .entry)) (now (answers .entry)) .state ⌝ }
+    ensures stored { λ _. ⌜ mem (now (array .exit)) (now (id .exit))
+        ≡ running part enable (now (state .entry)) (mem (now (array .entry)) (now (id .entry))) (now (events .entry)) (now (answers .entry)) .stored ⌝ }
+    ensures levels { λ _. ⌜ now (answers .exit)
+        ≡ running part enable (now (state .entry)) (mem (now (array .entry)) (now (id .entry))) (now (events .entry)) (now (answers .entry)) .answers ⌝ }
+    ensures cycles { λ _. ⌜ now (cycles .exit)
+        ≡ running part enable (now (state .entry)) (mem (now (array .entry)) (now (id .entry))) (now (events .entry)) (now (answers .entry)) .cycles ⌝ }
+    ensures place { λ _. ⌜ now (at .exit)
+        ≡ running part enable (now (state .entry)) (mem (now (array .entry)) (now (id .entry))) (now (events .entry)) (now (answers .entry)) .place ⌝ }
 {
     let chip = pack_chip::unpack(state);
     let r = chip::run(part, enable, chip, array, id, events, answers);

@@ -15,9 +15,12 @@ pub extern "C" fn sapwoodle_save(
     out: &mut [u8],
     written: &mut usize,
 ) -> u8
-    ensures answer { λ r. ⌜ r ≡ savingOf part (now (state .entry)) (mem (now (array .entry)) (now (id .entry))) (now (out .entry)) .number ⌝ }
-    ensures bytes { λ _. ⌜ now (out .exit) ≡ savingOf part (now (state .entry)) (mem (now (array .entry)) (now (id .entry))) (now (out .entry)) .out ⌝ }
-    ensures written { λ _. ⌜ now (written .exit) ≡ savingOf part (now (state .entry)) (mem (now (array .entry)) (now (id .entry))) (now (out .entry)) .written ⌝ }
+    ensures answer { λ r. ⌜ r
+        ≡ savingOf part (now (state .entry)) (mem (now (array .entry)) (now (id .entry))) (now (out .entry)) .number ⌝ }
+    ensures bytes { λ _. ⌜ now (out .exit)
+        ≡ savingOf part (now (state .entry)) (mem (now (array .entry)) (now (id .entry))) (now (out .entry)) .out ⌝ }
+    ensures written { λ _. ⌜ now (written .exit)
+        ≡ savingOf part (now (state .entry)) (mem (now (array .entry)) (now (id .entry))) (now (out .entry)) .written ⌝ }
 {
     let chip = pack_chip::unpack(state);
     let s = image::save(part, chip, array, id, out);
@@ -56,11 +59,16 @@ pub extern "C" fn sapwoodle_load(
     id: &mut [u8],
     part: &mut u8,
 ) -> u8
-    ensures answer { λ r. ⌜ r ≡ loadingOf (now (image .entry)) enable (now (state .entry)) (mem (now (array .entry)) (now (id .entry))) .number ⌝ }
-    ensures state { λ _. ⌜ now (state .exit) ≡ loadingOf (now (image .entry)) enable (now (state .entry)) (mem (now (array .entry)) (now (id .entry))) .state ⌝ }
-    ensures cells { λ _. ⌜ now (array .exit) ≡ loadingOf (now (image .entry)) enable (now (state .entry)) (mem (now (array .entry)) (now (id .entry))) .stored .cells ⌝ }
-    ensures ident { λ _. ⌜ now (id .exit) ≡ loadingOf (now (image .entry)) enable (now (state .entry)) (mem (now (array .entry)) (now (id .entry))) .stored .ident ⌝ }
-    ensures part { λ _. ⌜ now (part .exit) ≡ loadingOf (now (image .entry)) enable (now (state .entry)) (mem (now (array .entry)) (now (id .entry))) .part ⌝ }
+    ensures answer { λ r. ⌜ r
+        ≡ loadingOf (now (image .entry)) enable (now (state .entry)) (mem (now (array .entry)) (now (id .entry))) .number ⌝ }
+    ensures state { λ _. ⌜ now (state .exit)
+        ≡ loadingOf (now (image .entry)) enable (now (state .entry)) (mem (now (array .entry)) (now (id .entry))) .state ⌝ }
+    ensures cells { λ _. ⌜ now (array .exit)
+        ≡ loadingOf (now (image .entry)) enable (now (state .entry)) (mem (now (array .entry)) (now (id .entry))) .stored .cells ⌝ }
+    ensures ident { λ _. ⌜ now (id .exit)
+        ≡ loadingOf (now (image .entry)) enable (now (state .entry)) (mem (now (array .entry)) (now (id .entry))) .stored .ident ⌝ }
+    ensures part { λ _. ⌜ now (part .exit)
+        ≡ loadingOf (now (image .entry)) enable (now (state .entry)) (mem (now (array .entry)) (now (id .entry))) .part ⌝ }
 {
     let own = part_in(image);
     *part = own;

@@ -36,14 +36,30 @@ pub extern "C" fn sapwoodle_bench_run(
     cycles: &mut usize,
     clocks: &mut usize,
 ) -> u8
-    ensures answer { λ r. ⌜ r ≡ benching (requestOf part enable what at length budget) own d (now (state .entry)) (mem (now (array .entry)) (now (id .entry))) (now (buffer .entry)) .number ⌝ }
-    ensures state { λ _. ⌜ now (state .exit) ≡ benching (requestOf part enable what at length budget) own d (now (state .entry)) (mem (now (array .entry)) (now (id .entry))) (now (buffer .entry)) .state ⌝ }
-    ensures stored { λ _. ⌜ mem (now (array .exit)) (now (id .exit)) ≡ benching (requestOf part enable what at length budget) own d (now (state .entry)) (mem (now (array .entry)) (now (id .entry))) (now (buffer .entry)) .stored ⌝ }
-    ensures buffer { λ _. ⌜ now (buffer .exit) ≡ benching (requestOf part enable what at length budget) own d (now (state .entry)) (mem (now (array .entry)) (now (id .entry))) (now (buffer .entry)) .buffer ⌝ }
-    ensures polls { λ _. ⌜ now (polls .exit) ≡ benching (requestOf part enable what at length budget) own d (now (state .entry)) (mem (now (array .entry)) (now (id .entry))) (now (buffer .entry)) .polls ⌝ }
-    ensures bytes { λ _. ⌜ now (bytes .exit) ≡ benching (requestOf part enable what at length budget) own d (now (state .entry)) (mem (now (array .entry)) (now (id .entry))) (now (buffer .entry)) .bytes ⌝ }
-    ensures cycles { λ _. ⌜ now (cycles .exit) ≡ benching (requestOf part enable what at length budget) own d (now (state .entry)) (mem (now (array .entry)) (now (id .entry))) (now (buffer .entry)) .cycles ⌝ }
-    ensures clocks { λ _. ⌜ now (clocks .exit) ≡ benching (requestOf part enable what at length budget) own d (now (state .entry)) (mem (now (array .entry)) (now (id .entry))) (now (buffer .entry)) .clocks ⌝ }
+    ensures answer { λ r. ⌜ r
+        ≡ benching (requestOf part enable what at length budget) own d (now (state .entry))
+        (mem (now (array .entry)) (now (id .entry))) (now (buffer .entry)) .number ⌝ }
+    ensures state { λ _. ⌜ now (state .exit)
+        ≡ benching (requestOf part enable what at length budget) own d (now (state .entry))
+        (mem (now (array .entry)) (now (id .entry))) (now (buffer .entry)) .state ⌝ }
+    ensures stored { λ _. ⌜ mem (now (array .exit)) (now (id .exit))
+        ≡ benching (requestOf part enable what at length budget) own d (now (state .entry))
+        (mem (now (array .entry)) (now (id .entry))) (now (buffer .entry)) .stored ⌝ }
+    ensures buffer { λ _. ⌜ now (buffer .exit)
+        ≡ benching (requestOf part enable what at length budget) own d (now (state .entry))
+        (mem (now (array .entry)) (now (id .entry))) (now (buffer .entry)) .buffer ⌝ }
+    ensures polls { λ _. ⌜ now (polls .exit)
+        ≡ benching (requestOf part enable what at length budget) own d (now (state .entry))
+        (mem (now (array .entry)) (now (id .entry))) (now (buffer .entry)) .polls ⌝ }
+    ensures bytes { λ _. ⌜ now (bytes .exit)
+        ≡ benching (requestOf part enable what at length budget) own d (now (state .entry))
+        (mem (now (array .entry)) (now (id .entry))) (now (buffer .entry)) .bytes ⌝ }
+    ensures cycles { λ _. ⌜ now (cycles .exit)
+        ≡ benching (requestOf part enable what at length budget) own d (now (state .entry))
+        (mem (now (array .entry)) (now (id .entry))) (now (buffer .entry)) .cycles ⌝ }
+    ensures clocks { λ _. ⌜ now (clocks .exit)
+        ≡ benching (requestOf part enable what at length budget) own d (now (state .entry))
+        (mem (now (array .entry)) (now (id .entry))) (now (buffer .entry)) .clocks ⌝ }
 {
     let asked = drivers::request(part, enable, what, at, length, budget);
     let chip = pack_chip::unpack(state);
