@@ -4,7 +4,6 @@ use Prim.Native.Nat.{ℕ}
 use mathlib.Core.Bool.{Bool, false, cond}
 use mathlib.Core.List.{List}
 use lib.ListN.{set, replicate}
-use lib.Dec.{eqb}
 use Rattle.parts.specs.declared.Facts.{Facts}
 use Rattle.parts.specs.Table.{factsOf, idSizeOf}
 use Rattle.line.specs.declared.Pin.{Pin}
@@ -22,13 +21,13 @@ pinAtFirstOf f = cond (f .pin) Floating Absent
 unfoldable pub standbyOf : Facts → Bool → Chip
 standbyOf f lock = record { line = at record { counter = 0; pin = pinAtFirstOf f; inhibited = false; locked = lock } Idle; latch = noLatch }
 
--- the device identification code of part 1 (source document 002, Table 4)
+-- the device identification code of a part that has one (source document 002, Table 4)
 unfoldable pub codedOf : List ℕ → List ℕ
 codedOf d = set (set (set d 0 0x20) 1 0xE0) 2 0x0B
 
 -- every byte FFh, but for that code
 unfoldable pub deliveredIdOf : ℕ → List ℕ
-deliveredIdOf part = cond (eqb part 1) (codedOf (replicate (idSizeOf (factsOf part)) 255)) (replicate (idSizeOf (factsOf part)) 255)
+deliveredIdOf part = cond (factsOf part .coded) (codedOf (replicate (idSizeOf (factsOf part)) 255)) (replicate (idSizeOf (factsOf part)) 255)
 
 unfoldable pub deliveredOf : ℕ → Mem
 deliveredOf part = mem (replicate (factsOf part .size) 255) (deliveredIdOf part)

@@ -321,22 +321,9 @@ turns-end r xs c m d n w b u lo hi h =
     (write-ends r xs c m b (choices f (r .enable) d n y) w u (in-time (G r xs c m b) (sane r xs c m b) d lo n y (start-holds r xs c m b) tt hi) (omega (arith, choices-asked f (r .enable) d n y)))
 
 -- ---- the turns are enough
-page-few : (n : ℕ) → factsOf n .size ≤ 512 * factsOf n .page
-unfolding factsOf
-page-few n =
-    branch Q (eqb n 0) (λ _. omega arith) (λ _.
-    branch Q (eqb n 1) (λ _. omega arith) (λ _.
-    branch Q (eqb n 2) (λ _. omega arith) (λ _.
-    branch Q (eqb n 3) (λ _. omega arith) (λ _.
-    branch Q (eqb n 4) (λ _. omega arith) (λ _.
-    branch Q (eqb n 5) (λ _. omega arith) (λ _. omega arith))))))
-  where
-    Q : Facts → Type 0
-    Q f = f .size ≤ 512 * f .page
-
 room-few : (n : ℕ) (p : Place) → roomOf (factsOf n) p ≤ 512 * factsOf n .page
 unfolding idSizeOf
-room-few n (Array a) = page-few n
+room-few n (Array a) = sound n .pagesMost
 room-few n (Ident i) = branch (λ (x : ℕ). x ≤ 512 * factsOf n .page) (factsOf n .ident) (λ _. omega arith) (λ _. omega arith)
 
 pages-few : (P a n : ℕ) → 0 < P → a + n ≤ 512 * P → pagesMetOf P a n ≤ 512

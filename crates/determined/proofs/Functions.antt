@@ -20,6 +20,7 @@ use Rattle.determined.specs.Functions.{
   SapwoodleBenchRunDetermined,
   SapwoodleTraceDetermined,
   FactsOfDetermined,
+  NameOfDetermined,
   IdSizeDetermined,
   BuffersRightDetermined,
   AddressBytesDetermined,
@@ -65,6 +66,9 @@ use Rattle.determined.proofs.Answers.{agree, same, plainly}
 
 pub facts-of-determined : FactsOfDetermined
 facts-of-determined = record { taken = λ κs a. tt; equal = λ κs a x y p q. same (agree (p .0) (q .0)) refl }
+
+pub name-of-determined : NameOfDetermined
+name-of-determined = record { taken = λ κs a. tt; equal = λ κs a x y p q. same (agree (p .0) (q .0)) refl }
 
 pub id-size-determined : IdSizeDetermined
 id-size-determined = plainly (λ κs a u v. refl)

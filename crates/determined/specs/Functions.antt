@@ -2,6 +2,7 @@
 -- function's own, as it stands in src/: nothing of it is copied here, and a clause that is weakened there is weakened here.
 -- Assumes nothing.
 use Rattle.parts.proofs.facts_of as facts-of
+use Rattle.parts.proofs.name_of as name-of
 use Rattle.parts.proofs.id_size as id-size
 use Rattle.parts.proofs.buffers_right as buffers-right
 use Rattle.parts.proofs.address_bytes as address-bytes
@@ -64,6 +65,9 @@ use Rattle.determined.specs.Determined.{Determined, DeterminedAs, part}
 
 abbrev pub FactsOfDetermined : Type 0
 FactsOfDetermined = Determined facts-of.ended facts-of.Reads.Asked facts-of.Reads.Learnt
+
+abbrev pub NameOfDetermined : Type 0
+NameOfDetermined = Determined name-of.ended name-of.Reads.Asked name-of.Reads.Learnt
 
 abbrev pub IdSizeDetermined : Type 0
 IdSizeDetermined = Determined id-size.ended id-size.Reads.Asked id-size.Reads.Learnt

@@ -6,6 +6,8 @@ use Prim.Native.Nat.{ℕ, zero, suc, _+_, _-_, _*_, _/_, _%_, _^_}
 use mathlib.Core.Bool.{Bool, true, false, not, cond, _&&_, _||_}
 use lib.Dec.{eqb}
 use Rattle.parts.specs.declared.Facts.{Facts}
+use Rattle.parts.specs.declared.ArrayAddress.{ArrayAddress}
+use Rattle.parts.specs.declared.IdLocation.{IdLocation}
 use Rattle.parts.specs.declared.Event.{Event}
 use Rattle.parts.specs.declared.Event.the-variants.{Clock, Start, Stop, Ends, PinLow, PinHigh, PinFloat, Reset, Unknown}
 use Rattle.parts.specs.Bytes.{flagOf}
@@ -91,18 +93,29 @@ selectedOf f c b (Hit t false) = goes c (Receive (firstOf f t b)) Keep
 
 -- ---- rule 2: address
 
--- bits above the array size are ignored. Latches are places in the counter's page, so none is kept when it is loaded
--- (after a Start there is none; a state from outside may hold some)
-unfoldable pub loadArrayOf : Facts → Core → ℕ → After
-loadArrayOf f c a = goes (counting c (a % f .size)) (Receive (Fill Array false)) Drop
+-- bits above the array size are ignored
+abbrev pub arrayAddressOf : Facts → ℕ → ArrayAddress
+arrayAddressOf f a = record { 0 = a % f .size }
 
--- the location is the address modulo P; one bit chooses: 0 write identification page, 1 lock
-unfoldable pub loadIdOf : Facts → Core → ℕ → After
-loadIdOf f c a = goes (counting c (a % f .page)) (Receive (cond (bitOn a (f .lock)) LockByte (Fill Ident false))) Drop
+-- the location is the address modulo P
+abbrev pub locationOf : Facts → ℕ → IdLocation
+locationOf f a = record { 0 = a % f .page }
+
+-- one bit chooses: 0 write identification page, 1 lock
+abbrev pub asksLockOf : Facts → ℕ → Bool
+asksLockOf f a = bitOn a (f .lock)
+
+-- a load copies a number of its own numbering. Latches are places in the counter's page, so none is kept when it is loaded
+-- (after a Start there is none; a state from outside may hold some)
+unfoldable pub loadArrayOf : Core → ArrayAddress → After
+loadArrayOf c a = goes (counting c (a .0)) (Receive (Fill Array false)) Drop
+
+unfoldable pub loadIdOf : Core → IdLocation → Bool → After
+loadIdOf c at lock = goes (counting c (at .0)) (Receive (cond lock LockByte (Fill Ident false))) Drop
 
 unfoldable pub loadedOf : Facts → Core → Target → ℕ → After
-loadedOf f c Array a = loadArrayOf f c a
-loadedOf f c Ident a = loadIdOf f c a
+loadedOf f c Array a = loadArrayOf c (arrayAddressOf f a)
+loadedOf f c Ident a = loadIdOf c (locationOf f a) (asksLockOf f a)
 
 -- ---- rules 3, 4, 5: data, inhibition, lock
 

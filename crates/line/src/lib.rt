@@ -1,8 +1,8 @@
 // One bus event on the state of a chip, without its latches and its memory: they stand in the layer above.
 ghost use mathlib.Core.Path.{_≡_};
-ghost use Prim.Native.Nat.{_+_, _*_};
+ghost use Prim.Native.Nat.{_+_, _*_, _<_};
 ghost use Rattle.parts.specs.Table.{factsOf};
-ghost use Rattle.line.specs.Rules.{isHigh, at, givenUp, rollOf, beforeOf, onwardOf, enabledOf, namedOf, decodeOf, firstOf, selectedOf, loadArrayOf, loadIdOf, loadedOf, refusesOf, latchedOf, takenOf, filledOf, lockedByOf, endedByOf, markedIn, receivedOf, receiveActOf, receiveLevelOf, releasedIn, movedOf, sentOf, sendLevelOf, clockedOf, clockActOf, clockLevelOf, startedOf, startActOf, asksOf, placedOf, dueOf, stoppedOf, stopActOf, stopBegunOf, endedOf, endActOf, pinnedOf, resetOf, opened, marked, quietly, moveOf};
+ghost use Rattle.line.specs.Rules.{isHigh, at, givenUp, rollOf, beforeOf, onwardOf, enabledOf, namedOf, decodeOf, firstOf, selectedOf, arrayAddressOf, locationOf, asksLockOf, loadArrayOf, loadIdOf, loadedOf, refusesOf, latchedOf, takenOf, filledOf, lockedByOf, endedByOf, markedIn, receivedOf, receiveActOf, receiveLevelOf, releasedIn, movedOf, sentOf, sendLevelOf, clockedOf, clockActOf, clockLevelOf, startedOf, startActOf, asksOf, placedOf, dueOf, stoppedOf, stopActOf, stopBegunOf, endedOf, endActOf, pinnedOf, resetOf, opened, marked, quietly, moveOf};
 use parts::ArrayAddress;
 use parts::Event;
 use parts::IdLocation;
@@ -232,14 +232,49 @@ fn select(part: u8, core: Core, byte: u8, heard: Heard) -> After
     }
 }
 
-// ---- rule 2: each load takes its own numbering
+// ---- rule 2: the two numbers are made here, whole; each load takes its own and only copies it
 
-fn load_array(part: u8, core: Core, a: ArrayAddress) -> After
-    ensures { λ r. ⌜ r ≡ loadArrayOf (factsOf part) core (a .0) ⌝ }
+// The address that two bytes make.
+fn address(high: u8, low: u8) -> usize
+    ensures { λ r. ⌜ r ≡ high * 256 + low ⌝ }
+{
+    (high as usize) * 256 + (low as usize)
+}
+
+// Bits above the array size are ignored.
+fn array_address(part: u8, a: usize) -> ArrayAddress
+    ensures { λ r. ⌜ r ≡ arrayAddressOf (factsOf part) a ⌝ }
+    ensures range { λ r. ⌜ r .0 < 65536 ⌝ }
 {
     let f = parts::facts_of(part);
     let size = f.size;
-    let n = (a.0 % size) as u16;
+    let n = a % size;
+    ArrayAddress(n)
+}
+
+fn location(part: u8, a: usize) -> IdLocation
+    ensures { λ r. ⌜ r ≡ locationOf (factsOf part) a ⌝ }
+    ensures range { λ r. ⌜ r .0 < 65536 ⌝ }
+{
+    let f = parts::facts_of(part);
+    let p = f.page;
+    let n = a % p;
+    IdLocation(n)
+}
+
+fn asks_lock(part: u8, a: usize) -> bool
+    ensures { λ r. ⌜ r ≡ asksLockOf (factsOf part) a ⌝ }
+{
+    let f = parts::facts_of(part);
+    let weight = f.lock;
+    a / weight % 2 == 1
+}
+
+fn load_array(core: Core, a: ArrayAddress) -> After
+    requires { ⌜ a .0 < 65536 ⌝ }
+    ensures { λ r. ⌜ r ≡ loadArrayOf core a ⌝ }
+{
+    let n = a.0 as u16;
     After {
         core: Core { counter: n, ..core },
         phase: Phase::Receive(Recv::Fill(Target::Array, false)),
@@ -247,14 +282,12 @@ fn load_array(part: u8, core: Core, a: ArrayAddress) -> After
     }
 }
 
-fn load_id(part: u8, core: Core, a: IdLocation) -> After
-    ensures { λ r. ⌜ r ≡ loadIdOf (factsOf part) core (a .0) ⌝ }
+fn load_id(core: Core, at: IdLocation, lock: bool) -> After
+    requires { ⌜ at .0 < 65536 ⌝ }
+    ensures { λ r. ⌜ r ≡ loadIdOf core at lock ⌝ }
 {
-    let f = parts::facts_of(part);
-    let p = f.page;
-    let weight = f.lock;
-    let n = (a.0 % p) as u16;
-    if a.0 / weight % 2 == 1 {
+    let n = at.0 as u16;
+    if lock {
         return After {
             core: Core { counter: n, ..core },
             phase: Phase::Receive(Recv::LockByte),
@@ -268,19 +301,19 @@ fn load_id(part: u8, core: Core, a: IdLocation) -> After
     }
 }
 
-// The address that two bytes make.
-fn address(high: u8, low: u8) -> usize
-    ensures { λ r. ⌜ r ≡ high * 256 + low ⌝ }
-{
-    (high as usize) * 256 + (low as usize)
-}
-
 fn load(part: u8, core: Core, target: Target, a: usize) -> After
     ensures { λ r. ⌜ r ≡ loadedOf (factsOf part) core target a ⌝ }
 {
     match target {
-        Target::Array => load_array(part, core, ArrayAddress(a)),
-        Target::Ident => load_id(part, core, IdLocation(a)),
+        Target::Array => {
+            let at = array_address(part, a);
+            load_array(core, at)
+        }
+        Target::Ident => {
+            let at = location(part, a);
+            let lock = asks_lock(part, a);
+            load_id(core, at, lock)
+        }
     }
 }
 

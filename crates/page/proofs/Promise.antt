@@ -9,7 +9,7 @@ use native.Mathlib.Omega.{arith}
 use lib.Dec.{eqb}
 use lib.ListN.{length, take, drop, getD, length-take, length-drop}
 use lib.Seq.{getD-take, getD-drop, take-all}
-use borrow.Author.Tests.{le-leb, lt-leb, ne-eqb, eqb-true, eqb-false}
+use borrow.Author.Tests.{le-leb, lt-leb, ne-eqb, eqb-true}
 use Rattle.parts.specs.declared.ArrayAddress.{ArrayAddress}
 use Rattle.parts.specs.declared.Facts.{Facts}
 use Rattle.parts.specs.declared.Refusal.{Refusal}
@@ -18,33 +18,13 @@ use Rattle.parts.specs.declared.Verdict.{Verdict}
 use Rattle.parts.specs.declared.Verdict.the-variants.{Fine, Refused}
 use Rattle.parts.specs.Table.{factsOf, idSizeOf, buffersRightOf}
 use Rattle.parts.specs.Refusals.{rankOf, verdictNumberOf, claimOf, soonerOf, lentVerdictOf}
-use Rattle.parts.proofs.Laws.{branch, fine, buffers-right}
+use Rattle.parts.proofs.Laws.{known, unknown, branch, fine, buffers-right}
 use Rattle.parts.proofs.Claims.{fine-lent, lent-unknown, lent-wrong, later-claim, given-first}
 use Rattle.page.specs.declared.Place.{Place}
 use Rattle.page.specs.declared.Place.the-variants.{Array, Ident}
 use Rattle.page.specs.Look.{outsideOf, lookRefusalOf, pageStartOf, lookSpanOf, lookOf, shownOf, pageSpanOf, ofArray}
 use Rattle.page.specs.Promise.{Lengths, RefusesRightly, IsPage, ShowsPages, LiesInBuffer}
 use Rattle.page.proofs.Laws.{room, accepted}
-
--- ---- "part above 5"
-
-pub unknown : (part : ℕ) → 5 < part → factsOf part .known ≡ false
-unfolding factsOf
-unknown part h = simp (ne-eqb part 0 (λ e. omega arith), ne-eqb part 1 (λ e. omega arith), ne-eqb part 2 (λ e. omega arith), ne-eqb part 3 (λ e. omega arith), ne-eqb part 4 (λ e. omega arith), ne-eqb part 5 (λ e. omega arith))
-
-abbrev Known : Facts → Type 0
-Known f = f .known ≡ true
-
-pub known : (part : ℕ) → part ≤ 5 → factsOf part .known ≡ true
-unfolding factsOf
-known part h =
-    branch Known (eqb part 0) (λ _. refl) (λ h0.
-    branch Known (eqb part 1) (λ _. refl) (λ h1.
-    branch Known (eqb part 2) (λ _. refl) (λ h2.
-    branch Known (eqb part 3) (λ _. refl) (λ h3.
-    branch Known (eqb part 4) (λ _. refl) (λ h4.
-    branch Known (eqb part 5) (λ _. refl) (λ h5.
-    absurd (omega (arith, eqb-false part 0 h0, eqb-false part 1 h1, eqb-false part 2 h2, eqb-false part 3 h3, eqb-false part 4 h4, eqb-false part 5 h5))))))))
 
 -- ---- the refusals
 

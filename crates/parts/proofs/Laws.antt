@@ -1,14 +1,16 @@
 -- Laws of the part table, of a verdict's number, of events and buffers.
 -- Assumes nothing.
 use mathlib.Core.Path.{_≡_, refl}
-use Prim.Native.Nat.{ℕ, zero, suc, _<_}
+use Prim.Native.Nat.{ℕ, zero, suc, _<_, _≤_}
 use mathlib.Core.Bool.{Bool, true, false, cond}
 use native.Mathlib.Omega.{arith}
 use lib.Dec.{eqb}
-use borrow.Author.Tests.{eq-eqb}
+use lib.ListN.{length}
+use borrow.Author.Tests.{eq-eqb, ne-eqb, eqb-false}
 use Rattle.parts.specs.declared.Facts.{Facts}
+use Rattle.parts.specs.declared.Part.{Part}
 use Rattle.parts.specs.declared.Event.the-variants.{Clock}
-use Rattle.parts.specs.Table.{factsOf, idSizeOf, buffersRightOf}
+use Rattle.parts.specs.Table.{tableOf, factsOf, nameOf, idSizeOf, buffersRightOf}
 use Rattle.parts.specs.Events.{eventOf}
 use Rattle.parts.specs.Sound.{Sound}
 use Rattle.parts.specs.declared.Refusal.{Refusal}
@@ -22,15 +24,50 @@ pub branch {ℓ κ} : {A : Type ℓ} (Q : A → Type κ) (b : Bool) {x y : A} �
 branch Q true f g = f refl
 branch Q false f g = g refl
 
+-- every row keeps to the ranges
+row-right : (n : ℕ) → Sound (tableOf n .facts) × (tableOf n .name .length ≤ 11) × (length (tableOf n .name .bytes) ≡ 11)
+row-right n =
+    branch Q (eqb n 0) (λ _. omega arith) (λ _.
+    branch Q (eqb n 1) (λ _. omega arith) (λ _.
+    branch Q (eqb n 2) (λ _. omega arith) (λ _.
+    branch Q (eqb n 3) (λ _. omega arith) (λ _.
+    branch Q (eqb n 4) (λ _. omega arith) (λ _.
+    branch Q (eqb n 5) (λ _. omega arith) (λ _. omega arith))))))
+  where
+    Q : Part → Type 0
+    Q p = Sound (p .facts) × (p .name .length ≤ 11) × (length (p .name .bytes) ≡ 11)
+
 pub sound : (n : ℕ) → Sound (factsOf n)
 unfolding factsOf
-sound n =
-    branch Sound (eqb n 0) (λ _. omega arith) (λ _.
-    branch Sound (eqb n 1) (λ _. omega arith) (λ _.
-    branch Sound (eqb n 2) (λ _. omega arith) (λ _.
-    branch Sound (eqb n 3) (λ _. omega arith) (λ _.
-    branch Sound (eqb n 4) (λ _. omega arith) (λ _.
-    branch Sound (eqb n 5) (λ _. omega arith) (λ _. omega arith))))))
+sound n = row-right n .0
+
+pub name-fits : (n : ℕ) → (nameOf n .length ≤ 11) × (length (nameOf n .bytes) ≡ 11)
+unfolding nameOf
+name-fits n = (row-right n .1, row-right n .2)
+
+-- ---- "part above 5"
+
+no-row : (part : ℕ) → 5 < part → tableOf part .facts .known ≡ false
+no-row part h =
+    simp (ne-eqb part 0 (λ e. omega arith), ne-eqb part 1 (λ e. omega arith), ne-eqb part 2 (λ e. omega arith), ne-eqb part 3 (λ e. omega arith), ne-eqb part 4 (λ e. omega arith), ne-eqb part 5 (λ e. omega arith))
+
+pub unknown : (part : ℕ) → 5 < part → factsOf part .known ≡ false
+unfolding factsOf
+unknown = no-row
+
+pub known : (part : ℕ) → part ≤ 5 → factsOf part .known ≡ true
+unfolding factsOf
+known part h =
+    branch Q (eqb part 0) (λ _. refl) (λ h0.
+    branch Q (eqb part 1) (λ _. refl) (λ h1.
+    branch Q (eqb part 2) (λ _. refl) (λ h2.
+    branch Q (eqb part 3) (λ _. refl) (λ h3.
+    branch Q (eqb part 4) (λ _. refl) (λ h4.
+    branch Q (eqb part 5) (λ _. refl) (λ h5.
+    absurd (omega (arith, eqb-false part 0 h0, eqb-false part 1 h1, eqb-false part 2 h2, eqb-false part 3 h3, eqb-false part 4 h4, eqb-false part 5 h5))))))))
+  where
+    Q : Part → Type 0
+    Q p = p .facts .known ≡ true
 
 -- ---- 0 is no refusal's number
 

@@ -1,7 +1,7 @@
 -- What every row of the part table keeps to: the ranges that callers need.
 -- Assumes nothing.
 use mathlib.Core.Path.{_≡_}
-use mathlib.Core.Bool.{Bool, true, false}
+use mathlib.Core.Bool.{Bool, true, false, cond}
 use Prim.Native.Nat.{ℕ, _*_, _/_, _<_, _≤_}
 use Rattle.parts.specs.declared.Facts.{Facts}
 
@@ -23,3 +23,10 @@ pub record Sound (f : Facts) : Type 0 where
   -- the bit that chooses the lock stands above every location
   pub lockAbove : f .page ≤ f .lock
   pub enablesMost : f .enables ≤ 8
+  -- at most 512 pages
+  pub pagesMost : f .size ≤ 512 * f .page
+  -- a group lies in one page
+  pub groupPos : 0 < f .group
+  pub groups : f .page ≡ f .page / f .group * f .group
+  -- the three bytes of a device identification code have their page
+  pub codeRoom : cond (f .coded) 3 0 ≤ cond (f .ident) (f .page) 0

@@ -1,7 +1,8 @@
 // The six parts, the two numberings, the bus events and the refusals of document 01.
 ghost use mathlib.Core.Path.{_≡_};
-ghost use lib.ListN.{getD};
-ghost use Rattle.parts.specs.Table.{factsOf, idSizeOf, buffersRightOf, addressBytesOf, enableRightOf};
+ghost use Prim.Native.Nat.{_≤_};
+ghost use lib.ListN.{length, getD};
+ghost use Rattle.parts.specs.Table.{rowOf, noPart, tableOf, factsOf, nameOf, idSizeOf, buffersRightOf, addressBytesOf, enableRightOf};
 ghost use Rattle.parts.specs.Sound.{Sound};
 ghost use Rattle.parts.specs.Events.{eventOf, eventRightOf};
 ghost use Rattle.parts.specs.Refusals.{entryOf, numberOf, rankOf, spotOf, placeTold, verdictNumberOf, verdictPlaceOf, claimOf, soonerOf, lentVerdictOf};
@@ -12,7 +13,13 @@ pub struct ArrayAddress(pub usize);
 // The place of a byte in the identification page.
 pub struct IdLocation(pub usize);
 
-// A row of the part table.
+// A part's name: its letters, and zeros behind them.
+pub struct Name {
+    pub bytes: [u8; 11],
+    pub length: usize,
+}
+
+// What the part table says of a part, beside its name.
 pub struct Facts {
     // Whether there is such a part.
     pub known: bool,
@@ -28,84 +35,121 @@ pub struct Facts {
     pub enables: u8,
     // The weight of the address bit that chooses: 0 write identification page, 1 lock.
     pub lock: usize,
+    // Bytes of an error-correction group.
+    pub group: usize,
+    // Delivered with a device identification code.
+    pub coded: bool,
+}
+
+// A row of the part table.
+struct Part {
+    name: Name,
+    facts: Facts,
+}
+
+fn named(bytes: [u8; 11], length: usize) -> Name
+    ensures { λ r. ⌜ r ≡ record { bytes = bytes; length = length } ⌝ }
+{
+    Name {
+        bytes: bytes,
+        length: length,
+    }
+}
+
+fn row(
+    size: usize,
+    page: usize,
+    wide: bool,
+    ident: bool,
+    pin: bool,
+    enables: u8,
+    lock: usize,
+    group: usize,
+    coded: bool,
+) -> Facts
+    ensures { λ r. ⌜ r ≡ rowOf size page wide ident pin enables lock group coded ⌝ }
+{
+    Facts {
+        known: true,
+        size: size,
+        page: page,
+        wide: wide,
+        ident: ident,
+        pin: pin,
+        enables: enables,
+        lock: lock,
+        group: group,
+        coded: coded,
+    }
+}
+
+fn no_part() -> Facts
+    ensures { λ r. ⌜ r ≡ noPart ⌝ }
+{
+    Facts {
+        known: false,
+        size: 1,
+        page: 1,
+        wide: false,
+        ident: false,
+        pin: false,
+        enables: 0,
+        lock: 1,
+        group: 1,
+        coded: false,
+    }
+}
+
+// The part table. A row's columns are the fields of `Facts`, in their order.
+fn table(part: u8) -> Part
+    ensures { λ r. ⌜ r ≡ tableOf part ⌝ }
+{
+    match part {
+        0 => Part {
+            name: named(*b"M24C16-DFCU", 11),
+            facts: row(2048, 16, false, true, false, 1, 128, 1, false),
+        },
+        1 => Part {
+            name: named(*b"M24C16-DRE\0", 10),
+            facts: row(2048, 16, false, true, true, 1, 128, 1, true),
+        },
+        2 => Part {
+            name: named(*b"M24C64\0\0\0\0\0", 6),
+            facts: row(8192, 32, true, false, true, 8, 1024, 4, false),
+        },
+        3 => Part {
+            name: named(*b"M24C64-D\0\0\0", 8),
+            facts: row(8192, 32, true, true, true, 8, 1024, 4, false),
+        },
+        4 => Part {
+            name: named(*b"M24256-B\0\0\0", 8),
+            facts: row(32768, 64, true, false, true, 8, 1024, 4, false),
+        },
+        5 => Part {
+            name: named(*b"M24256-D\0\0\0", 8),
+            facts: row(32768, 64, true, true, true, 8, 1024, 4, false),
+        },
+        _ => Part {
+            name: named([0; 11], 0),
+            facts: no_part(),
+        },
+    }
 }
 
 pub fn facts_of(part: u8) -> Facts
     ensures { λ r. ⌜ r ≡ factsOf part ⌝ }
     ensures range { λ r. ⌜ Sound r ⌝ }
 {
-    match part {
-        0 => Facts {
-            known: true,
-            size: 2048,
-            page: 16,
-            wide: false,
-            ident: true,
-            pin: false,
-            enables: 1,
-            lock: 128,
-        },
-        1 => Facts {
-            known: true,
-            size: 2048,
-            page: 16,
-            wide: false,
-            ident: true,
-            pin: true,
-            enables: 1,
-            lock: 128,
-        },
-        2 => Facts {
-            known: true,
-            size: 8192,
-            page: 32,
-            wide: true,
-            ident: false,
-            pin: true,
-            enables: 8,
-            lock: 1024,
-        },
-        3 => Facts {
-            known: true,
-            size: 8192,
-            page: 32,
-            wide: true,
-            ident: true,
-            pin: true,
-            enables: 8,
-            lock: 1024,
-        },
-        4 => Facts {
-            known: true,
-            size: 32768,
-            page: 64,
-            wide: true,
-            ident: false,
-            pin: true,
-            enables: 8,
-            lock: 1024,
-        },
-        5 => Facts {
-            known: true,
-            size: 32768,
-            page: 64,
-            wide: true,
-            ident: true,
-            pin: true,
-            enables: 8,
-            lock: 1024,
-        },
-        _ => Facts {
-            known: false,
-            size: 1,
-            page: 1,
-            wide: false,
-            ident: false,
-            pin: false,
-            enables: 0,
-            lock: 1,
-        },
-    }
+    let found = table(part);
+    found.facts
+}
+
+pub fn name_of(part: u8) -> Name
+    ensures { λ r. ⌜ r ≡ nameOf part ⌝ }
+    ensures range { λ r. ⌜ (r .length ≤ 11) × (length (r .bytes) ≡ 11) ⌝ }
+{
+    let row = table(part);
+    row.name
 }
 
 // The bytes of a part's identification page: 0 where there is no such page.

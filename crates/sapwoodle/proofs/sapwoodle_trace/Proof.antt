@@ -14,9 +14,8 @@ same-length c = search needs
 
 returns : tie.Need-returns
 returns c =
-    let t = c .before .before .before .before .before .trace .ensures in
-    let n = c .before .before .verdict-number .ensures in
-    (rw (n, t .0) refl, (t .1, rw (t .0) refl))
+    let t = c .before .before .before .trace .ensures in
+    (rw (c .verdict-number .ensures, t .0) refl, (t .1, rw (t .0) refl))
 
 pub sapwoodle-trace-spec : {M : Type 1} → statement M
 sapwoodle-trace-spec =
