@@ -14,6 +14,7 @@ use Rattle.state.specs.declared.Chip.{Chip}
 use Rattle.chip.specs.Memory.{Mem}
 use Rattle.driver.specs.declared.Request.{Request}
 use Rattle.driver.specs.declared.Begun.{Begun}
+use Rattle.driver.specs.declared.Answer.{Answer}
 use Rattle.driver.specs.Step.{nextOf, begunOf}
 use Rattle.bench.specs.Together.{System, startOf, dueOf, turnOf}
 use Rattle.bench.specs.Tape.{sendsOf, codeOf, tapeBy, turnEvents, turnLevels, eventsOf, heardOf, laidOf}
@@ -73,6 +74,11 @@ two-most true true x y = omega arith
 two-most true false x y = omega arith
 two-most false true x y = omega arith
 two-most false false x y = omega arith
+
+-- what the code makes of the driver's answer
+pub told : (d : ℕ) (s : System) (ended sends : Bool) (code : ℕ) (a : Answer) → (ended ≡ dueOf d s) × (a ≡ nextOf (s .driver) (s .level) (s .buffer) .answer) → sends ≡ sendsOf a → code ≡ codeOf a
+    → (ended ≡ dueOf d s) × (sends ≡ sendsOf (nextOf (s .driver) (s .level) (s .buffer) .answer)) × (code ≡ codeOf (nextOf (s .driver) (s .level) (s .buffer) .answer))
+told d s ended sends code a (due, said) hs hc = (due, hs ∙ ap sendsOf said, hc ∙ ap codeOf said)
 
 -- ---- what is left of a run
 

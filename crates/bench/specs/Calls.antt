@@ -19,9 +19,8 @@ use Rattle.driver.specs.declared.Request.{Request}
 use Rattle.driver.specs.declared.Answer.{Answer}
 use Rattle.driver.specs.declared.Answer.the-variants.{Send, Done, Refused}
 use Rattle.driver.specs.Request.{judgeOf}
-use Rattle.driver.specs.Step.{nextOf}
 use Rattle.bench.specs.declared.Report.{Report}
-use Rattle.bench.specs.Together.{System, startOf, turnsOf, enough}
+use Rattle.bench.specs.Together.{System, startOf, turnsOf, lastOf, enough}
 use Rattle.bench.specs.Tape.{eventsOf, heardOf}
 
 -- ---- refusals: the driver's of the request (1, 2, 7, 8), the chip's of itself at its own enable (1 to 4), and the run's own
@@ -61,14 +60,11 @@ beginOf r c m buffer = startOf r (take (r .length) buffer) c m
 unfoldable pub finalOf : Request → ℕ → ℕ → Chip → Mem → List ℕ → System
 finalOf r enable d c m buffer = turnsOf (modelOf r enable) d enough (beginOf r c m buffer)
 
--- a driver that would still send cannot be (proved with the promises)
+-- of the system and the driver's last answer; one that would still send cannot be (proved with the promises)
 abbrev pub reportBy : System → Answer → Report
 reportBy s (Send e) = record { verdict = Fine; polls = 0; bytes = 0; cycles = s .cycles; clocks = s .clocks; chip = s .chip }
 reportBy s (Done polls bytes) = record { verdict = Fine; polls = polls; bytes = bytes; cycles = s .cycles; clocks = s .clocks; chip = s .chip }
 reportBy s (Refused r polls bytes) = record { verdict = Judged r; polls = polls; bytes = bytes; cycles = s .cycles; clocks = s .clocks; chip = s .chip }
-
-abbrev pub reportOf : System → Report
-reportOf s = reportBy s (nextOf (s .driver) (s .level) (s .buffer) .answer)
 
 abbrev pub refusedBy : Refusal → Chip → Report
 refusedBy x c = record { verdict = Judged x; polls = 0; bytes = 0; cycles = 0; clocks = 0; chip = c }
@@ -85,7 +81,7 @@ pub record BenchLeft : Type 0 where
 abbrev pub benchBy : Request → ℕ → ℕ → Chip → Mem → List ℕ → Verdict → BenchLeft
 benchBy r enable d c m buffer Fine =
     record {
-      report = reportOf (finalOf r enable d c m buffer);
+      report = reportBy (finalOf r enable d c m buffer) (lastOf (modelOf r enable) d enough (Done 0 0) (beginOf r c m buffer));
       mem = finalOf r enable d c m buffer .mem;
       buffer = finalOf r enable d c m buffer .buffer ++ drop (r .length) buffer;
       events = eventsOf (modelOf r enable) d enough (beginOf r c m buffer);

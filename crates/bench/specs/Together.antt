@@ -108,6 +108,11 @@ unfoldable pub turnsOf : Model → ℕ → ℕ → System → System
 turnsOf M d zero s = s
 turnsOf M d (suc n) s = turnsOf M d n (turnOf M d s)
 
+-- what the driver answered when it was asked last, of n turns; a where it was not asked
+unfoldable pub lastOf : Model → ℕ → ℕ → Answer → System → Answer
+lastOf M d zero a s = a
+lastOf M d (suc n) a s = lastOf M d n (nextOf (s .driver) (s .level) (s .buffer) .answer) (turnOf M d s)
+
 -- more askings than any request takes: 9 clocks for each of 512 pages' select and address, 32,768 bytes and 512,000 polls, and
 -- their Starts and Stops
 abbrev pub enough : ℕ

@@ -9,6 +9,7 @@ ghost use Rattle.parts.specs.Table.{factsOf};
 ghost use Rattle.parts.specs.Events.{eventOf};
 ghost use Rattle.chip.specs.Memory.{mem, storeOf};
 ghost use Rattle.chip.specs.Model.{ours};
+ghost use Rattle.driver.specs.declared.Answer.the-variants.{Done};
 ghost use Rattle.driver.specs.Step.{nextOf};
 ghost use Rattle.bench.specs.Together.{
   clockOf,
@@ -18,12 +19,13 @@ ghost use Rattle.bench.specs.Together.{
   pollNext,
   turnOf,
   turnsOf,
+  lastOf,
   enough,
   dueOf,
 };
 ghost use Rattle.bench.specs.Tape.{sendsOf, codeOf, tapeBy, eventsOf, heardOf, laidOf};
 ghost use Rattle.bench.specs.Held.{whole, sentOf, atEndOf, madeOf, Fit};
-ghost use Rattle.bench.specs.Calls.{otherLengthOf, shortOf, lateOf, benchVerdictOf, reportOf, refusedBy, benchOf};
+ghost use Rattle.bench.specs.Calls.{otherLengthOf, shortOf, lateOf, benchVerdictOf, reportBy, refusedBy, benchOf};
 use driver::Answer;
 use driver::Driver;
 use driver::Phase;
@@ -63,13 +65,13 @@ struct Turned {
     held: Held,
     // Whether the cycle was ended first.
     ended: bool,
-    // Whether the driver sent an event, and which.
-    sends: bool,
-    code: u8,
+    answer: Answer,
 }
 
 struct Gone {
     held: Held,
+    // The last.
+    answer: Answer,
     sent: usize,
 }
 
@@ -150,7 +152,7 @@ fn ask(
     requires fit { ⌜ Fit part enable (held .chip) (length (now array)) (length (now id)) ⌝ }
     requires few { ⌜ (held .cycles < 6000000) × (held .clocks < 6000000) ⌝ }
     ensures together { λ r. ⌜ whole (r .held) (now (buffer .exit)) (mem (now (array .exit)) (now (id .exit))) ≡ askedOf (ours (factsOf part) enable) (whole held (now (buffer .entry)) (mem (now (array .entry)) (now (id .entry)))) ⌝ }
-    ensures tape { λ r. ⌜ (r .ended ≡ ended) × (r .sends ≡ sendsOf (nextOf (held .driver) (held .level) (now (buffer .entry)) .answer)) × (r .code ≡ codeOf (nextOf (held .driver) (held .level) (now (buffer .entry)) .answer)) ⌝ }
+    ensures found { λ r. ⌜ (r .ended ≡ ended) × (r .answer ≡ nextOf (held .driver) (held .level) (now (buffer .entry)) .answer) ⌝ }
 {
     let asked = driver::next(held.driver, held.level, buffer);
     let answer = asked.answer;
@@ -161,21 +163,18 @@ fn ask(
             Turned {
                 held: sent,
                 ended,
-                sends: true,
-                code: e,
+                answer,
             }
         }
         Answer::Done(_, _) => Turned {
             held,
             ended,
-            sends: false,
-            code: 0,
+            answer,
         },
         Answer::Refused(_, _, _) => Turned {
             held,
             ended,
-            sends: false,
-            code: 0,
+            answer,
         },
     }
 }
@@ -237,7 +236,7 @@ fn turn(
     requires few { ⌜ (held .cycles < 6000000) × (held .clocks < 6000000) ⌝ }
     requires first { ⌜ 0 < d ⌝ }
     ensures together { λ r. ⌜ whole (r .held) (now (buffer .exit)) (mem (now (array .exit)) (now (id .exit))) ≡ turnOf (ours (factsOf part) enable) d (whole held (now (buffer .entry)) (mem (now (array .entry)) (now (id .entry)))) ⌝ }
-    ensures tape { λ r. ⌜ (r .ended ≡ dueOf d (whole held (now (buffer .entry)) (mem (now (array .entry)) (now (id .entry))))) × (r .sends ≡ sendsOf (nextOf (held .driver) (held .level) (now (buffer .entry)) .answer)) × (r .code ≡ codeOf (nextOf (held .driver) (held .level) (now (buffer .entry)) .answer)) ⌝ }
+    ensures found { λ r. ⌜ (r .ended ≡ dueOf d (whole held (now (buffer .entry)) (mem (now (array .entry)) (now (id .entry))))) × (r .answer ≡ nextOf (held .driver) (held .level) (now (buffer .entry)) .answer) ⌝ }
 {
     let driver = held.driver;
     let phase = driver.phase;
@@ -248,6 +247,27 @@ fn turn(
 }
 
 // ---- the tape
+
+fn sends(answer: Answer) -> bool
+    ensures { λ r. ⌜ r ≡ sendsOf answer ⌝ }
+{
+    match answer {
+        Answer::Send(_) => true,
+        Answer::Done(_, _) => false,
+        Answer::Refused(_, _, _) => false,
+    }
+}
+
+// 0 where nothing is sent.
+fn code(answer: Answer) -> u8
+    ensures { λ r. ⌜ r ≡ codeOf answer ⌝ }
+{
+    match answer {
+        Answer::Send(e) => e,
+        Answer::Done(_, _) => 0,
+        Answer::Refused(_, _, _) => 0,
+    }
+}
 
 fn put(to: &mut [u8], at: usize, x: u8)
     ensures { λ _. ⌜ now (to .exit) ≡ set (now (to .entry)) at x ⌝ }
@@ -317,41 +337,29 @@ fn go(
     requires none { ⌜ (first .cycles ≡ 0) × (first .clocks ≡ 0) ⌝ }
     requires first { ⌜ 0 < d ⌝ }
     ensures together { λ r. ⌜ whole (r .held) (now (buffer .exit)) (mem (now (array .exit)) (now (id .exit))) ≡ turnsOf (ours (factsOf part) enable) d enough (whole first (now (buffer .entry)) (mem (now (array .entry)) (now (id .entry)))) ⌝ }
+    ensures last { λ r. ⌜ r .answer ≡ lastOf (ours (factsOf part) enable) d enough (Done 0 0) (whole first (now (buffer .entry)) (mem (now (array .entry)) (now (id .entry)))) ⌝ }
     ensures sent { λ r. ⌜ r .sent ≡ length (eventsOf (ours (factsOf part) enable) d enough (whole first (now (buffer .entry)) (mem (now (array .entry)) (now (id .entry))))) ⌝ }
     ensures events { λ _. ⌜ now (events .exit) ≡ laidOf (now (events .entry)) (eventsOf (ours (factsOf part) enable) d enough (whole first (now (buffer .entry)) (mem (now (array .entry)) (now (id .entry))))) ⌝ }
     ensures levels { λ _. ⌜ now (levels .exit) ≡ laidOf (now (levels .entry)) (heardOf (ours (factsOf part) enable) d enough (whole first (now (buffer .entry)) (mem (now (array .entry)) (now (id .entry))))) ⌝ }
 {
     let mut held = first;
+    let mut answer = Answer::Done(0, 0);
     let mut sent: usize = 0;
     let mut left = ENOUGH;
     while 0 < left {
         let t = turn(part, enable, d, held, array, id, buffer);
         let next = t.held;
-        sent = tape(t.ended, t.sends, t.code, next.level, sent, events, levels);
+        let told = t.answer;
+        let there = sends(told);
+        sent = tape(t.ended, there, code(told), next.level, sent, events, levels);
         held = next;
-        if !going(t.ended, t.sends) {
-            return Gone { held, sent };
+        answer = told;
+        if !going(t.ended, there) {
+            return Gone { held, answer, sent };
         }
         left -= 1;
     }
-    Gone { held, sent }
-}
-
-// What the driver answers next. The one byte that `next` may store is put back: this is no turn.
-fn answer(driver: Driver, level: u8, buffer: &mut [u8]) -> Answer
-    ensures answer { λ r. ⌜ r ≡ nextOf driver level (now (buffer .entry)) .answer ⌝ }
-    ensures same { λ _. ⌜ now (buffer .exit) ≡ now (buffer .entry) ⌝ }
-{
-    let at = driver.counts.at;
-    if at < buffer.len() {
-        let old = buffer[at];
-        let asked = driver::next(driver, level, buffer);
-        let answer = asked.answer;
-        buffer[at] = old;
-        return answer;
-    }
-    let asked = driver::next(driver, level, buffer);
-    asked.answer
+    Gone { held, answer, sent }
 }
 
 fn reported(held: Held, answer: Answer) -> Report
@@ -400,7 +408,7 @@ fn drive(
 ) -> Recorded
     requires fit { ⌜ Fit (request .part) enable chip (length (now array)) (length (now id)) ⌝ }
     requires first { ⌜ 0 < d ⌝ }
-    ensures answer { λ r. ⌜ r .report ≡ reportOf (turnsOf (ours (factsOf (request .part)) enable) d enough (startOf request (now (bytes .entry)) chip (mem (now (array .entry)) (now (id .entry))))) ⌝ }
+    ensures answer { λ r. ⌜ r .report ≡ reportBy (turnsOf (ours (factsOf (request .part)) enable) d enough (startOf request (now (bytes .entry)) chip (mem (now (array .entry)) (now (id .entry))))) (lastOf (ours (factsOf (request .part)) enable) d enough (Done 0 0) (startOf request (now (bytes .entry)) chip (mem (now (array .entry)) (now (id .entry))))) ⌝ }
     ensures stored { λ _. ⌜ mem (now (array .exit)) (now (id .exit)) ≡ turnsOf (ours (factsOf (request .part)) enable) d enough (startOf request (now (bytes .entry)) chip (mem (now (array .entry)) (now (id .entry)))) .mem ⌝ }
     ensures bytes { λ _. ⌜ now (bytes .exit) ≡ turnsOf (ours (factsOf (request .part)) enable) d enough (startOf request (now (bytes .entry)) chip (mem (now (array .entry)) (now (id .entry)))) .buffer ⌝ }
     ensures sent { λ r. ⌜ r .sent ≡ length (eventsOf (ours (factsOf (request .part)) enable) d enough (startOf request (now (bytes .entry)) chip (mem (now (array .entry)) (now (id .entry))))) ⌝ }
@@ -428,9 +436,8 @@ fn drive(
         levels,
     );
     let last = gone.held;
-    let asked = last.driver;
-    let answered = answer(asked, last.level, bytes);
-    let report = reported(last, answered);
+    let answer = gone.answer;
+    let report = reported(last, answer);
     Recorded {
         report,
         sent: gone.sent,

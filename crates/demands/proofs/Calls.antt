@@ -1,6 +1,6 @@
 -- The run of driver and model keeps its promises.
 -- Assumes nothing.
-use Prim.Native.Nat.{ℕ, _+_, _-_, _≤_, _<_}
+use Prim.Native.Nat.{ℕ, suc, _+_, _-_, _≤_, _<_}
 use mathlib.Core.Path.{_≡_, refl, sym, _∙_, ap, subst}
 use mathlib.Core.Bool.{Bool, true, false, cond, not, false≢true}
 use mathlib.Core.Logic.{_⊎_, inl, inr, ⊎-elim}
@@ -30,8 +30,8 @@ use Rattle.driver.specs.declared.Answer.the-variants.{Send, Done, Refused}
 use Rattle.driver.specs.Request.{fromOf, roomOf, thereOf, beyondAt, limitOf, judgeOf, allowedOf}
 use Rattle.driver_laws.specs.Run.{Finished, boundOf}
 use Rattle.bench.specs.declared.Report.{Report}
-use Rattle.bench.specs.Together.{System, startOf, togetherOf, turnsOf, enough}
-use Rattle.bench.specs.Calls.{otherLengthOf, shortOf, lateOf, finalOf, reportBy, reportOf, BenchLeft, benchBy, benchVerdict, benchOf}
+use Rattle.bench.specs.Together.{System, startOf, togetherOf, turnsOf, lastOf, enough}
+use Rattle.bench.specs.Calls.{otherLengthOf, shortOf, lateOf, finalOf, reportBy, BenchLeft, benchBy, benchVerdict, benchOf}
 use Rattle.bench.proofs.Laws.{Granted, granted, granted-fine, run-first, run-length}
 use Rattle.demands.specs.Ground.{targetOf, Bytes}
 use Rattle.demands.specs.Together.{Begins, answerOf, reportedOf, otherOf, Safe, ReadRight}
@@ -41,7 +41,7 @@ use Rattle.demands.proofs.Wrote.{less-or-more}
 use Rattle.demands.proofs.Stored.{room-is, all-done, write-safe, read-right, read-ends, finished}
 use Rattle.demands.proofs.Rel.{Buffer}
 use Rattle.demands.proofs.Whole.{G, sane, holds}
-use Rattle.demands.proofs.Turns.{choices, choices-asked, choices-same, turns-end, enough-turns}
+use Rattle.demands.proofs.Turns.{choices, choices-asked, choices-same, turns-end, last-answer, spare-turn}
 use Rattle.demands.proofs.Late.{turns-refused}
 use Rattle.demands.proofs.Shut.{shut-refused}
 use Rattle.demands.proofs.Range.{stays-in-range}
@@ -111,17 +111,37 @@ module _ (n : ℕ) (turns : n ≡ enough) (r : Request) (d : ℕ) (c : Chip) (m 
   unfolding finalOf
   final = ap (λ (i : ℕ). turnsOf (model (factsOf (r .part)) (r .enable)) d i (startOf r ws c m)) (sym turns) ∙ choices-same (factsOf (r .part)) (r .enable) d n (startOf r ws c m)
 
-  report-is : benchOf r (r .enable) d c m ys .report ≡ reportOf Y
-  report-is = ap (λ (v : Verdict). benchBy r (r .enable) d c m ys v .report) (k .fine) ∙ ap reportOf final
+  spare : boundOf r + 1 < n
+  spare = subst (λ (i : ℕ). boundOf r + 1 < i) (sym turns) (spare-turn r ws (begins r d c m ys k .accepted))
+
+  over-bound : boundOf r < n
+  over-bound = omega (arith, spare)
+
+  -- of the turns but the last: the driver has finished
+  early : Finished (answerOf (turnsOf (model (factsOf (r .part)) (r .enable)) d (n - 1) (startOf r ws c m)))
+  early =
+      let bs′ = choices (factsOf (r .part)) (r .enable) d (n - 1) (startOf r ws c m) in
+      subst (λ (y : System). Finished (answerOf y)) (sym (choices-same (factsOf (r .part)) (r .enable) d (n - 1) (startOf r ws c m)))
+      (finished r ws c m (begins r d c m ys k) bs′ (omega (arith, spare, choices-asked (factsOf (r .part)) (r .enable) d (n - 1) (startOf r ws c m))))
+
+  last : lastOf (model (factsOf (r .part)) (r .enable)) d enough (Done 0 0) (startOf r ws c m) ≡ answerOf Y
+  last =
+      let e : suc (n - 1) ≡ n = omega (arith, spare) in
+      ap (λ (i : ℕ). lastOf (model (factsOf (r .part)) (r .enable)) d i (Done 0 0) (startOf r ws c m)) (sym (e ∙ turns))
+      ∙ (last-answer (factsOf (r .part)) (r .enable) d (n - 1) (Done 0 0) (startOf r ws c m) early
+      ∙ (ap (λ (i : ℕ). answerOf (turnsOf (model (factsOf (r .part)) (r .enable)) d i (startOf r ws c m))) e
+      ∙ ap answerOf (choices-same (factsOf (r .part)) (r .enable) d n (startOf r ws c m))))
+
+  report-is : benchOf r (r .enable) d c m ys .report ≡ reportBy Y (answerOf Y)
+  report-is =
+      ap (λ (v : Verdict). benchBy r (r .enable) d c m ys v .report) (k .fine)
+      ∙ (ap (λ (y : System). reportBy y (lastOf (model (factsOf (r .part)) (r .enable)) d enough (Done 0 0) (startOf r ws c m))) final ∙ ap (reportBy Y) last)
 
   memory-is : benchOf r (r .enable) d c m ys .mem ≡ Y .mem
   memory-is = ap (λ (v : Verdict). benchBy r (r .enable) d c m ys v .mem) (k .fine) ∙ ap (λ (y : System). y .mem) final
 
   buffer-is : benchOf r (r .enable) d c m ys .buffer ≡ Y .buffer ++ drop (r .length) ys
   buffer-is = ap (λ (v : Verdict). benchBy r (r .enable) d c m ys v .buffer) (k .fine) ∙ ap (λ (y : System). y .buffer ++ drop (r .length) ys) final
-
-  over-bound : boundOf r < n
-  over-bound = subst (λ (i : ℕ). boundOf r < i) (sym turns) (enough-turns r ws (begins r d c m ys k .accepted))
 
   bytes-reported : (a : Answer) → reportBy Y a .bytes ≡ reportedOf a
   bytes-reported (Send e) = refl

@@ -32,20 +32,22 @@ use Rattle.driver.specs.declared.Slot.the-variants.{Select, High, Low, Data, Po
 use Rattle.driver.specs.declared.Phase.{Phase}
 use Rattle.driver.specs.declared.Phase.the-variants.{Ready, Bits, Heard, Rest, Over}
 use Rattle.driver.specs.declared.Counts.{Counts}
+use Rattle.driver.specs.declared.Driver.{Driver}
 use Rattle.driver.specs.declared.Answer.{Answer}
 use Rattle.driver.specs.declared.Answer.the-variants.{Send, Done, Refused}
 use Rattle.driver.specs.declared.Move.{Move}
 use Rattle.driver.specs.Split.{pagesMetOf}
 use Rattle.driver.specs.Request.{fromOf, roomOf, allowedOf, kOf, GoodRequest}
-use Rattle.driver.specs.Step.{bitOf, wireOf, bufferOf}
+use Rattle.driver.specs.Step.{bitOf, wireOf, nextOf, bufferOf}
 use Rattle.driver.proofs.Facts.{good-request, pages-suc, room-most}
-use Rattle.driver_laws.specs.Run.{addressBytes}
+use Rattle.driver_laws.specs.Run.{Finished, boundOf, addressBytes}
+use Rattle.driver_laws.specs.Promises.{Accepted}
 use Rattle.driver_laws.proofs.Split.{pages-none}
 use Rattle.driver_laws.proofs.View.{at, Way, w-done, w-open, w-bit, w-ninth, w-got, w-nack, w-high, w-only, w-low, w-turn, w-data, w-more, w-close, w-drop, w-poll, w-again, w-give, w-page, w-take, w-next, w-end, w-over}
 use Rattle.driver_laws.proofs.Inv.{Inv}
 use Rattle.driver_laws.proofs.Grow.{bit-lt}
-use Rattle.bench.specs.Together.{System, startOf, answeredBy, askedOf, endedOf, togetherOf, pollBy, pollNext, dueOf, turnOf, turnsOf, enough}
-use Rattle.demands.specs.Together.{askings}
+use Rattle.bench.specs.Together.{System, startOf, answeredBy, askedOf, endedOf, togetherOf, pollBy, pollNext, dueOf, turnOf, turnsOf, lastOf, enough}
+use Rattle.demands.specs.Together.{answerOf, askings}
 use Rattle.demands.specs.Ends.{Resting, pollOf, InTime, Complete, TurnsChosen, TurnsEnd, EnoughTurns}
 use Rattle.demands.proofs.Hears.{end-free, end-busy}
 use Rattle.demands.proofs.Wrote.{less-or-same}
@@ -86,6 +88,28 @@ module _ (f : Facts) (en d : ℕ) where
       branch (λ (cs : List Bool). turnsOf (model f en) d n (turnOf (model f en) d y) ≡ togetherOf (model f en) cs y) (dueOf d y)
       (λ e. k ∙ ap (λ (z : System). togetherOf (model f en) bs z) (turn-due y e))
       (λ e. k ∙ ap (λ (z : System). togetherOf (model f en) bs z) (turn-plain y e))
+
+-- ---- the driver's last answer
+module _ (f : Facts) (en d : ℕ) where
+  rests : (s : System) (e : Driver) (b : List ℕ) (a : Answer) → Finished a → answeredBy (model f en) s e b a ≡ s
+  rests s e b (Send x) h = absurd h
+  rests s e b (Done q n) h = refl
+  rests s e b (Refused x q n) h = refl
+
+  asked-rests : (s : System) → Finished (answerOf s) → askedOf (model f en) s ≡ s
+  unfolding askedOf
+  asked-rests s h = rests s (nextOf (s .driver) (s .level) (s .buffer) .driver) (bufferOf (s .driver) (s .level) (s .buffer)) (answerOf s) h
+
+  -- an end of the cycle is nothing to the driver
+  turn-rests : (s : System) → Finished (answerOf s) → answerOf (turnOf (model f en) d s) ≡ answerOf s
+  unfolding turnOf endedOf
+  turn-rests s h = branch (λ (t : System). answerOf (askedOf (model f en) t) ≡ answerOf s) (dueOf d s) (λ _. ap answerOf (asked-rests (endedOf (model f en) s) h)) (λ _. ap answerOf (asked-rests s h))
+
+  -- it has finished before the last turn: asked once more it would answer the same
+  pub last-answer : (k : ℕ) (a : Answer) (s : System) → Finished (answerOf (turnsOf (model f en) d k s)) → lastOf (model f en) d (suc k) a s ≡ answerOf (turnsOf (model f en) d (suc k) s)
+  unfolding lastOf turnsOf
+  last-answer zero a s h = sym (turn-rests s h)
+  last-answer (suc k) a s h = last-answer k (answerOf s) (turnOf (model f en) d s) h
 
 pub turns-chosen : TurnsChosen (λ f en. togetherOf (model f en)) (λ f en. turnsOf (model f en))
 turns-chosen r xs c m d n =
@@ -339,12 +363,16 @@ bytes-most : (r : Request) → addressBytes r ≤ 2
 unfolding addressBytesOf
 bytes-most r = branch (λ (x : ℕ). x ≤ 2) (factsOf (r .part) .wide) (λ e. omega arith) (λ e. omega arith)
 
-pub enough-turns : EnoughTurns
-enough-turns r xs a =
+-- with one to spare: the driver has finished before the last
+pub spare-turn : (r : Request) (xs : List ℕ) → Accepted r xs → boundOf r + 1 < enough
+spare-turn r xs a =
     let g = good-request r (ap isFine (a .fine)) in
     let k = k-few r g in
     let b = bytes-most r in
     let n : r .length ≤ 32768 = omega (arith, g .fits, room-most (r .part) (r .place)) in
     let x : kOf r * (1 + addressBytes r) ≤ 512 * 3 = mul-le-mul k (let q : 1 + addressBytes r ≤ 3 = omega arith in q) in
     let y : kOf r * allowedOf r ≤ 512 * 1000 = mul-le-mul k (g .most) in
-    branch (λ (z : ℕ). z < enough) (r .reads) (λ _. omega arith) (λ _. omega arith)
+    branch (λ (z : ℕ). z + 1 < enough) (r .reads) (λ _. omega arith) (λ _. omega arith)
+
+pub enough-turns : EnoughTurns
+enough-turns r xs a = omega (arith, spare-turn r xs a)

@@ -1,4 +1,5 @@
-use mathlib.Core.Path.{refl}
+use mathlib.Core.Path.{refl, sym, _∙_, ap}
+use Rattle.driver.specs.declared.Asked.{Asked}
 use Rattle.bench.proofs.Laws.{sent-small, asked-sent, asked-none}
 use borrow.Author.Needs.{needs}
 use Rattle.bench.proofs.ask.Statement.{statement}
@@ -35,8 +36,7 @@ returns c =
     let nx = c .before .before .before .before .before .before .before .before .before .before .before .before .before .next in
     let sn = c .before .before .before .before .send in
     let a = c .before .before .before .before .before .before .before .before .before .before .before .before .before .before .before .before .before .before .args in
-    let t = asked-sent _ _ (a .held) _ _ (nx .result) _ (nx .ensures .0) (nx .ensures .1) _ (c .before .before .before .before .before .before .before .before .answer .given .1) (sn .result) _ (sn .ensures .0) (sn .ensures .1) in
-    (t .0, (refl, t .1, t .2))
+    (asked-sent _ _ (a .held) _ _ (nx .result) _ (nx .ensures .0) (nx .ensures .1) _ (c .before .before .before .before .before .before .before .before .answer .given .1) (sn .result) _ (sn .ensures .0) (sn .ensures .1), (refl, sym (c .before .before .before .before .before .before .before .before .answer .given .1) ∙ ap (λ (x : Asked). x .answer) (nx .ensures .0)))
 
 same-length-4 : tie.Need-same-length-4
 same-length-4 c = search needs
@@ -45,8 +45,7 @@ returns-2 : tie.Need-returns-2
 returns-2 c =
     let nx = c .before .before .before .before .before .next in
     let a = c .before .before .before .before .before .before .before .before .before .before .args in
-    let t = asked-none _ _ (a .held) _ _ (nx .result) _ (nx .ensures .0) (nx .ensures .1) _ (c .enum-told .given .1) refl refl in
-    (t .0, (refl, t .1, t .2))
+    (asked-none _ _ (a .held) _ _ (nx .result) _ (nx .ensures .0) (nx .ensures .1) _ (c .enum-told .given .1) refl, (refl, ap (λ (x : Asked). x .answer) (nx .ensures .0)))
 
 same-length-5 : tie.Need-same-length-5
 same-length-5 c = search needs
@@ -55,8 +54,7 @@ returns-3 : tie.Need-returns-3
 returns-3 c =
     let nx = c .before .before .before .before .before .next in
     let a = c .before .before .before .before .before .before .before .before .before .before .args in
-    let t = asked-none _ _ (a .held) _ _ (nx .result) _ (nx .ensures .0) (nx .ensures .1) _ (c .enum-told2 .given .1) refl refl in
-    (t .0, (refl, t .1, t .2))
+    (asked-none _ _ (a .held) _ _ (nx .result) _ (nx .ensures .0) (nx .ensures .1) _ (c .enum-told2 .given .1) refl, (refl, ap (λ (x : Asked). x .answer) (nx .ensures .0)))
 
 pub ask-spec : {M : Type 1} → statement M
 ask-spec =

@@ -11,9 +11,6 @@ begin-requires c κs = tt
 go-requires : tie.Need-go-requires
 go-requires c κs = (c .before .before .before .before .before .before .before .before .before .before .before .before .pre .0, ((refl, refl), c .before .before .before .before .before .before .before .before .before .before .before .before .pre .1))
 
-answer-requires : tie.Need-answer-requires
-answer-requires c κs = tt
-
 reported-requires : tie.Need-reported-requires
 reported-requires c κs = tt
 
@@ -34,12 +31,11 @@ same-length-5 c = search needs
 
 returns : tie.Need-returns
 returns c =
-    let a = c .before .before .before .before .before .before .before .before .before .before .before .before .before .before .before .before .before .before .before .before .before .before .before .before .before .before .before .before .before .before .args in
-    let g = c .before .before .before .before .before .before .before .before .before .before .before .before .before .before .before .before .before .before .before .before .before .before .before .before .begin in
-    let w = c .before .before .before .before .before .before .before .before .before .before .before .before .before .before .before .before .before .go in
-    let q = c .before .before .before .answer in
-    let x = driven _ _ _ _ (a .request) (a .chip) _ _ _ _ _ (g .result) (w .result .held) (q .result) (c .reported .result) (g .ensures) (w .ensures .0) (q .ensures .0) (q .ensures .1) (c .reported .ensures) in
-    let y = taped _ _ _ _ (a .request) (a .chip) _ _ (g .result) (g .ensures) _ _ _ _ _ (w .ensures .1 .0) (w .ensures .1 .1 .0) (w .ensures .1 .1 .1) in
+    let a = c .before .before .before .before .before .before .before .before .before .before .before .before .before .before .before .before .before .before .before .before .before .before .before .before .before .args in
+    let g = c .before .before .before .before .before .before .before .before .before .before .before .before .before .before .before .before .before .before .before .begin in
+    let w = c .before .before .before .before .before .before .before .before .before .before .before .before .go in
+    let x = driven _ _ _ _ (a .request) (a .chip) _ _ _ _ (g .result) (w .result .held) _ (w .result .answer) (c .reported .result) (g .ensures) (w .ensures .0) (w .ensures .1 .0) (c .reported .ensures) in
+    let y = taped _ _ _ _ (a .request) (a .chip) _ _ (g .result) (g .ensures) _ _ _ _ _ (w .ensures .1 .1 .0) (w .ensures .1 .1 .1 .0) (w .ensures .1 .1 .1 .1) in
     (x .0, (x .1 .0, (x .1 .1, y)))
 
 pub drive-spec : {M : Type 1} → statement M
@@ -48,7 +44,6 @@ drive-spec =
     (tie.spec
     begin-requires
     go-requires
-    answer-requires
     reported-requires
     same-length
     same-length-2

@@ -1,6 +1,7 @@
 use Rattle.bench.specs.Held.{whole, Fit}
-use Rattle.bench.specs.Together.{turnsOf, enough}
+use Rattle.bench.specs.Together.{turnsOf, lastOf, enough}
 use Rattle.bench.specs.Tape.{eventsOf, heardOf, laidOf}
+use Rattle.driver.specs.declared.Answer.the-variants.{Done}
 use Rattle.chip.specs.Memory.{mem}
 use Rattle.parts.specs.Table.{factsOf}
 use lib.ListN.{length}
@@ -9,14 +10,14 @@ use borrow.Author.Tests.{not-true}
 use borrow.Author.Needs.{needs}
 use native.Mathlib.Omega.{arith}
 use mathlib.Core.Path.{_≡_, refl, sym, _∙_}
-use Rattle.bench.proofs.Laws.{turn-still, turn-few, turn-fit, turn-on, turns-end}
-use Rattle.bench.proofs.Taped.{Left, left-start, left-on, left-still, left-end, not-going, two}
+use Rattle.bench.proofs.Laws.{turn-still, turn-few, turn-fit, turn-on, turns-end, last-on, last-kept, last-end}
+use Rattle.bench.proofs.Taped.{told, Left, left-start, left-on, left-still, left-end, not-going, two}
 use Rattle.bench.proofs.go.Statement.{statement}
 use Rattle.bench.proofs.go.Tie as tie
 use Rattle.chip.specs.Model.{ours}
 
 abbrev Inv-loop : tie.InvT-loop
-Inv-loop part enable d array₀ id₀ buffer₀ events₀ levels₀ held₀ sent₀ left₀ array id buffer events levels held sent left =
+Inv-loop part enable d array₀ id₀ buffer₀ events₀ levels₀ held₀ answer₀ sent₀ left₀ array id buffer events levels held answer sent left =
     (left ≤ 6000000)
     × (length array ≡ length array₀)
     × (length id ≡ length id₀)
@@ -28,23 +29,30 @@ Inv-loop part enable d array₀ id₀ buffer₀ events₀ levels₀ held₀ sent
     × (length levels ≡ length levels₀)
     × (sent + 2 * left ≤ 12000000)
     × Left (factsOf part) enable d left (whole held buffer (mem array id)) sent events levels (length (eventsOf (ours (factsOf part) enable) d enough (whole held₀ buffer₀ (mem array₀ id₀)))) (laidOf events₀ (eventsOf (ours (factsOf part) enable) d enough (whole held₀ buffer₀ (mem array₀ id₀)))) (laidOf levels₀ (heardOf (ours (factsOf part) enable) d enough (whole held₀ buffer₀ (mem array₀ id₀))))
+    × (lastOf (ours (factsOf part) enable) d left answer (whole held buffer (mem array id)) ≡ lastOf (ours (factsOf part) enable) d enough (Done 0 0) (whole held₀ buffer₀ (mem array₀ id₀)))
 
 abbrev μ-loop : tie.MeasureT-loop
-μ-loop part enable d array₀ id₀ buffer₀ events₀ levels₀ held₀ sent₀ left₀ array id buffer events levels held sent left =
+μ-loop part enable d array₀ id₀ buffer₀ events₀ levels₀ held₀ answer₀ sent₀ left₀ array id buffer events levels held answer sent left =
     left
 
 loop-holds : tie.Need-loop-holds Inv-loop μ-loop
-loop-holds c = (omega arith, refl, refl, refl, (omega (arith, c .before .before .before .before .before .pre .1 .0), omega (arith, c .before .before .before .before .before .pre .1 .0)), c .before .before .before .before .before .pre .0, refl, refl, refl, omega arith, left-start _ _ _ _ _ _ _)
+loop-holds c = (omega arith, refl, refl, refl, (omega (arith, c .before .before .before .before .before .pre .1 .0), omega (arith, c .before .before .before .before .before .pre .1 .0)), c .before .before .before .before .before .pre .0, refl, refl, refl, omega arith, left-start _ _ _ _ _ _ _, refl)
 
 turn-requires : tie.Need-turn-requires Inv-loop μ-loop
 turn-requires c κs =
     let l = c .before .before .before .before .loop in
     (rw (l .inv .1, l .inv .2) (l .inv .5), ((omega (arith, l .inv .4, c .before .before .before .loop-test .taken), omega (arith, l .inv .4, c .before .before .before .loop-test .taken)), c .before .before .before .before .before .before .before .before .before .before .pre .1 .1))
 
+sends-requires : tie.Need-sends-requires Inv-loop μ-loop
+sends-requires c κs = tt
+
+code-requires : tie.Need-code-requires Inv-loop μ-loop
+code-requires c κs = tt
+
 tape-requires : tie.Need-tape-requires Inv-loop μ-loop
 tape-requires c κs =
-    let l = c .before .before .before .before .before .before .before .before .before .before .before .before .before .before .loop in
-    omega (arith, l .inv .9, c .before .before .before .before .before .before .before .before .before .before .before .before .before .loop-test .taken)
+    let l = c .before .before .before .before .before .before .before .before .before .before .before .before .before .before .before .before .loop in
+    omega (arith, l .inv .9, c .before .before .before .before .before .before .before .before .before .before .before .before .before .before .before .loop-test .taken)
 
 going-requires : tie.Need-going-requires Inv-loop μ-loop
 going-requires c κs = tt
@@ -66,12 +74,19 @@ same-length-5 c = search needs
 
 returns : tie.Need-returns Inv-loop μ-loop
 returns c =
-    let l = c .before .before .before .before .before .before .before .before .before .before .before .before .before .before .before .before .before .before .before .before .before .loop in
-    let t = c .before .before .before .before .before .before .before .before .before .before .before .before .before .before .before .before .turn in
+    let l = c .before .before .before .before .before .before .before .before .before .before .before .before .before .before .before .before .before .before .before .before .before .before .before .loop in
+    let more = c .before .before .before .before .before .before .before .before .before .before .before .before .before .before .before .before .before .before .before .before .before .before .loop-test .taken in
+    let t = c .before .before .before .before .before .before .before .before .before .before .before .before .before .before .before .before .before .before .turn in
+    let there = c .before .before .before .before .before .before .before .before .before .before .sends in
+    let code = c .before .before .before .before .before .before .before .before .before .code in
     let p = c .before .before .before .before .before .before .tape in
-    let g = sym (c .before .going .ensures) ∙ not-true (c .before .going .result) (c .if1 .taken) in (
-      turn-still _ _ _ (l .held) _ _ _ _ _ (t .ensures .0) (l .left) _ (l .inv .6) (not-going _ _ _ _ _ (t .result .ended) (t .result .sends) (t .result .code) (l .sent) _ _ _ _ _ (t .ensures .0) (t .ensures .1) (p .ensures .0) (p .ensures .1 .0) (p .ensures .1 .1) g),
-      left-still _ _ _ _ _ (t .result .ended) (t .result .sends) (t .result .code) (l .sent) _ _ _ _ _ (t .ensures .0) (t .ensures .1) (p .ensures .0) (p .ensures .1 .0) (p .ensures .1 .1) (l .left) _ _ _ (c .before .before .before .before .before .before .before .before .before .before .before .before .before .before .before .before .before .before .before .before .loop-test .taken) g (l .inv .10),
+    let e = t .ensures .0 in
+    let said = t .ensures .1 .1 in
+    let found = told _ (whole (l .held) (l .buffer) (mem (l .array) (l .id))) (t .result .ended) (there .result) (code .result) (t .result .answer) (t .ensures .1) (there .ensures) (code .ensures) in
+    let g = sym (c .before .going .ensures) ∙ not-true (c .before .going .result) (c .if1 .taken) in
+    let over = not-going _ _ _ _ _ (t .result .ended) (there .result) (code .result) (l .sent) _ _ _ _ _ e found (p .ensures .0) (p .ensures .1 .0) (p .ensures .1 .1) g in (
+      turn-still _ _ _ (l .held) _ _ _ _ _ e (l .left) _ (l .inv .6) over,
+      (last-kept _ _ _ _ _ _ e said (l .left) _ _ more (l .inv .11) over, left-still _ _ _ _ _ (t .result .ended) (there .result) (code .result) (l .sent) _ _ _ _ _ e found (p .ensures .0) (p .ensures .1 .0) (p .ensures .1 .1) (l .left) _ _ _ more g (l .inv .10)),
     )
 
 sub-left : tie.Need-sub-left Inv-loop μ-loop
@@ -82,22 +97,28 @@ loop-less c = search needs
 
 loop-again : tie.Need-loop-again Inv-loop μ-loop
 loop-again c =
-    let l = c .before .before .before .before .before .before .before .before .before .before .before .before .before .before .before .before .before .before .before .before .before .loop in
-    let t = c .before .before .before .before .before .before .before .before .before .before .before .before .before .before .before .before .turn in
+    let l = c .before .before .before .before .before .before .before .before .before .before .before .before .before .before .before .before .before .before .before .before .before .before .before .loop in
+    let more = c .before .before .before .before .before .before .before .before .before .before .before .before .before .before .before .before .before .before .before .before .before .before .loop-test .taken in
+    let t = c .before .before .before .before .before .before .before .before .before .before .before .before .before .before .before .before .before .before .turn in
+    let there = c .before .before .before .before .before .before .before .before .before .before .sends in
+    let code = c .before .before .before .before .before .before .before .before .before .code in
     let p = c .before .before .before .before .before .before .tape in
     let e = t .ensures .0 in
+    let said = t .ensures .1 .1 in
+    let found = told _ (whole (l .held) (l .buffer) (mem (l .array) (l .id))) (t .result .ended) (there .result) (code .result) (t .result .answer) (t .ensures .1) (there .ensures) (code .ensures) in
     let few = turn-few _ _ _ (l .held) _ _ _ _ _ e in (
       omega arith,
       search needs,
       search needs,
       search needs,
-      (omega (arith, few, l .inv .4, c .before .before .before .before .before .before .before .before .before .before .before .before .before .before .before .before .before .before .before .before .loop-test .taken), omega (arith, few, l .inv .4, c .before .before .before .before .before .before .before .before .before .before .before .before .before .before .before .before .before .before .before .before .loop-test .taken)),
+      (omega (arith, few, l .inv .4, more), omega (arith, few, l .inv .4, more)),
       turn-fit _ _ _ (l .held) _ _ _ _ _ e _ _ (l .inv .5),
-      turn-on _ _ _ (l .held) _ _ _ _ _ e (l .left) _ (c .before .before .before .before .before .before .before .before .before .before .before .before .before .before .before .before .before .before .before .before .loop-test .taken) (l .inv .6),
+      turn-on _ _ _ (l .held) _ _ _ _ _ e (l .left) _ more (l .inv .6),
       search needs,
       search needs,
-      omega (arith, l .inv .9, c .before .before .before .before .before .before .before .before .before .before .before .before .before .before .before .before .before .before .before .before .loop-test .taken, two _ _ _ _ _ (t .result .ended) (t .result .sends) (t .result .code) (l .sent) _ _ _ _ _ e (t .ensures .1) (p .ensures .0) (p .ensures .1 .0) (p .ensures .1 .1)),
-      left-on _ _ _ _ _ (t .result .ended) (t .result .sends) (t .result .code) (l .sent) _ _ _ _ _ e (t .ensures .1) (p .ensures .0) (p .ensures .1 .0) (p .ensures .1 .1) (l .left) _ _ _ (c .before .before .before .before .before .before .before .before .before .before .before .before .before .before .before .before .before .before .before .before .loop-test .taken) (l .inv .10),
+      omega (arith, l .inv .9, more, two _ _ _ _ _ (t .result .ended) (there .result) (code .result) (l .sent) _ _ _ _ _ e found (p .ensures .0) (p .ensures .1 .0) (p .ensures .1 .1)),
+      left-on _ _ _ _ _ (t .result .ended) (there .result) (code .result) (l .sent) _ _ _ _ _ e found (p .ensures .0) (p .ensures .1 .0) (p .ensures .1 .1) (l .left) _ _ _ more (l .inv .10),
+      last-on _ _ _ _ _ _ e said (l .left) _ _ more (l .inv .11),
     )
 
 same-length-6 : tie.Need-same-length-6 Inv-loop μ-loop
@@ -116,7 +137,9 @@ same-length-10 : tie.Need-same-length-10 Inv-loop μ-loop
 same-length-10 c = search needs
 
 returns-2 : tie.Need-returns-2 Inv-loop μ-loop
-returns-2 c = (turns-end _ _ _ _ _ _ (omega arith) (c .before .loop .inv .6), left-end _ _ _ _ _ _ _ _ _ _ _ (omega arith) (c .before .loop .inv .10))
+returns-2 c =
+    let l = c .before .loop in
+    (turns-end _ _ _ _ _ _ (omega arith) (l .inv .6), (last-end _ _ _ _ _ _ _ (omega arith) (l .inv .11), left-end _ _ _ _ _ _ _ _ _ _ _ (omega arith) (l .inv .10)))
 
 pub go-spec : {M : Type 1} → statement M
 go-spec =
@@ -126,6 +149,8 @@ go-spec =
     μ-loop
     loop-holds
     turn-requires
+    sends-requires
+    code-requires
     tape-requires
     going-requires
     same-length

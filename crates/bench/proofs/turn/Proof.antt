@@ -32,7 +32,7 @@ returns c =
     let en = c .before .before .before .before .before .before .before .before .before .before .before .before .before .before .end in
     let sk = c .before .before .before .before .before .before .ask in
     let a = c .before .before .before .before .before .before .before .before .before .before .before .before .before .before .before .before .before .before .before .before .before .before .before .args in
-    turned _ _ _ (a .held) _ _ (c .before .before .before .before .before .before .before .before .before .before .before .before .before .before .before .before .before .due .result) _ (c .before .before .before .before .before .before .before .before .before .before .before .before .before .before .before .before .before .before .allowed .ensures) (c .before .before .before .before .before .before .before .before .before .before .before .before .before .before .before .before .before .due .ensures) (en .result) _ (en .ensures .0) (en .ensures .1) _ _ _ _ (sk .ensures .0) (sk .ensures .1)
+    turned _ _ _ (a .held) _ _ (c .before .before .before .before .before .before .before .before .before .before .before .before .before .before .before .before .before .due .result) _ (c .before .before .before .before .before .before .before .before .before .before .before .before .before .before .before .before .before .before .allowed .ensures) (c .before .before .before .before .before .before .before .before .before .before .before .before .before .before .before .before .before .due .ensures) (en .result) _ (en .ensures .0) (en .ensures .1) _ _ _ (sk .ensures .0) (sk .ensures .1)
 
 pub turn-spec : {M : Type 1} → statement M
 turn-spec =
