@@ -4,7 +4,7 @@ ghost use lib.ListN.{take};
 ghost use Rattle.parts.specs.Table.{factsOf, idSizeOf};
 
 // The first n bytes; all of a buffer that has fewer.
-fn first(buffer: &mut [u8], n: usize) -> &mut [u8]
+pub fn first(buffer: &mut [u8], n: usize) -> &mut [u8]
     ensures { λ r. ⌜ now r ≡ take n (now (buffer .entry)) ⌝ }
 {
     if n <= buffer.len() {

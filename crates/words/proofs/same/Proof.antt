@@ -2,11 +2,8 @@ use Prim.Native.Nat.{_+_, _-_, _≤_}
 use mathlib.Core.Path.{_≡_}
 use lib.ListN.{length}
 use borrow.Author.Needs.{needs}
-use Rattle.station.proofs.words.same.Statement.{statement}
-use Rattle.station.proofs.words.same.Tie as tie
-use Rattle.station.proofs.words.same.Reads as reads
-use Rattle.station.proofs.words.same.Lts as lts
-use Rattle.station.proofs.words.upper.Reads as upper-reads
+use Rattle.words.proofs.same.Statement.{statement}
+use Rattle.words.proofs.same.Tie as tie
 
 abbrev Inv-loop : tie.InvT-loop
 Inv-loop a b i₀ i = (i ≤ length a) × (length a ≡ length b)

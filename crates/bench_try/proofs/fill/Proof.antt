@@ -1,15 +1,15 @@
-use Prim.Native.Nat.{_≤_, _-_}
+use Prim.Native.Nat.{_+_, _-_, _≤_, _<_}
 use mathlib.Core.Path.{_≡_}
-use borrow.Author.Needs.{needs}
 use lib.ListN.{length}
-use Rattle.bench_try.proofs.count.Statement.{statement}
-use Rattle.bench_try.proofs.count.Tie as tie
+use borrow.Author.Needs.{needs}
+use Rattle.bench_try.proofs.fill.Statement.{statement}
+use Rattle.bench_try.proofs.fill.Tie as tie
 
 abbrev Inv-loop : tie.InvT-loop
-Inv-loop s₀ x₀ i₀ s x i = (i ≤ length s₀) × (length s ≡ length s₀)
+Inv-loop s₀ first counts x₀ i₀ s x i = (i ≤ length s₀) × (length s ≡ length s₀)
 
 abbrev μ-loop : tie.MeasureT-loop
-μ-loop s₀ x₀ i₀ s x i = length s₀ - i
+μ-loop s₀ first counts x₀ i₀ s x i = length s₀ - i
 
 loop-holds : tie.Need-loop-holds Inv-loop μ-loop
 loop-holds c = search needs
@@ -35,8 +35,8 @@ same-length c = search needs
 returns : tie.Need-returns Inv-loop μ-loop
 returns c = search needs
 
-pub count-spec : {M : Type 1} → statement M
-count-spec =
+pub fill-spec : {M : Type 1} → statement M
+fill-spec =
     tie.close
     (tie.spec
     Inv-loop

@@ -1,14 +1,9 @@
-use Prim.Native.Nat.{_+_, _-_, _≤_}
+use Prim.Native.Nat.{_+_, _-_, _≤_, _<_}
 use mathlib.Core.Path.{_≡_}
 use lib.ListN.{length}
 use borrow.Author.Needs.{needs}
-use Rattle.station.proofs.words.digits.Statement.{statement}
-use Rattle.station.proofs.words.digits.Tie as tie
-use Rattle.station.proofs.words.digits.Reads as reads
-use Rattle.station.proofs.words.digits.Lts as lts
-use Rattle.station.proofs.words.digit.Reads as digit-reads
-use Rattle.station.proofs.words.grown.Reads as grown-reads
-use Rattle.station.proofs.words.wide.Reads as wide-reads
+use Rattle.words.proofs.digits.Statement.{statement}
+use Rattle.words.proofs.digits.Tie as tie
 
 abbrev Inv-loop : tie.InvT-loop
 Inv-loop word hex so-far₀ i₀ so-far i = i ≤ length word
@@ -19,14 +14,11 @@ abbrev μ-loop : tie.MeasureT-loop
 loop-holds : tie.Need-loop-holds Inv-loop μ-loop
 loop-holds c = search needs
 
-shared-slice-read-digit : tie.Need-shared-slice-read-digit Inv-loop μ-loop
-shared-slice-read-digit c = search needs
+shared-slice-read-value : tie.Need-shared-slice-read-value Inv-loop μ-loop
+shared-slice-read-value c = search needs
 
-digit-requires : tie.Need-digit-requires Inv-loop μ-loop
-digit-requires c κs = search needs
-
-wide-requires : tie.Need-wide-requires Inv-loop μ-loop
-wide-requires c κs = search needs
+value-requires : tie.Need-value-requires Inv-loop μ-loop
+value-requires c κs = search needs
 
 grown-requires : tie.Need-grown-requires Inv-loop μ-loop
 grown-requires c κs = search needs
@@ -53,9 +45,8 @@ digits-spec =
     Inv-loop
     μ-loop
     loop-holds
-    shared-slice-read-digit
-    digit-requires
-    wide-requires
+    shared-slice-read-value
+    value-requires
     grown-requires
     returns
     add-i

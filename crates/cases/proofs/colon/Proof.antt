@@ -1,8 +1,8 @@
 use Prim.Native.Nat.{_≤_, _-_}
 use lib.ListN.{length}
 use borrow.Author.Needs.{needs}
-use Rattle.chip_try.proofs.colon.Statement.{statement}
-use Rattle.chip_try.proofs.colon.Tie as tie
+use Rattle.cases.proofs.colon.Statement.{statement}
+use Rattle.cases.proofs.colon.Tie as tie
 
 abbrev Inv-loop : tie.InvT-loop
 Inv-loop line i₀ i = i ≤ length line

@@ -1,14 +1,10 @@
 // The words of a command line, made into a job. What is wrong with a word is said on standard error at once.
-ghost use Prim.Native.Nat.{_≤_};
 use libc::STDERR_FILENO;
 use libc::STDIN_FILENO;
 
-// `ok` false: a word was wrong, and that was said.
+// What a command asks for. `ok` false: a word was wrong, and that was said.
 pub struct Job {
     pub ok: bool,
-    // The word that is looked at next, and where the words end.
-    pub next: usize,
-    pub end: usize,
     pub part: u8,
     // What the driver selects by, and what the chip answers at.
     pub enable: u8,
@@ -29,44 +25,52 @@ pub struct Job {
     pub bytes: usize,
 }
 
+// How far the words are read: the one that is looked at next, where they end, and what each kind of word said.
+struct Read {
+    ok: bool,
+    next: usize,
+    end: usize,
+    said: [usize; 16],
+}
+
 pub struct Number {
     pub ok: bool,
     pub n: usize,
 }
 
-// What a word is taken for, by number: the four words that are always there, then the options.
-const PART: u8 = 1;
+// What a word is taken for, by number: the words that are always there, then the options.
+const PART: usize = 1;
 
-const ENABLE: u8 = 2;
+const ENABLE: usize = 2;
 
-const ADDRESS: u8 = 3;
+const ADDRESS: usize = 3;
 
-const LENGTH: u8 = 4;
+const LENGTH: usize = 4;
 
-const BUDGET: u8 = 5;
+const BUDGET: usize = 5;
 
-const ENDS: u8 = 6;
+const ENDS: usize = 6;
 
-const OWN: u8 = 7;
+const OWN: usize = 7;
 
-const PIN: u8 = 8;
+const PIN: usize = 8;
 
-const IMAGE: u8 = 9;
+const IMAGE: usize = 9;
 
-const SAVE: u8 = 10;
+const SAVE: usize = 10;
 
-const IDENT: u8 = 11;
+const IDENT: usize = 11;
 
-const EVENTS: u8 = 12;
+const EVENTS: usize = 12;
 
 // The name of an option, the bytes of a write, and two more that a word can be wrong as.
-const OPTION: u8 = 13;
+const OPTION: usize = 13;
 
-const BYTES: u8 = 14;
+const BYTES: usize = 14;
 
-const LONG: u8 = 15;
+const LONG: usize = 15;
 
-const MISSING: u8 = 16;
+const MISSING: usize = 16;
 
 const NONE: usize = 255;
 
@@ -82,7 +86,7 @@ fn usage() {
     );
 }
 
-fn reason(kind: u8) {
+fn reason(kind: usize) {
     match kind {
         PART => tell(b"is no part: a digit, or a name such as M24C64-D\n"),
         PIN => tell(b"is none of high, low, floating, for --pin\n"),
@@ -101,7 +105,7 @@ fn quote(word: &[u8]) {
 }
 
 // A word is named by its number too: it may be missing, or too long to show.
-fn complain(i: usize, kind: u8) {
+fn complain(i: usize, kind: usize) {
     let mut word = io::buffer();
     let n = os::arg(i, &mut word);
     tell(b"sapwoodle: word ");
@@ -112,9 +116,9 @@ fn complain(i: usize, kind: u8) {
 }
 
 // The word that is looked at is wrong.
-fn bad(job: Job, kind: u8) -> Job {
-    complain(job.next, kind);
-    Job { ok: false, ..job }
+fn bad(read: Read, kind: usize) -> Read {
+    complain(read.next, kind);
+    Read { ok: false, ..read }
 }
 
 // ---- letters and numbers
@@ -141,41 +145,18 @@ fn same(a: &[u8], b: &[u8]) -> bool {
     true
 }
 
-fn wide(n: u8) -> usize
-    ensures { λ r. ⌜ r ≤ 255 ⌝ }
-{
-    n as usize
-}
-
-// The value of a hexadecimal digit; 16 for any other byte.
-fn digit(b: u8) -> u8 {
-    let c = upper(b);
-    if c < 48 {
-        return 16;
-    }
-    if c < 58 {
-        return c - 48;
-    }
-    if c < 65 {
-        return 16;
-    }
-    if c < 71 { c - 55 } else { 16 }
-}
-
 // A number of more than 28 bits is no number here: nothing takes one so large.
-fn grown(n: usize, hex: bool, d: usize) -> Number
-    requires { ⌜ d ≤ 255 ⌝ }
-{
+fn grown(n: usize, hex: bool, d: u8) -> Number {
     if n < 16777216 {
         if hex {
             return Number {
                 ok: d < 16,
-                n: n * 16 + d,
+                n: n * 16 + d as usize,
             };
         }
         return Number {
             ok: d < 10,
-            n: n * 10 + d,
+            n: n * 10 + d as usize,
         };
     }
     Number { ok: false, n: 0 }
@@ -188,7 +169,7 @@ fn digits(word: &[u8], hex: bool) -> Number {
     };
     let mut i = 0;
     while i < word.len() {
-        so_far = grown(so_far.n, hex, wide(digit(word[i])));
+        so_far = grown(so_far.n, hex, text::value(word[i]));
         if !so_far.ok {
             return so_far;
         }
@@ -240,9 +221,9 @@ fn named(word: &[u8]) -> usize {
 // A digit above 5 is taken: the run refuses it with its number.
 fn part_of(word: &[u8]) -> usize {
     if word.len() == 1 {
-        let d = digit(word[0]);
+        let d = text::value(word[0]);
         if d < 10 {
-            return wide(d);
+            return text::wide(d);
         }
     }
     named(word)
@@ -262,7 +243,7 @@ fn pin_of(word: &[u8]) -> usize {
     NONE
 }
 
-fn rarer_of(word: &[u8]) -> u8 {
+fn rarer_of(word: &[u8]) -> usize {
     if same(word, b"--image") {
         return IMAGE;
     }
@@ -275,10 +256,10 @@ fn rarer_of(word: &[u8]) -> u8 {
     if same(word, b"--enable") {
         return ENABLE;
     }
-    255
+    NONE
 }
 
-fn option_of(word: &[u8]) -> u8 {
+fn option_of(word: &[u8]) -> usize {
     if same(word, b"--events") {
         return EVENTS;
     }
@@ -301,121 +282,107 @@ fn found(n: usize) -> Number {
     Number { ok: n != NONE, n }
 }
 
-fn parsed(word: &[u8], kind: u8) -> Number {
+fn parsed(word: &[u8], kind: usize) -> Number {
     match kind {
         PART => found(part_of(word)),
         PIN => found(pin_of(word)),
-        OPTION => found(wide(option_of(word))),
+        OPTION => found(option_of(word)),
         _ => number_of(word),
     }
 }
 
-fn parsed_at(i: usize, kind: u8) -> Number {
+fn parsed_at(i: usize, kind: usize) -> Number {
     let mut word = io::buffer();
     let n = os::arg(i, &mut word);
     parsed(&word[..n], kind)
 }
 
-// ---- what a job is made of
+// ---- reading the words
 
 // The limit is for the proof alone.
 fn after(i: usize) -> usize {
     if i < 1000 { i + 1 } else { i }
 }
 
-// No part is at an enable above 7, so that one which does not fit is refused as 255 is.
-fn narrow(n: usize) -> u8 {
-    if n < 255 { n as u8 } else { 255 }
+fn put(mut read: Read, kind: usize, n: usize) -> Read {
+    if kind < 16 {
+        read.said[kind] = n;
+    }
+    read
 }
 
 // The chip is at the driver's enable until an option says otherwise.
-fn set(job: Job, kind: u8, n: usize) -> Job {
-    let small = narrow(n);
-    match kind {
-        PART => Job { part: small, ..job },
-        ENABLE => Job {
-            enable: small,
-            own: small,
-            ..job
-        },
-        ADDRESS => Job { at: n, ..job },
-        LENGTH => Job { length: n, ..job },
-        BUDGET => Job { budget: n, ..job },
-        ENDS => Job { ends: n, ..job },
-        OWN => Job { own: small, ..job },
-        PIN => Job { pin: small, ..job },
-        IMAGE => Job { image: n, ..job },
-        SAVE => Job { save: n, ..job },
-        IDENT => Job { ident: true, ..job },
-        _ => Job {
-            events: true,
-            ..job
-        },
+fn set(read: Read, kind: usize, n: usize) -> Read {
+    if kind == ENABLE {
+        return put(put(read, OWN, n), ENABLE, n);
     }
+    put(read, kind, n)
+}
+
+fn passed(read: Read) -> Read {
+    let next = after(read.next);
+    Read { next, ..read }
 }
 
 // The next word, as a number of the kind.
-fn take(job: Job, kind: u8) -> Job {
-    if !job.ok {
-        return job;
+fn take(read: Read, kind: usize) -> Read {
+    if !read.ok {
+        return read;
     }
-    let value = parsed_at(job.next, kind);
+    let value = parsed_at(read.next, kind);
     if value.ok {
-        let next = after(job.next);
-        return set(Job { next, ..job }, kind, value.n);
+        return set(passed(read), kind, value.n);
     }
-    bad(job, kind)
+    bad(read, kind)
 }
 
 // The next word names a file.
-fn take_file(job: Job, kind: u8) -> Job {
-    let word = job.next;
-    if word < job.end {
-        let next = after(word);
-        return set(Job { next, ..job }, kind, word);
+fn take_file(read: Read, kind: usize) -> Read {
+    let word = read.next;
+    if word < read.end {
+        return set(passed(read), kind, word);
     }
-    bad(job, MISSING)
+    bad(read, MISSING)
 }
 
-// `job` stands behind the option's name.
-fn take_value(job: Job, kind: u8) -> Job {
+// `read` stands behind the option's name.
+fn take_value(read: Read, kind: usize) -> Read {
     if kind < IMAGE {
-        return take(job, kind);
+        return take(read, kind);
     }
     if kind < IDENT {
-        return take_file(job, kind);
+        return take_file(read, kind);
     }
-    set(job, kind, 0)
+    set(read, kind, 1)
 }
 
 // `--enable` is an option of bench alone.
-fn take_option(job: Job) -> Job {
-    if !job.ok {
-        return job;
+fn take_option(read: Read) -> Read {
+    if !read.ok {
+        return read;
     }
-    if job.end <= job.next {
-        return job;
+    if read.end <= read.next {
+        return read;
     }
-    let kind = parsed_at(job.next, OPTION);
+    let kind = parsed_at(read.next, OPTION);
     if kind.ok {
-        if wide(ENABLE) < kind.n {
-            let next = after(job.next);
-            return take_value(Job { next, ..job }, narrow(kind.n));
+        if ENABLE < kind.n {
+            return take_value(passed(read), kind.n);
         }
     }
-    bad(job, OPTION)
+    bad(read, OPTION)
 }
 
-fn take_some(job: Job) -> Job {
-    let one = take_option(job);
+fn take_some(read: Read) -> Read {
+    let one = take_option(read);
     let two = take_option(one);
     let three = take_option(two);
     take_option(three)
 }
 
 // There are eight options: more words than that repeat one.
-fn take_options(job: Job) -> Job {
-    let all = take_some(take_some(job));
+fn take_options(read: Read) -> Read {
+    let all = take_some(take_some(read));
     if all.ok {
         if all.next < all.end {
             return bad(all, OPTION);
@@ -424,68 +391,80 @@ fn take_options(job: Job) -> Job {
     all
 }
 
-// Nothing is asked for yet; the words go from `next` to before `end`.
-pub fn plain(reads: bool, next: usize, end: usize) -> Job {
-    Job {
+// Nothing is said yet; the words go from `next` to before `end`.
+fn start(next: usize, end: usize) -> Read {
+    let read = Read {
         ok: true,
         next,
         end,
-        part: 0,
-        enable: 0,
-        own: 0,
-        at: 0,
-        ident: false,
-        reads,
-        length: 0,
-        budget: 100,
-        ends: 1,
-        pin: 0,
-        events: false,
-        image: 0,
-        save: 0,
-        bytes: 0,
-    }
-}
-
-// The part and the enable of `PART [--enable N]`.
-pub fn bench_asked(first: Job) -> Job {
-    let named = take(first, PART);
-    if named.end <= named.next {
-        return named;
-    }
-    let kind = parsed_at(named.next, OPTION);
-    if kind.n == wide(ENABLE) {
-        let next = after(named.next);
-        return take(Job { next, ..named }, ENABLE);
-    }
-    if named.ok {
-        return bad(named, OPTION);
-    }
-    named
+        said: [0; 16],
+    };
+    put(put(read, BUDGET, 100), ENDS, 1)
 }
 
 // The bytes of a write are taken later, where there is a buffer for them.
-fn take_last(job: Job) -> Job {
-    if job.reads {
-        return take(job, LENGTH);
+fn take_last(read: Read, reads: bool) -> Read {
+    if reads {
+        return take(read, LENGTH);
     }
-    let word = job.next;
-    Job {
-        bytes: word,
-        next: after(word),
-        ..job
-    }
+    put(passed(read), BYTES, read.next)
 }
 
 // The four words that are always there, and options.
-pub fn asked(first: Job) -> Job {
-    let last = after(after(after(first.next)));
-    if first.end <= last {
-        let end = first.end;
-        return bad(Job { next: end, ..first }, MISSING);
+fn take_all(read: Read, reads: bool) -> Read {
+    let three = take(take(take(read, PART), ENABLE), ADDRESS);
+    take_options(take_last(three, reads))
+}
+
+// ---- jobs: the words go from `next` to before `end`
+
+fn job_of(read: Read, reads: bool) -> Job {
+    let said = read.said;
+    Job {
+        ok: read.ok,
+        part: text::narrow(said[PART]),
+        enable: text::narrow(said[ENABLE]),
+        own: text::narrow(said[OWN]),
+        at: said[ADDRESS],
+        ident: said[IDENT] == 1,
+        reads,
+        length: said[LENGTH],
+        budget: said[BUDGET],
+        ends: said[ENDS],
+        pin: text::narrow(said[PIN]),
+        events: said[EVENTS] == 1,
+        image: said[IMAGE],
+        save: said[SAVE],
+        bytes: said[BYTES],
     }
-    let three = take(take(take(first, PART), ENABLE), ADDRESS);
-    take_options(take_last(three))
+}
+
+// `PART ENABLE ADDRESS LENGTH` of a read, `PART ENABLE ADDRESS HEXBYTES` of a write, and options.
+pub fn asked(reads: bool, next: usize, end: usize) -> Job {
+    let last = after(after(after(next)));
+    if end <= last {
+        return job_of(bad(start(end, end), MISSING), reads);
+    }
+    job_of(take_all(start(next, end), reads), reads)
+}
+
+// The enable of `PART [--enable N]`, behind the part.
+fn take_enable(read: Read) -> Read {
+    if read.end <= read.next {
+        return read;
+    }
+    let kind = parsed_at(read.next, OPTION);
+    if kind.n == ENABLE {
+        return take(passed(read), ENABLE);
+    }
+    if read.ok {
+        return bad(read, OPTION);
+    }
+    read
+}
+
+pub fn bench_asked(next: usize, end: usize) -> Job {
+    job_of(take_enable(take(start(next, end), PART)), false)
 }
 
 // ---- the bytes of a write
@@ -509,7 +488,7 @@ fn input(to: &mut [u8]) -> Number {
     got
 }
 
-fn put(to: &mut [u8], i: usize, a: u8, b: u8) -> bool {
+fn put_byte(to: &mut [u8], i: usize, a: u8, b: u8) -> bool {
     if a < 16 {
         if b < 16 {
             if i < to.len() {
@@ -526,9 +505,9 @@ fn unhex(word: &[u8], to: &mut [u8]) -> Number {
     let mut ok = word.len() % 2 == 0;
     let mut i = 0;
     while i < k {
-        let high = digit(word[2 * i]);
-        let low = digit(word[2 * i + 1]);
-        if !put(to, i, high, low) {
+        let high = text::value(word[2 * i]);
+        let low = text::value(word[2 * i + 1]);
+        if !put_byte(to, i, high, low) {
             ok = false;
         }
         i += 1;

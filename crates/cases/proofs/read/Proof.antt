@@ -1,8 +1,8 @@
 use Prim.Native.Nat.{_≤_, _-_, _+_}
 use lib.ListN.{length}
 use borrow.Author.Needs.{needs}
-use Rattle.chip_try.proofs.read.Statement.{statement}
-use Rattle.chip_try.proofs.read.Tie as tie
+use Rattle.cases.proofs.read.Statement.{statement}
+use Rattle.cases.proofs.read.Tie as tie
 
 abbrev Inv-loop : tie.InvT-loop
 Inv-loop line values₀ k₀ i₀ values k i = i ≤ length line + 2
