@@ -9,6 +9,8 @@ use driver::Request;
 use driver::Slot;
 use parts::ArrayAddress;
 use parts::IdLocation;
+use text::say;
+use text::say_number;
 
 // How a run ended: 0 done, the refusal's number, or 255 for no end.
 struct Tally {
@@ -126,59 +128,55 @@ fn drive(request: Request, low: usize, buffer: &mut [u8]) -> Tally {
     }
 }
 
-fn say(n: usize) {
-    io::write_all(1, b" ");
-    io::print_decimal(1, n as u64);
-}
-
-fn wide(x: u8) -> usize {
-    x as usize
+fn tell(n: usize) {
+    say(b" ");
+    say_number(n);
 }
 
 fn say_first(buffer: &[u8; 128]) {
-    say(wide(buffer[0]));
+    tell(text::wide(buffer[0]));
 }
 
 fn say_tally(t: Tally) {
-    say(wide(t.number));
-    say(t.polls);
-    say(t.bytes);
-    say(t.events);
-    say(t.clocks);
+    tell(text::wide(t.number));
+    tell(t.polls);
+    tell(t.bytes);
+    tell(t.events);
+    tell(t.clocks);
 }
 
 // Writes number, polls, bytes, events, clocks, and the first byte of the buffer.
 fn run(label: &[u8], request: Request, low: usize) {
     let mut buffer = [90u8; 128];
     let n = request.length;
-    io::write_all(1, label);
+    say(label);
     if n <= 128 {
         let t = drive(request, low, &mut buffer[..n]);
         say_tally(t);
     }
     say_first(&buffer);
-    io::write_all(1, b"\n");
+    say(b"\n");
 }
 
 fn judged(label: &[u8], request: Request) {
-    io::write_all(1, label);
-    say(wide(parts::verdict_number(driver::judge(request))));
-    io::write_all(1, b"\n");
+    say(label);
+    tell(text::wide(parts::verdict_number(driver::judge(request))));
+    say(b"\n");
 }
 
 // One step of a driver made by hand, on a buffer of n bytes: number, position, and the first byte of the buffer.
 fn step(label: &[u8], d: Driver, n: usize) {
     let mut buffer = [90u8; 128];
-    io::write_all(1, label);
+    say(label);
     if n <= 128 {
         let asked = driver::next(d, 0, &mut buffer[..n]);
         let answer = asked.answer;
         let t = ended(answer, 0, 0);
-        say(wide(t.number));
-        say(asked.driver.counts.at);
+        tell(text::wide(t.number));
+        tell(asked.driver.counts.at);
     }
     say_first(&buffer);
-    io::write_all(1, b"\n");
+    say(b"\n");
 }
 
 fn made(phase: Phase, at: usize, seen: usize, tries: usize, polls: usize) -> Driver {

@@ -8,6 +8,10 @@ use line::Phase;
 use line::Recv;
 use line::Target;
 use state::Chip;
+use text::say;
+use text::say_address;
+use text::say_byte;
+use text::say_number;
 
 // The clocks since the last Start, Stop or whole byte.
 struct Note {
@@ -26,46 +30,23 @@ struct Told {
 
 // ---- words
 
-fn say(fd: i32, text: &[u8]) {
-    io::write_all(fd, text);
-}
-
-fn places(fd: i32, first: usize, last: usize) {
-    io::print_decimal(fd, first as u64);
+fn places(first: usize, last: usize) {
+    say_number(first);
     if first < last {
-        say(fd, b"-");
-        io::print_decimal(fd, last as u64);
+        say(b"-");
+        say_number(last);
     }
-    say(fd, b": ");
+    say(b": ");
 }
 
-fn digit(x: u8) -> u8 {
-    let d = x % 16;
-    if d < 10 { 48 + d } else { 55 + d }
-}
-
-fn tell_hex(fd: i32, x: u8) {
-    say(fd, &[digit(x / 16), digit(x)]);
-}
-
-fn high(x: u16) -> u8 {
-    (x / 256) as u8
-}
-
-fn low(x: u16) -> u8 {
-    (x % 256) as u8
-}
-
-fn tell_address(fd: i32, x: u16) {
-    tell_hex(fd, high(x));
-    tell_hex(fd, low(x));
-    say(fd, b"h");
-}
-
-fn tell_target(fd: i32, target: Target) {
+fn tell_target(target: Target) {
     match target {
-        Target::Array => say(fd, b"array"),
-        Target::Ident => say(fd, b"identification page"),
+        Target::Array => {
+            say(b"array");
+        }
+        Target::Ident => {
+            say(b"identification page");
+        }
     }
 }
 
@@ -118,11 +99,11 @@ fn nothing(place: usize) -> Note {
     }
 }
 
-fn tell_answered(fd: i32, released: bool) {
+fn tell_answered(released: bool) {
     if released {
-        say(fd, b", not acknowledged\n");
+        say(b", not acknowledged\n");
     } else {
-        say(fd, b", acknowledged\n");
+        say(b", acknowledged\n");
     }
 }
 
@@ -134,82 +115,78 @@ fn page_of(part: u8) -> u16
 }
 
 // A byte behind the last of its page lands on the first: the counter stands there already.
-fn tell_rolled(fd: i32, part: u8, counter: u16) {
+fn tell_rolled(part: u8, counter: u16) {
     let p = page_of(part);
     if counter % p == 0 {
         if counter < 32768 {
-            say(
-                fd,
-                b"  warning: the page was full: this byte and those behind it land from ",
-            );
-            tell_address(fd, counter);
-            say(fd, b" on, not from ");
-            tell_address(fd, counter + p);
-            say(fd, b"\n");
+            say(b"  warning: the page was full: this byte and those behind it land from ");
+            say_address(counter as usize);
+            say(b" on, not from ");
+            say_address((counter + p) as usize);
+            say(b"\n");
         }
     }
 }
 
-fn tell_fill(fd: i32, part: u8, target: Target, more: bool, counter: u16, released: bool) {
-    say(fd, b" data for ");
-    tell_target(fd, target);
-    say(fd, b" at ");
-    tell_address(fd, counter);
-    tell_answered(fd, released);
+fn tell_fill(part: u8, target: Target, more: bool, counter: u16, released: bool) {
+    say(b" data for ");
+    tell_target(target);
+    say(b" at ");
+    say_address(counter as usize);
+    tell_answered(released);
     if !released {
         if more {
-            tell_rolled(fd, part, counter);
+            tell_rolled(part, counter);
         }
     }
 }
 
-fn tell_named(fd: i32, name: &[u8], released: bool) {
-    say(fd, name);
-    tell_answered(fd, released);
+fn tell_named(name: &[u8], released: bool) {
+    say(name);
+    tell_answered(released);
 }
 
-fn tell_received(fd: i32, part: u8, recv: Recv, counter: u16, released: bool) {
+fn tell_received(part: u8, recv: Recv, counter: u16, released: bool) {
     match recv {
-        Recv::Select => tell_named(fd, b" select", released),
-        Recv::AddressHigh(_) => tell_named(fd, b" address, high byte", released),
-        Recv::AddressLow(_, _) => tell_named(fd, b" address", released),
-        Recv::Fill(t, more) => tell_fill(fd, part, t, more, counter, released),
-        Recv::LockByte => tell_named(fd, b" lock data", released),
-        Recv::LockTaken(_) => tell_named(fd, b" second lock data", released),
+        Recv::Select => tell_named(b" select", released),
+        Recv::AddressHigh(_) => tell_named(b" address, high byte", released),
+        Recv::AddressLow(_, _) => tell_named(b" address", released),
+        Recv::Fill(t, more) => tell_fill(part, t, more, counter, released),
+        Recv::LockByte => tell_named(b" lock data", released),
+        Recv::LockTaken(_) => tell_named(b" second lock data", released),
     }
 }
 
-fn tell_sent(fd: i32, target: Target, byte: u8, last: bool) {
-    tell_hex(fd, byte);
-    say(fd, b"h read from ");
-    tell_target(fd, target);
-    tell_answered(fd, last);
+fn tell_sent(target: Target, byte: u8, last: bool) {
+    say_byte(byte);
+    say(b" read from ");
+    tell_target(target);
+    tell_answered(last);
 }
 
-fn tell_heard(fd: i32, byte: u8, why: &[u8]) {
-    tell_hex(fd, byte);
-    say(fd, why);
+fn tell_heard(byte: u8, why: &[u8]) {
+    say_byte(byte);
+    say(why);
 }
 
-fn tell_taken(fd: i32, part: u8, recv: Recv, counter: u16, byte: u8, released: bool) {
-    tell_hex(fd, byte);
-    say(fd, b"h");
-    tell_received(fd, part, recv, counter, released);
+fn tell_taken(part: u8, recv: Recv, counter: u16, byte: u8, released: bool) {
+    say_byte(byte);
+    tell_received(part, recv, counter, released);
 }
 
 // The line of a whole byte; `before` is the chip at its ninth clock.
-fn tell_byte(fd: i32, part: u8, note: Note, place: usize, before: Line, one: bool, released: bool) {
+fn tell_byte(part: u8, note: Note, place: usize, before: Line, one: bool, released: bool) {
     let phase = before.phase;
     let core = before.core;
     let counter = core.counter;
     let sent = note.sent;
     let seen = note.seen;
-    places(fd, note.first, place);
+    places(note.first, place);
     match phase {
-        Phase::Idle => tell_heard(fd, sent, b"h, not addressed\n"),
-        Phase::Receive(r) => tell_taken(fd, part, r, counter, sent, released),
-        Phase::Send(t) => tell_sent(fd, t, seen, one),
-        Phase::Busy(_) => tell_heard(fd, sent, b"h, not acknowledged: a cycle is running\n"),
+        Phase::Idle => tell_heard(sent, b", not addressed\n"),
+        Phase::Receive(r) => tell_taken(part, r, counter, sent, released),
+        Phase::Send(t) => tell_sent(t, seen, one),
+        Phase::Busy(_) => tell_heard(sent, b", not acknowledged: a cycle is running\n"),
     }
 }
 
@@ -224,38 +201,38 @@ fn is_busy(phase: Phase) -> bool {
     }
 }
 
-fn tell_end(fd: i32, place: usize, code: u8) {
-    places(fd, place, place);
+fn tell_end(place: usize, code: u8) {
+    places(place, place);
     if code == 4 {
-        say(fd, b"cycle ended\n");
+        say(b"cycle ended\n");
     } else {
-        say(fd, b"cycle given up by the reset\n");
+        say(b"cycle given up by the reset\n");
     }
 }
 
-fn tell_cycle(fd: i32, place: usize, code: u8, before: Line, after: Line, cycles: u8) {
+fn tell_cycle(place: usize, code: u8, before: Line, after: Line, cycles: u8) {
     let was = before.phase;
     let now = after.phase;
     if 0 < cycles {
-        places(fd, place, place);
-        say(fd, b"cycle begun\n");
+        places(place, place);
+        say(b"cycle begun\n");
     } else {
         let ran = is_busy(was);
         let runs = is_busy(now);
         if ran {
             if !runs {
-                tell_end(fd, place, code);
+                tell_end(place, code);
             }
         }
     }
 }
 
-fn tell_cut(fd: i32, note: Note, place: usize) {
+fn tell_cut(note: Note, place: usize) {
     if 0 < note.clocks {
         if note.clocks < 9 {
-            places(fd, note.first, place);
-            io::print_decimal(fd, note.clocks as u64);
-            say(fd, b" clocks of a byte, given up\n");
+            places(note.first, place);
+            say_number(text::wide(note.clocks));
+            say(b" clocks of a byte, given up\n");
         }
     }
 }
@@ -268,10 +245,10 @@ fn cuts(code: u8) -> bool {
     code == 8
 }
 
-fn tell_other(fd: i32, note: Note, place: usize, code: u8) -> Note {
+fn tell_other(note: Note, place: usize, code: u8) -> Note {
     let cut = cuts(code);
     if cut {
-        tell_cut(fd, note, place);
+        tell_cut(note, place);
         return nothing(place);
     }
     note
@@ -279,45 +256,28 @@ fn tell_other(fd: i32, note: Note, place: usize, code: u8) -> Note {
 
 // ---- the walk
 
-fn tell_clock(
-    fd: i32,
-    part: u8,
-    note: Note,
-    place: usize,
-    before: Line,
-    code: u8,
-    level: u8,
-) -> Note {
+fn tell_clock(part: u8, note: Note, place: usize, before: Line, code: u8, level: u8) -> Note {
     let one = code == 1;
     let released = level == 1;
     let next = clocked(note, place, one, released);
     if next.clocks == 9 {
-        tell_byte(fd, part, next, place, before, one, released);
+        tell_byte(part, next, place, before, one, released);
         return nothing(place);
     }
     next
 }
 
-fn tell(
-    fd: i32,
-    part: u8,
-    note: Note,
-    place: usize,
-    before: Line,
-    code: u8,
-    stepped: Stepped,
-) -> Note {
+fn tell(part: u8, note: Note, place: usize, before: Line, code: u8, stepped: Stepped) -> Note {
     let held = stepped.chip;
     let after = held.line;
-    tell_cycle(fd, place, code, before, after, stepped.cycles);
+    tell_cycle(place, code, before, after, stepped.cycles);
     if code < 2 {
-        return tell_clock(fd, part, note, place, before, code, stepped.level);
+        return tell_clock(part, note, place, before, code, stepped.level);
     }
-    tell_other(fd, note, place, code)
+    tell_other(note, place, code)
 }
 
 fn turn(
-    fd: i32,
     part: u8,
     enable: u8,
     held: Chip,
@@ -329,7 +289,7 @@ fn turn(
 ) -> Told {
     let before = held.line;
     let stepped = chip::step(part, enable, held, array, id, code);
-    let next = tell(fd, part, note, place, before, code, stepped);
+    let next = tell(part, note, place, before, code, stepped);
     let kept = stepped.chip;
     Told {
         chip: kept,
@@ -337,7 +297,7 @@ fn turn(
     }
 }
 
-fn walk(fd: i32, part: u8, enable: u8, letters: &[u8], array: &mut [u8], id: &mut [u8])
+fn walk(part: u8, enable: u8, letters: &[u8], array: &mut [u8], id: &mut [u8])
     requires { ⌜ length (now letters) ≤ 32768 ⌝ }
 {
     let delivered = chip::deliver(part, array, id);
@@ -346,7 +306,7 @@ fn walk(fd: i32, part: u8, enable: u8, letters: &[u8], array: &mut [u8], id: &mu
     let mut i = 0;
     while i < letters.len() {
         let code = trace::code_of(letters[i]);
-        let t = turn(fd, part, enable, held, note, i, code, array, id);
+        let t = turn(part, enable, held, note, i, code, array, id);
         let next = t.chip;
         let noted = t.note;
         held = next;
@@ -355,48 +315,34 @@ fn walk(fd: i32, part: u8, enable: u8, letters: &[u8], array: &mut [u8], id: &mu
     }
 }
 
-fn walk_cut(fd: i32, part: u8, enable: u8, letters: &[u8], array: &mut [u8], id: &mut [u8])
-    requires { ⌜ length (now letters) ≤ 32768 ⌝ }
-{
-    let f = parts::facts_of(part);
-    let size = f.size;
-    let own = parts::id_size(f);
-    if size <= array.len() {
-        if own <= id.len() {
-            walk(
-                fd,
-                part,
-                enable,
-                letters,
-                &mut array[..size],
-                &mut id[..own],
-            );
-        }
-    }
-}
-
-fn walk_whole(fd: i32, part: u8, enable: u8, letters: &[u8])
+fn walk_whole(part: u8, enable: u8, letters: &[u8])
     requires { ⌜ length (now letters) ≤ 32768 ⌝ }
 {
     let mut array = [0u8; 32768];
     let mut id = [0u8; 64];
-    walk_cut(fd, part, enable, letters, &mut array, &mut id);
+    walk(
+        part,
+        enable,
+        letters,
+        fitted::array(part, &mut array),
+        fitted::id(part, &mut id),
+    );
 }
 
-fn explain_letters(fd: i32, part: u8, enable: u8, letters: &[u8]) {
+fn explain_letters(part: u8, enable: u8, letters: &[u8]) {
     if letters.len() <= 32768 {
-        walk_whole(fd, part, enable, letters);
+        walk_whole(part, enable, letters);
     }
 }
 
 // Tells a trace that is not refused: that is the caller's to see.
-pub fn explain(fd: i32, text: &[u8]) {
+pub fn explain(text: &[u8]) {
     if 4 <= text.len() {
         let part = text[0];
         let enable = text[2];
         if 48 <= part {
             if 48 <= enable {
-                explain_letters(fd, part - 48, enable - 48, trace::letters(text));
+                explain_letters(part - 48, enable - 48, trace::letters(text));
             }
         }
     }

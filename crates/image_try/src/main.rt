@@ -1,78 +1,44 @@
 // Images saved and loaded, one trial a line: the number of the refusal, 0 for none.
-ghost use Prim.Native.Nat.{_<_, _≤_};
 use image::Saved;
 use line::Line;
 use parts::Verdict;
 use state::Chip;
+use text::say;
+use text::say_number;
 
 fn number(verdict: Verdict) -> usize {
-    wide(parts::verdict_number(verdict))
+    text::wide(parts::verdict_number(verdict))
 }
 
-fn wide(n: u8) -> usize {
-    n as usize
+fn tell(name: &[u8], n: usize) {
+    say(name);
+    say(b" ");
+    say_number(n);
+    say(b"\n");
 }
 
-// The last decimal digit.
-fn digit(n: usize) -> u8 {
-    let d = n % 10;
-    48 + d as u8
-}
-
-fn skipped(n: usize) -> usize
-    ensures { λ r. ⌜ r ≤ 3 ⌝ }
-{
-    if n < 10 {
-        return 3;
-    }
-    if n < 100 {
-        return 2;
-    }
-    if n < 1000 { 1 } else { 0 }
-}
-
-// A number below 10,000, without leading zeros.
-fn decimal(n: usize) {
-    let digits = [digit(n / 1000), digit(n / 100), digit(n / 10), digit(n)];
-    let from = skipped(n);
-    io::write_all(1, &digits[from..]);
-}
-
-fn say(name: &[u8], n: usize) {
-    io::write_all(1, name);
-    io::write_all(1, b" ");
-    decimal(n);
-    io::write_all(1, b"\n");
-}
-
-fn hex_digit(n: u8) -> u8
-    requires { ⌜ n < 16 ⌝ }
-{
-    if n < 10 { 48 + n } else { 55 + n }
-}
-
-fn hex(b: u8) {
-    let pair = [b' ', hex_digit(b / 16), hex_digit(b % 16)];
-    io::write_all(1, &pair);
+fn tell_hex(b: u8) {
+    let d = text::hex(b);
+    say(&[b' ', d[0], d[1]]);
 }
 
 fn say_hex(name: &[u8], bytes: &[u8]) {
-    io::write_all(1, name);
+    say(name);
     let mut i = 0;
     while i < bytes.len() {
-        hex(bytes[i]);
+        tell_hex(bytes[i]);
         i += 1;
     }
-    io::write_all(1, b"\n");
+    say(b"\n");
 }
 
 fn say_same(name: &[u8], a: &[u8], b: &[u8]) {
-    io::write_all(1, name);
+    say(name);
     if check::same(a, b) {
-        io::write_all(1, b" as saved\n");
+        say(b" as saved\n");
         return;
     }
-    io::write_all(1, b" differ\n");
+    say(b" differ\n");
 }
 
 // Part 3 as delivered, saved.
@@ -90,8 +56,8 @@ fn save3(out: &mut [u8]) -> Saved {
 
 fn say_saved(name: &[u8], saved: Saved) {
     let verdict = saved.verdict;
-    say(name, number(verdict));
-    say(b"  length", saved.length);
+    tell(name, number(verdict));
+    tell(b"  length", saved.length);
 }
 
 // The head, and where the image ends the last byte with the one past it.
@@ -114,7 +80,7 @@ fn load3(name: &[u8], bytes: &[u8], enable: u8) {
     let mut id = [0u8; 32];
     let loaded = image::load(bytes, enable, &mut array, &mut id);
     let verdict = loaded.verdict;
-    say(name, number(verdict));
+    tell(name, number(verdict));
 }
 
 fn put(out: &mut [u8], at: usize, byte: u8) {
@@ -178,8 +144,8 @@ fn kept(bytes: &[u8], array: &mut [u8], id: &mut [u8], again: &mut [u8]) {
     let loaded = image::load(bytes, 7, array, id);
     let verdict = loaded.verdict;
     let chip = loaded.chip;
-    say(b"load, enable 7", number(verdict));
-    say(b"  part", wide(loaded.part));
+    tell(b"load, enable 7", number(verdict));
+    tell(b"  part", text::wide(loaded.part));
     say_saved(
         b"save again",
         image::save(loaded.part, chip, array, id, again),
@@ -206,7 +172,7 @@ fn part2(name: &[u8], out: &mut [u8], lock: u8) {
     put(out, 6, lock);
     let loaded = image::load(out, 0, &mut cells, &mut []);
     let verdict = loaded.verdict;
-    say(name, number(verdict));
+    tell(name, number(verdict));
 }
 
 fn ranged(left: u8) -> Chip {

@@ -1,8 +1,10 @@
 // Looks at pages of every part, in buffers of the right and of wrong lengths, and prints what each look shows.
-use libc::STDOUT_FILENO;
+use cases::more;
 use page::Place;
 use parts::ArrayAddress;
 use parts::Verdict;
+use text::say;
+use text::say_number;
 
 fn next(x: u8) -> u8 {
     if x < 250 { x + 1 } else { 0 }
@@ -23,32 +25,17 @@ fn less(n: usize) -> usize {
     if 0 < n { n - 1 } else { 0 }
 }
 
-fn more(n: usize) -> usize {
-    if n < 32769 { n + 1 } else { n }
-}
-
-fn say(text: &[u8]) {
-    io::write_all(STDOUT_FILENO, text);
-}
-
-fn tell(n: usize) {
-    io::print_decimal(STDOUT_FILENO, n as u64);
-}
-
 fn tell_byte(x: u8) {
-    tell(x as usize);
+    say_number(text::wide(x));
 }
 
 // The first n bytes, for a caller that has at least as many.
-fn cut(s: &[u8], n: usize) -> &[u8] {
-    if n <= s.len() {
-        return &s[0..n];
-    }
-    s
+fn first(s: &[u8], n: usize) -> &[u8] {
+    cases::cut(s, 0, n)
 }
 
 fn tell_bytes(shown: &[u8]) {
-    tell(shown.len());
+    say_number(shown.len());
     say(b" bytes");
     if 0 < shown.len() {
         say(b", ");
@@ -61,7 +48,9 @@ fn tell_bytes(shown: &[u8]) {
 
 fn tell_verdict(verdict: Verdict) {
     match verdict {
-        Verdict::Fine => say(b"shown, "),
+        Verdict::Fine => {
+            say(b"shown, ");
+        }
         Verdict::Refused(r) => {
             say(b"refused ");
             tell_byte(parts::number(r));
@@ -74,9 +63,11 @@ fn tell_place(place: Place) {
     match place {
         Place::Array(a) => {
             say(b"address ");
-            tell(a.0);
+            say_number(a.0);
         }
-        Place::Ident => say(b"identification page"),
+        Place::Ident => {
+            say(b"identification page");
+        }
     }
 }
 
@@ -84,9 +75,9 @@ fn tell_lent(part: u8, array: usize, id: usize) {
     say(b"part ");
     tell_byte(part);
     say(b", lent ");
-    tell(array);
+    say_number(array);
     say(b" and ");
-    tell(id);
+    say_number(id);
     say(b", ");
 }
 
@@ -116,11 +107,11 @@ fn right<'a>(part: u8, array: &'a [u8], id: &'a [u8], page: usize) {
 
 // One byte too few, and one too many, of either buffer.
 fn wrong<'a>(part: u8, array: &'a [u8], id: &'a [u8], m: usize, n: usize) {
-    at(part, cut(array, less(m)), cut(id, n), 0);
-    at(part, cut(array, more(m)), cut(id, n), m);
-    at(part, cut(array, m), cut(id, more(n)), 0);
+    at(part, first(array, less(m)), first(id, n), 0);
+    at(part, first(array, more(m)), first(id, n), m);
+    at(part, first(array, m), first(id, more(n)), 0);
     if 0 < n {
-        one(part, cut(array, m), cut(id, less(n)), Place::Ident);
+        one(part, first(array, m), first(id, less(n)), Place::Ident);
     }
 }
 
@@ -129,7 +120,7 @@ fn every<'a>(part: u8, array: &'a [u8], id: &'a [u8]) {
     let f = parts::facts_of(part);
     let m = f.size;
     let n = parts::id_size(f);
-    right(part, cut(array, m), cut(id, n), f.page);
+    right(part, first(array, m), first(id, n), f.page);
     wrong(part, array, id, m, n);
 }
 

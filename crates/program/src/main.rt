@@ -94,7 +94,7 @@ fn take_all(text: &mut [u8]) -> Taken
 // ---- answering
 
 fn put(text: &[u8]) {
-    let done = io::write_all(STDOUT_FILENO, text);
+    let done = text::say(text);
     if !done {
         os::fail(b"sapwoodle: standard output");
     }
@@ -124,7 +124,7 @@ fn tell_in(text: &[u8], out: &mut [u8]) {
     let n = trace::trace(text, out);
     let answered = is_answered(out);
     if answered {
-        explain::explain(STDOUT_FILENO, text);
+        explain::explain(text);
     }
     put(&out[..n]);
 }

@@ -1,8 +1,7 @@
 // Stored chips: an image read from a file, and one written into a file that is there whole or not at all.
-use crate::words;
-use crate::words::Job;
 use libc::STDERR_FILENO;
 use state::Chip;
+use words::Job;
 
 // A chip before a run. `number`: the refusal, 0 for none, TOLD where standard error has the reason.
 pub struct First {
@@ -24,25 +23,22 @@ pub fn refused(number: u8) -> First {
 // ---- reading
 
 // Whether the bytes are a whole image of the part that they name, whatever part that is.
-fn is_image(part: u8, bytes: &[u8], array: &mut [u8], id: &mut [u8]) -> bool {
-    let f = parts::facts_of(part);
-    let m = f.size;
-    let n = parts::id_size(f);
-    if m <= array.len() {
-        if n <= id.len() {
-            let loaded = image::load(bytes, 0, &mut array[0..m], &mut id[0..n]);
-            let verdict = loaded.verdict;
-            return parts::verdict_number(verdict) == 0;
-        }
-    }
-    false
+fn is_image(part: u8, bytes: &[u8]) -> bool {
+    let mut array = [0u8; 32768];
+    let mut id = [0u8; 64];
+    let loaded = image::load(
+        bytes,
+        0,
+        fitted::array(part, &mut array),
+        fitted::id(part, &mut id),
+    );
+    let verdict = loaded.verdict;
+    parts::verdict_number(verdict) == 0
 }
 
 // An image of another part is not what was meant; anything else is no image.
 fn other(part: u8, bytes: &[u8]) -> First {
-    let mut array = [0u8; 32768];
-    let mut id = [0u8; 64];
-    if is_image(part, bytes, &mut array, &mut id) {
+    if is_image(part, bytes) {
         io::write_all(
             STDERR_FILENO,
             b"sapwoodle: the image is of another part than the one named\n",

@@ -2,7 +2,6 @@
 // on a stored one.
 mod files;
 mod show;
-mod words;
 
 ghost use mathlib.Core.Path.{_≡_};
 ghost use lib.ListN.{length};
@@ -187,19 +186,6 @@ fn begin(job: Job, array: &mut [u8], id: &mut [u8], data: &mut [u8]) -> bool {
     run(job, chip, array, id, data)
 }
 
-// The buffers hold the largest part: a smaller one is lent as much as it has.
-fn fit(job: Job, array: &mut [u8], id: &mut [u8], data: &mut [u8]) -> bool {
-    let f = parts::facts_of(job.part);
-    let m = f.size;
-    let n = parts::id_size(f);
-    if m <= array.len() {
-        if n <= id.len() {
-            return begin(job, &mut array[0..m], &mut id[0..n], data);
-        }
-    }
-    false
-}
-
 // 1 and 2 are given before a file is looked at.
 fn refusal(job: Job) -> u8 {
     let f = parts::facts_of(job.part);
@@ -222,7 +208,12 @@ fn lend(job: Job, data: &mut [u8]) -> bool {
     }
     let mut array = [0u8; 32768];
     let mut id = [0u8; 64];
-    fit(job, &mut array, &mut id, data)
+    begin(
+        job,
+        fitted::array(job.part, &mut array),
+        fitted::id(job.part, &mut id),
+        data,
+    )
 }
 
 fn write_in(job: Job, data: &mut [u8]) -> bool {
@@ -240,7 +231,7 @@ fn write_in(job: Job, data: &mut [u8]) -> bool {
 
 // `write PART ENABLE ADDRESS HEXBYTES ..`
 pub fn write_command(next: usize, end: usize) -> bool {
-    let job = words::asked(words::plain(false, next, end));
+    let job = words::asked(false, next, end);
     if job.ok {
         let mut data = [0u8; 32769];
         return write_in(job, &mut data);
@@ -250,7 +241,7 @@ pub fn write_command(next: usize, end: usize) -> bool {
 
 // `read PART ENABLE ADDRESS LENGTH ..`
 pub fn read_command(next: usize, end: usize) -> bool {
-    let job = words::asked(words::plain(true, next, end));
+    let job = words::asked(true, next, end);
     if job.ok {
         let mut data = [0u8; 32769];
         return lend(job, &mut data);
@@ -270,7 +261,7 @@ pub fn bench_command(next: usize, end: usize) -> bool {
     if end <= next {
         return told(tables::print_every());
     }
-    let job = words::bench_asked(words::plain(false, next, end));
+    let job = words::bench_asked(next, end);
     if job.ok {
         return told(tables::print_all(job.part, job.enable));
     }

@@ -1,13 +1,10 @@
 // What a run is answered with: plain lines on standard output that other tools can read. Each function is told whether the lines
 // before it were written, and says so of its own: what standard output does not take is said once, and nothing follows.
-ghost use Prim.Native.Nat.{_<_};
-use libc::STDOUT_FILENO;
-
 pub fn say(ok: bool, text: &[u8]) -> bool {
     if !ok {
         return false;
     }
-    let done = io::write_all(STDOUT_FILENO, text);
+    let done = text::say(text);
     if !done {
         os::fail(b"sapwoodle: standard output");
     }
@@ -70,16 +67,12 @@ fn reason(n: u8) -> bool {
     }
 }
 
-fn wide(n: u8) -> usize {
-    n as usize
-}
-
 // The first line, which tells a refusal from a run that is done.
 pub fn head(n: u8) -> bool {
     if n == 0 {
         return say(true, b"done\n");
     }
-    if count(true, b"refused ", wide(n)) {
+    if count(true, b"refused ", text::wide(n)) {
         return reason(n);
     }
     false
@@ -149,15 +142,9 @@ pub fn tape(ok: bool, levels: bool, sent: usize, kept: &mut [u8]) -> bool {
 
 // ---- bytes in hexadecimal
 
-fn hex_digit(n: u8) -> u8
-    requires { ⌜ n < 16 ⌝ }
-{
-    if n < 10 { 48 + n } else { 87 + n }
-}
-
 fn hex(ok: bool, b: u8) -> bool {
-    let pair = [b' ', hex_digit(b / 16), hex_digit(b % 16)];
-    say(ok, &pair)
+    let d = text::small_hex(b);
+    say(ok, &[b' ', d[0], d[1]])
 }
 
 // The sum is guarded for the proof alone: what is shown lies in an array.

@@ -1,14 +1,15 @@
 // What could not be tried on boards, run on the model and printed: a Stop at each clock of a page write, Write Control rising at
 // each place of it, the lock command, a chip that stays busy, for any part of the table.
-use bench::Report;
-use chip::Ran;
 use driver::Place;
 use driver::Request;
-use libc::STDOUT_FILENO;
 use parts::ArrayAddress;
 use parts::Facts;
-use parts::Verdict;
 use state::Chip;
+use text::say;
+use text::say_address;
+use text::say_byte;
+use text::say_number;
+use text::say_right;
 
 // A transfer: Start, some clocks of these bytes, Stop, and the cycle's end. Past the bytes the line is released.
 struct Script {
@@ -18,16 +19,25 @@ struct Script {
     high: usize,
 }
 
-// What a transfer did: whether its first two data bytes were acknowledged, the cycles begun, and what stands at the page's last
-// place, at its first and in the identification page.
-struct Tried {
-    first: bool,
-    second: bool,
+// What events did to a part as delivered.
+struct Played {
     cycles: usize,
-    last: u8,
-    front: u8,
-    ident: u8,
-    chip: Chip,
+    locked: bool,
+}
+
+// What a lock command did, and the write behind it: whether each began a cycle, and whether the page is locked.
+struct Locked {
+    begun: bool,
+    locked: bool,
+    later: bool,
+}
+
+// What the driver reports of a write: the refusal's number, 0 for none.
+struct Told {
+    number: u8,
+    polls: usize,
+    bytes: usize,
+    cycles: usize,
 }
 
 const START: u8 = 2;
@@ -60,61 +70,7 @@ const LOCKS: u8 = 3;
 
 const BUSY: u8 = 4;
 
-// ---- numbers and text
-
-// False where it could not be written.
-fn say(text: &[u8]) -> bool {
-    io::write_all(STDOUT_FILENO, text)
-}
-
-fn tell(n: usize) {
-    io::print_decimal(STDOUT_FILENO, n as u64);
-}
-
-fn pad(n: usize, limit: usize) {
-    if n < limit {
-        say(b" ");
-    }
-}
-
-// A number at the right end of two columns.
-fn tell_two(n: usize) {
-    pad(n, 10);
-    tell(n);
-}
-
-// A number at the right end of five columns, behind two more.
-fn tell_seven(n: usize) {
-    say(b"  ");
-    pad(n, 10000);
-    pad(n, 1000);
-    pad(n, 100);
-    tell_two(n);
-}
-
-fn byte(n: usize) -> u8 {
-    if n < 256 { n as u8 } else { 255 }
-}
-
-// Document 01 writes hexadecimal digits in capitals.
-fn digit(n: u8) -> u8 {
-    if n < 10 {
-        return 48 + n;
-    }
-    if n < 16 { 55 + n } else { b'?' }
-}
-
-fn tell_byte(x: u8) {
-    let text = [digit(x / 16), digit(x % 16), b'h'];
-    say(&text);
-}
-
-fn tell_address(a: usize) {
-    let high = byte(a / 256);
-    let text = [digit(high / 16), digit(high % 16)];
-    say(&text);
-    tell_byte(byte(a % 256));
-}
+// ---- numbers
 
 fn less(n: usize) -> usize {
     if 0 < n { n - 1 } else { 0 }
@@ -122,13 +78,6 @@ fn less(n: usize) -> usize {
 
 fn more(n: usize) -> usize {
     if n < 65536 { n + 1 } else { n }
-}
-
-fn at(s: &[u8], i: usize) -> u8 {
-    if i < s.len() {
-        return s[i];
-    }
-    0
 }
 
 // The first n bytes, for a caller whose slice has them.
@@ -141,30 +90,17 @@ fn first_of(s: &[u8], n: usize) -> &[u8] {
 
 // ---- the events of a transfer
 
-fn bit(x: u8, place: usize) -> u8 {
-    match place {
-        0 => x / 128 % 2,
-        1 => x / 64 % 2,
-        2 => x / 32 % 2,
-        3 => x / 16 % 2,
-        4 => x / 8 % 2,
-        5 => x / 4 % 2,
-        6 => x / 2 % 2,
-        _ => x % 2,
-    }
-}
-
-fn byte_of(bytes: [u8; 8], j: usize) -> u8 {
-    if j < 8 { bytes[j] } else { 255 }
-}
-
 // "eight bits, highest first, then the acknowledge", for which the master releases.
 fn clock(bytes: [u8; 8], t: usize) -> u8 {
+    let j = t / 9;
     let place = t % 9;
     if place == 8 {
         return 1;
     }
-    bit(byte_of(bytes, t / 9), place)
+    if j < 8 {
+        return (bytes[j] >> (7 - place)) % 2;
+    }
+    1
 }
 
 // The event at a place of the transfer, without the pin.
@@ -174,9 +110,9 @@ fn plain(s: Script, i: usize) -> u8 {
     }
     let bytes = s.bytes;
     if i <= s.clocks {
-        return clock(bytes, less(i));
+        return clock(bytes, i - 1);
     }
-    if less(i) == s.clocks {
+    if i - 1 == s.clocks {
         return STOP;
     }
     ENDS
@@ -200,6 +136,15 @@ fn fill(events: &mut [u8], s: Script) {
     }
 }
 
+fn sum(n: usize, m: usize) -> usize {
+    if n < 65536 {
+        if m < 65536 {
+            return n + m;
+        }
+    }
+    n
+}
+
 // Start, clocks, Stop and end, and the rise of the pin.
 fn events_in(s: Script) -> usize {
     let plain = more(more(more(s.clocks)));
@@ -209,101 +154,123 @@ fn events_in(s: Script) -> usize {
     more(plain)
 }
 
+fn events_of(s: Script) -> [u8; 128] {
+    let mut events = [0u8; 128];
+    fill(&mut events, s);
+    events
+}
+
+// A transfer behind the first n events.
+fn behind(mut events: [u8; 128], n: usize, s: Script) -> [u8; 128] {
+    if n < 128 {
+        fill(&mut events[n..], s);
+    }
+    events
+}
+
+// Whether byte j was acknowledged, counted from 0, the select; the transfer stands behind the first n levels.
+fn acknowledged(s: Script, levels: &[u8], n: usize, j: usize) -> bool {
+    if 7 < j {
+        return false;
+    }
+    if 128 < n {
+        return false;
+    }
+    let place = n + 9 * (j + 1);
+    if s.high <= place {
+        return parts::byte_at(levels, place + 1) == 0;
+    }
+    parts::byte_at(levels, place) == 0
+}
+
+fn is_locked(chip: Chip) -> bool {
+    let line = chip.line;
+    let core = line.core;
+    core.locked
+}
+
+// The first n events, on a part as delivered.
 fn play(
     part: u8,
     enable: u8,
-    chip: Chip,
     array: &mut [u8],
     id: &mut [u8],
-    s: Script,
+    events: &[u8],
     levels: &mut [u8],
-) -> Ran {
-    let mut events = [0u8; 64];
-    fill(&mut events, s);
-    let n = events_in(s);
-    chip::run(part, enable, chip, array, id, first_of(&events, n), levels)
-}
-
-// Where the acknowledge of byte j stands in the list; j counts from 0, the select.
-fn acknowledge(s: Script, j: usize) -> usize {
-    if j < 8 {
-        let place = 9 * (j + 1);
-        if s.high <= place {
-            return place + 1;
-        }
-        return place;
-    }
-    0
-}
-
-fn acknowledged(s: Script, levels: &[u8], j: usize) -> bool {
-    at(levels, acknowledge(s, j)) == 0
-}
-
-// What a transfer does to a chip.
-fn attempt(part: u8, enable: u8, s: Script, chip: Chip, array: &mut [u8], id: &mut [u8]) -> Tried {
-    let f = parts::facts_of(part);
-    let j = more(parts::address_bytes(f));
-    let mut levels = [2u8; 64];
-    let r = play(part, enable, chip, array, id, s, &mut levels);
-    let after = r.chip;
-    Tried {
-        first: acknowledged(s, &levels, j),
-        second: acknowledged(s, &levels, more(j)),
+) -> Played {
+    let d = chip::deliver(part, array, id);
+    let r = chip::run(part, enable, d.chip, array, id, events, levels);
+    Played {
         cycles: r.cycles,
-        last: at(array, less(f.page)),
-        front: at(array, 0),
-        ident: at(id, 0),
-        chip: after,
+        locked: is_locked(r.chip),
+    }
+}
+
+// The driver's write on a part as delivered; each cycle ends just before poll `d` of its page.
+fn play_busy(request: Request, d: usize, array: &mut [u8], id: &mut [u8]) -> Told {
+    let delivered = chip::deliver(request.part, array, id);
+    let mut data = [FIRST, SECOND];
+    let r = bench::run(
+        request,
+        request.enable,
+        d,
+        delivered.chip,
+        array,
+        id,
+        &mut data,
+    );
+    let verdict = r.verdict;
+    Told {
+        number: parts::verdict_number(verdict),
+        polls: r.polls,
+        bytes: r.bytes,
+        cycles: r.cycles,
     }
 }
 
 // ---- the transfers
 
-// The select code for a write: of the identification page, or of the array below address 256.
-fn select(f: Facts, ident: bool, enable: u8) -> u8 {
-    if enable < 8 {
-        let own = if f.wide { enable * 2 } else { 0 };
-        return marked(ident, own);
+// Select for a write at an address below 256, so many address bytes, and two data bytes.
+fn transfer(
+    a: usize,
+    enable: u8,
+    ident: bool,
+    high: u8,
+    low: u8,
+    first: u8,
+    second: u8,
+) -> [u8; 8] {
+    let kind = if ident { 0xB0u8 } else { 0xA0u8 };
+    if a == 2 {
+        return [
+            kind | enable % 8 * 2,
+            high,
+            low,
+            first,
+            second,
+            255,
+            255,
+            255,
+        ];
     }
-    0
+    [kind, low, first, second, 255, 255, 255, 255]
 }
 
-fn marked(ident: bool, low: u8) -> u8 {
-    if low < 16 {
-        if ident {
-            return 0xB0 + low;
+// The clocks of a transfer with so many address and data bytes.
+fn clocks(a: usize, data: usize) -> usize {
+    if a < 4 {
+        if data < 4 {
+            return 9 * (1 + a + data);
         }
-        return 0xA0 + low;
-    }
-    0
-}
-
-// Select, address bytes and two data bytes.
-fn transfer(f: Facts, select: u8, high: u8, low: u8, first: u8, second: u8) -> [u8; 8] {
-    if f.wide {
-        return [select, high, low, first, second, 255, 255, 255];
-    }
-    [select, low, first, second, 255, 255, 255, 255]
-}
-
-// The clocks of a transfer with so many data bytes.
-fn clocks(f: Facts, data: usize) -> usize {
-    if data < 4 {
-        if f.wide {
-            return 9 * (3 + data);
-        }
-        return 9 * (2 + data);
     }
     0
 }
 
 // Two bytes at a page's last place, the second rolling over to the page's first; so many clocks, and the pin rising at a place.
-fn page_write(f: Facts, enable: u8, clocks: usize, high: usize) -> Script {
-    let last = byte(less(f.page));
-    let bytes = transfer(f, select(f, false, enable), 0, last, FIRST, SECOND);
+fn page_write(a: usize, page: usize, enable: u8, clocks: usize, high: usize) -> Script {
+    let last = text::narrow(less(page));
     Script {
-        bytes,
+        bytes: transfer(a, enable, false, 0, last, FIRST, SECOND),
         clocks,
         high,
     }
@@ -326,30 +293,20 @@ fn lock_bytes(k: usize) -> usize {
 }
 
 // The address bit that chooses the lock is in the first address byte where there are two.
-fn lock_command(f: Facts, enable: u8, k: usize) -> Script {
-    let low = if f.wide { 0 } else { 0x80 };
-    let bytes = transfer(f, select(f, true, enable), 4, low, lock_byte(k), 0);
+fn lock_command(a: usize, enable: u8, k: usize) -> Script {
+    let low = if a == 2 { 0 } else { 0x80 };
     Script {
-        bytes,
-        clocks: clocks(f, lock_bytes(k)),
+        bytes: transfer(a, enable, true, 4, low, lock_byte(k), 0),
+        clocks: clocks(a, lock_bytes(k)),
         high: NEVER,
     }
 }
 
-fn id_write(f: Facts, enable: u8) -> Script {
-    let bytes = transfer(f, select(f, true, enable), 0, 0, LATER, 255);
+fn id_write(a: usize, enable: u8) -> Script {
     Script {
-        bytes,
-        clocks: clocks(f, 1),
+        bytes: transfer(a, enable, true, 0, 0, LATER, 255),
+        clocks: clocks(a, 1),
         high: NEVER,
-    }
-}
-
-fn script_of(f: Facts, enable: u8, table: u8, k: usize) -> Script {
-    match table {
-        STOPS => page_write(f, enable, k, NEVER),
-        RISES => page_write(f, enable, clocks(f, 2), k),
-        _ => lock_command(f, enable, k),
     }
 }
 
@@ -363,33 +320,28 @@ fn tell_yes(yes: bool) {
     }
 }
 
-fn tell_address_name(wide: bool, j: usize) {
-    if wide {
-        say(b"address ");
-        tell(j);
+// The name of an address byte: it has a number where there are two.
+fn tell_address_name(a: usize, j: usize) {
+    say(b"address ");
+    if a == 2 {
+        say_number(j);
     } else {
-        say(b"address  ");
+        say(b" ");
     }
 }
 
-fn tell_data_name(j: usize) {
-    say(b"data ");
-    tell(j);
-    say(b"   ");
-}
-
 // The name of byte j of a transfer.
-fn tell_byte_name(f: Facts, j: usize) {
-    let a = parts::address_bytes(f);
+fn tell_byte_name(a: usize, j: usize) {
     if j == 0 {
         say(b"select   ");
         return;
     }
     if j <= a {
-        tell_address_name(f.wide, j);
-        return;
+        return tell_address_name(a, j);
     }
-    tell_data_name(j - a);
+    say(b"data ");
+    say_number(j - a);
+    say(b"   ");
 }
 
 fn tell_bit(t: usize) {
@@ -397,62 +349,54 @@ fn tell_bit(t: usize) {
         say(b" acknowledge");
     } else {
         say(b" bit ");
-        tell(more(t));
+        say_number(more(t));
         say(b"      ");
     }
 }
 
 // How many clocks, and what the last of them was.
-fn tell_place(f: Facts, k: usize) {
-    tell_two(k);
+fn tell_place(a: usize, k: usize) {
+    say_right(k, 2);
     if k == 0 {
         say(b"  Start                ");
         return;
     }
     say(b"  ");
     let t = less(k);
-    tell_byte_name(f, t / 9);
+    tell_byte_name(a, t / 9);
     tell_bit(t % 9);
 }
 
-fn tell_cycle(cycles: usize) {
-    if cycles == 0 {
-        say(b"   -     ");
-    } else {
+fn tell_cycle(begun: bool) {
+    if begun {
         say(b"   begins");
+    } else {
+        say(b"   -     ");
     }
 }
 
 fn tell_stored(a: u8, b: u8) -> bool {
     say(b"   ");
-    tell_byte(a);
+    say_byte(a);
     say(b"    ");
-    tell_byte(b);
+    say_byte(b);
     say(b"\n")
-}
-
-// ---- 1: a Stop at each clock
-
-fn stop_line(f: Facts, k: usize, cycles: usize, last: u8, front: u8) -> bool {
-    tell_place(f, k);
-    tell_cycle(cycles);
-    tell_stored(last, front)
 }
 
 // ---- 2: Write Control rises
 
 // Place 0 is before the Start, place k + 1 after clock k, the last one after the Stop.
-fn tell_rise(f: Facts, place: usize) {
+fn tell_rise(a: usize, place: usize) {
     if place == 0 {
         say(b"    before the Start     ");
         return;
     }
     let k = less(place);
-    if clocks(f, 2) < k {
+    if clocks(a, 2) < k {
         say(b"    after the Stop       ");
         return;
     }
-    tell_place(f, k);
+    tell_place(a, k);
 }
 
 fn tell_both(first: bool, second: bool) {
@@ -475,68 +419,137 @@ fn tell_second(second: bool, k: usize) {
     say(b" ");
 }
 
-fn lock_line(k: usize, first: bool, second: bool, cycles: usize, locked: bool) {
-    tell_byte(lock_byte(k));
+fn lock_line(k: usize, first: bool, second: bool, begun: bool, locked: bool) {
+    say_byte(lock_byte(k));
     say(b" ");
     tell_yes(first);
     say(b"  ");
     tell_second(second, k);
-    tell_cycle(cycles);
+    tell_cycle(begun);
     say(b"   ");
     tell_yes(locked);
 }
 
 // An identification write after the lock command: whether its byte is acknowledged, and what is then stored.
-fn later_line(first: bool, cycles: usize, ident: u8) -> bool {
+fn later_line(first: bool, begun: bool, ident: u8) -> bool {
     say(b"      ");
     tell_yes(first);
-    tell_cycle(cycles);
+    tell_cycle(begun);
     say(b"   ");
-    tell_byte(ident);
+    say_byte(ident);
     say(b"\n")
-}
-
-fn is_locked(chip: Chip) -> bool {
-    let line = chip.line;
-    let core = line.core;
-    core.locked
-}
-
-fn lock_row(part: u8, enable: u8, k: usize, tried: Tried, array: &mut [u8], id: &mut [u8]) -> bool {
-    let after = tried.chip;
-    lock_line(k, tried.first, tried.second, tried.cycles, is_locked(after));
-    let s = id_write(parts::facts_of(part), enable);
-    let later = attempt(part, enable, s, after, array, id);
-    later_line(later.first, later.cycles, later.ident)
 }
 
 // ---- 4: a chip that stays busy
 
-fn tell_verdict(verdict: Verdict) {
-    match verdict {
-        Verdict::Fine => {
-            say(b"done      ");
-        }
-        Verdict::Refused(r) => {
-            say(b"refused ");
-            tell_two(parts::number(r) as usize);
-        }
+fn tell_number(number: u8) {
+    if number == 0 {
+        say(b"done      ");
+        return;
     }
+    say(b"refused ");
+    say_right(text::wide(number), 2);
 }
 
-fn busy_line(d: usize, r: Report, last: u8, next: u8) -> bool {
-    let verdict = r.verdict;
-    tell_two(d);
+fn busy_line(d: usize, b: Told, last: u8, next: u8) -> bool {
+    say_right(d, 2);
     say(b"     ");
-    tell_verdict(verdict);
-    tell_seven(r.polls);
-    tell_seven(r.bytes);
-    tell_seven(r.cycles);
+    tell_number(b.number);
+    say_right(b.polls, 7);
+    say_right(b.bytes, 7);
+    say_right(b.cycles, 7);
     tell_stored(last, next)
 }
 
-// Row k: each cycle ends just before poll k + 1 of its page. The write meets two pages.
-fn busy_row(part: u8, enable: u8, k: usize, chip: Chip, array: &mut [u8], id: &mut [u8]) -> bool {
+// ---- rows: each starts from delivery
+
+fn write_of(a: usize, page: usize, enable: u8, table: u8, k: usize) -> Script {
+    if table == STOPS {
+        return page_write(a, page, enable, k, NEVER);
+    }
+    page_write(a, page, enable, clocks(a, 2), k)
+}
+
+// How many clocks before the Stop; or where the pin rises, and which data bytes were acknowledged.
+fn tell_write(a: usize, table: u8, k: usize, first: bool, second: bool) {
+    if table == STOPS {
+        return tell_place(a, k);
+    }
+    tell_rise(a, k);
+    tell_both(first, second);
+}
+
+fn write_row(part: u8, enable: u8, table: u8, k: usize, array: &mut [u8], id: &mut [u8]) -> bool {
+    let f = parts::facts_of(part);
+    let a = parts::address_bytes(f);
+    let last = less(f.page);
+    let s = write_of(a, f.page, enable, table, k);
+    let events = events_of(s);
+    let mut levels = [2u8; 128];
+    let p = play(
+        part,
+        enable,
+        array,
+        id,
+        first_of(&events, events_in(s)),
+        &mut levels,
+    );
+    let first = acknowledged(s, &levels, 0, more(a));
+    let second = acknowledged(s, &levels, 0, more(more(a)));
+    tell_write(a, table, k, first, second);
+    tell_cycle(0 < p.cycles);
+    tell_stored(parts::byte_at(array, last), parts::byte_at(array, 0))
+}
+
+// The lock command alone, and again with the write behind it.
+fn play_lock(
+    part: u8,
+    enable: u8,
+    array: &mut [u8],
+    id: &mut [u8],
+    first: &[u8],
+    all: &[u8],
+    levels: &mut [u8],
+) -> Locked {
+    let p = play(part, enable, array, id, first, levels);
+    let both = play(part, enable, array, id, all, levels);
+    Locked {
+        begun: 0 < p.cycles,
+        locked: p.locked,
+        later: p.cycles < both.cycles,
+    }
+}
+
+fn tell_lock(k: usize, a: usize, s: Script, levels: &[u8], l: Locked) {
+    let first = acknowledged(s, levels, 0, more(a));
+    let second = acknowledged(s, levels, 0, more(more(a)));
+    lock_line(k, first, second, l.begun, l.locked);
+}
+
+fn lock_row(part: u8, enable: u8, k: usize, array: &mut [u8], id: &mut [u8]) -> bool {
+    let a = parts::address_bytes(parts::facts_of(part));
+    let s = lock_command(a, enable, k);
+    let later = id_write(a, enable);
+    let n = events_in(s);
+    let events = behind(events_of(s), n, later);
+    let all = first_of(&events, sum(n, events_in(later)));
+    let mut levels = [2u8; 128];
+    let l = play_lock(
+        part,
+        enable,
+        array,
+        id,
+        first_of(&events, n),
+        all,
+        &mut levels,
+    );
+    tell_lock(k, a, s, &levels, l);
+    let written = acknowledged(later, &levels, n, more(a));
+    later_line(written, l.later, parts::byte_at(id, 0))
+}
+
+// The write meets two pages.
+fn busy_row(part: u8, enable: u8, d: usize, array: &mut [u8], id: &mut [u8]) -> bool {
     let f = parts::facts_of(part);
     let last = less(f.page);
     let request = Request {
@@ -547,75 +560,35 @@ fn busy_row(part: u8, enable: u8, k: usize, chip: Chip, array: &mut [u8], id: &m
         length: 2,
         budget: BUDGET,
     };
-    let mut data = [FIRST, SECOND];
-    let r = bench::run(request, enable, more(k), chip, array, id, &mut data);
-    busy_line(more(k), r, at(array, last), at(array, f.page))
+    let b = play_busy(request, d, array, id);
+    busy_line(
+        d,
+        b,
+        parts::byte_at(array, last),
+        parts::byte_at(array, f.page),
+    )
 }
 
-// ---- rows
-
-fn line(f: Facts, table: u8, k: usize, tried: Tried) -> bool {
-    if table == RISES {
-        tell_rise(f, k);
-        tell_both(tried.first, tried.second);
-        tell_cycle(tried.cycles);
-        return tell_stored(tried.last, tried.front);
-    }
-    stop_line(f, k, tried.cycles, tried.last, tried.front)
-}
-
-fn tried_row(
-    part: u8,
-    enable: u8,
-    table: u8,
-    k: usize,
-    chip: Chip,
-    array: &mut [u8],
-    id: &mut [u8],
-) -> bool {
-    let f = parts::facts_of(part);
-    let s = script_of(f, enable, table, k);
-    let tried = attempt(part, enable, s, chip, array, id);
-    if table == LOCKS {
-        return lock_row(part, enable, k, tried, array, id);
-    }
-    line(f, table, k, tried)
-}
-
-// Each row starts from delivery.
-fn delivered_row(
-    part: u8,
-    enable: u8,
-    table: u8,
-    k: usize,
-    array: &mut [u8],
-    id: &mut [u8],
-) -> bool {
-    let d = chip::deliver(part, array, id);
-    let chip = d.chip;
-    if table == BUSY {
-        return busy_row(part, enable, k, chip, array, id);
-    }
-    tried_row(part, enable, table, k, chip, array, id)
-}
-
-// The two buffers, cut to the part's lengths.
 fn lent_row(part: u8, enable: u8, table: u8, k: usize, array: &mut [u8], id: &mut [u8]) -> bool {
-    let f = parts::facts_of(part);
-    let m = f.size;
-    let n = parts::id_size(f);
-    if m <= array.len() {
-        if n <= id.len() {
-            return delivered_row(part, enable, table, k, &mut array[0..m], &mut id[0..n]);
-        }
+    match table {
+        LOCKS => lock_row(part, enable, k, array, id),
+        BUSY => busy_row(part, enable, more(k), array, id),
+        _ => write_row(part, enable, table, k, array, id),
     }
-    false
 }
 
+// The buffers hold the largest part.
 fn row(part: u8, enable: u8, table: u8, k: usize) -> bool {
     let mut array = [0u8; 32768];
     let mut id = [0u8; 64];
-    lent_row(part, enable, table, k, &mut array, &mut id)
+    lent_row(
+        part,
+        enable,
+        table,
+        k,
+        fitted::array(part, &mut array),
+        fitted::id(part, &mut id),
+    )
 }
 
 fn rows(part: u8, enable: u8, table: u8, n: usize) -> bool {
@@ -633,27 +606,27 @@ fn rows(part: u8, enable: u8, table: u8, n: usize) -> bool {
 
 fn tell_places(a: usize, b: usize) {
     say(b"  ");
-    tell_address(a);
+    say_address(a);
     say(b"  ");
-    tell_address(b);
+    say_address(b);
     say(b"\n");
 }
 
 // The last row's Stop comes one clock after the last acknowledge.
-fn stops(part: u8, enable: u8, f: Facts) -> bool {
+fn stops(part: u8, enable: u8, a: usize, page: usize) -> bool {
     say(b"\nA Stop after each clock of a page write, 11h and 22h at ");
-    tell_address(less(f.page));
+    say_address(less(page));
     say(b"; stored is what E leaves\nclocks, the last            cycle  ");
-    tell_places(less(f.page), 0);
-    rows(part, enable, STOPS, more(more(clocks(f, 2))))
+    tell_places(less(page), 0);
+    rows(part, enable, STOPS, more(more(clocks(a, 2))))
 }
 
-fn rises(part: u8, enable: u8, f: Facts) -> bool {
+fn rises(part: u8, enable: u8, a: usize, page: usize, pin: bool) -> bool {
     say(b"\nWrite Control rises in that write\n");
-    if f.pin {
+    if pin {
         say(b"rises after                 data 1  data 2  cycle  ");
-        tell_places(less(f.page), 0);
-        return rows(part, enable, RISES, more(more(more(clocks(f, 2)))));
+        tell_places(less(page), 0);
+        return rows(part, enable, RISES, more(more(more(clocks(a, 2)))));
     }
     say(b"This part has no Write Control pin.\n")
 }
@@ -671,7 +644,7 @@ fn busy(part: u8, enable: u8, page: usize) -> bool {
     say(
         b"\nA cycle that ends just before poll number d, budget 4: the driver writes 11h and 22h at ",
     );
-    tell_address(less(page));
+    say_address(less(page));
     say(b"\n d     answer      polls  bytes cycles ");
     tell_places(less(page), page);
     rows(part, enable, BUSY, more(BUDGET))
@@ -692,20 +665,21 @@ fn tell_name(part: u8) {
 
 fn heading(part: u8, enable: u8) {
     say(b"Part ");
-    tell(part as usize);
+    say_number(part as usize);
     say(b", ");
     tell_name(part);
     say(b", enable ");
-    tell(enable as usize);
+    say_number(enable as usize);
     say(b"\n");
 }
 
 fn known_part(part: u8, enable: u8, f: Facts) -> bool {
     heading(part, enable);
-    if !stops(part, enable, f) {
+    let a = parts::address_bytes(f);
+    if !stops(part, enable, a, f.page) {
         return false;
     }
-    if !rises(part, enable, f) {
+    if !rises(part, enable, a, f.page, f.pin) {
         return false;
     }
     if !locks(part, enable, f.ident) {

@@ -1,5 +1,6 @@
+use Prim.Native.Nat.{_+_, _-_, _≤_, _<_}
+use mathlib.Core.Path.{_≡_}
 use lib.ListN.{length}
-use Prim.Native.Nat.{_≤_, _-_}
 use borrow.Author.Needs.{needs}
 use Rattle.bench_try.proofs.tell_bytes.Statement.{statement}
 use Rattle.bench_try.proofs.tell_bytes.Tie as tie
@@ -16,11 +17,14 @@ say-requires c κs = search needs
 loop-holds : tie.Need-loop-holds Inv-loop μ-loop
 loop-holds c = search needs
 
-shared-slice-read-tell-byte : tie.Need-shared-slice-read-tell-byte Inv-loop μ-loop
-shared-slice-read-tell-byte c = search needs
+shared-slice-read-wide : tie.Need-shared-slice-read-wide Inv-loop μ-loop
+shared-slice-read-wide c = search needs
 
-tell-byte-requires : tie.Need-tell-byte-requires Inv-loop μ-loop
-tell-byte-requires c κs = search needs
+wide-requires : tie.Need-wide-requires Inv-loop μ-loop
+wide-requires c κs = search needs
+
+tell-requires : tie.Need-tell-requires Inv-loop μ-loop
+tell-requires c κs = search needs
 
 add-i : tie.Need-add-i Inv-loop μ-loop
 add-i c = search needs
@@ -48,8 +52,9 @@ tell-bytes-spec =
     μ-loop
     say-requires
     loop-holds
-    shared-slice-read-tell-byte
-    tell-byte-requires
+    shared-slice-read-wide
+    wide-requires
+    tell-requires
     add-i
     loop-less
     loop-again

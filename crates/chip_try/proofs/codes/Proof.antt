@@ -1,19 +1,21 @@
-use Prim.Native.Nat.{_≤_, _-_}
+use Prim.Native.Nat.{_+_, _-_, _≤_, _<_}
+use mathlib.Core.Path.{_≡_}
+use lib.ListN.{length}
 use borrow.Author.Needs.{needs}
 use Rattle.chip_try.proofs.codes.Statement.{statement}
 use Rattle.chip_try.proofs.codes.Tie as tie
 
 abbrev Inv-loop : tie.InvT-loop
-Inv-loop t list refused₀ code₀ refused code = code ≤ 256
+Inv-loop list with₀ refused₀ code₀ with refused code = code ≤ 256
 
 abbrev μ-loop : tie.MeasureT-loop
-μ-loop t list refused₀ code₀ refused code = 256 - code
+μ-loop list with₀ refused₀ code₀ with refused code = 256 - code
 
 loop-holds : tie.Need-loop-holds Inv-loop μ-loop
 loop-holds c = search needs
 
-byte-requires : tie.Need-byte-requires Inv-loop μ-loop
-byte-requires c κs = search needs
+array-write-with : tie.Need-array-write-with Inv-loop μ-loop
+array-write-with c = search needs
 
 one-code-requires : tie.Need-one-code-requires Inv-loop μ-loop
 one-code-requires c κs = search needs
@@ -37,7 +39,7 @@ codes-spec =
     Inv-loop
     μ-loop
     loop-holds
-    byte-requires
+    array-write-with
     one-code-requires
     add-code
     loop-less

@@ -4,8 +4,8 @@ use borrow.Author.Needs.{needs}
 use Rattle.driver_try.proofs.run.Statement.{statement}
 use Rattle.driver_try.proofs.run.Tie as tie
 
-write-all-requires : tie.Need-write-all-requires
-write-all-requires c κs = search needs
+say-requires : tie.Need-say-requires
+say-requires c κs = search needs
 
 array-borrow-prefix-buffer : tie.Need-array-borrow-prefix-buffer
 array-borrow-prefix-buffer c = search needs
@@ -22,11 +22,11 @@ say-tally-requires c κs = search needs
 say-first-requires : tie.Need-say-first-requires
 say-first-requires c κs = search needs
 
-slice-aggregate-write-all : tie.Need-slice-aggregate-write-all
-slice-aggregate-write-all c = search needs
+slice-aggregate-say : tie.Need-slice-aggregate-say
+slice-aggregate-say c = search needs
 
-write-all-requires-2 : tie.Need-write-all-requires-2
-write-all-requires-2 c κs = search needs
+say-requires-2 : tie.Need-say-requires-2
+say-requires-2 c κs = search needs
 
 returns : tie.Need-returns
 returns c = search needs
@@ -35,12 +35,12 @@ pub run-spec : {M : Type 1} → statement M
 run-spec =
     tie.close
     (tie.spec
-    write-all-requires
+    say-requires
     array-borrow-prefix-buffer
     slice-aggregate-drive
     drive-requires
     say-tally-requires
     say-first-requires
-    slice-aggregate-write-all
-    write-all-requires-2
+    slice-aggregate-say
+    say-requires-2
     returns)

@@ -7,10 +7,10 @@ use Rattle.explain.proofs.walk.Statement.{statement}
 use Rattle.explain.proofs.walk.Tie as tie
 
 abbrev Inv-loop : tie.InvT-loop
-Inv-loop fd part enable letters array₀ id₀ held₀ note₀ i₀ array id held note i = (i ≤ length letters) × (length array ≡ length array₀) × (length id ≡ length id₀)
+Inv-loop part enable letters array₀ id₀ held₀ note₀ i₀ array id held note i = (i ≤ length letters) × (length array ≡ length array₀) × (length id ≡ length id₀)
 
 abbrev μ-loop : tie.MeasureT-loop
-μ-loop fd part enable letters array₀ id₀ held₀ note₀ i₀ array id held note i = length letters - i
+μ-loop part enable letters array₀ id₀ held₀ note₀ i₀ array id held note i = length letters - i
 
 deliver-requires : tie.Need-deliver-requires Inv-loop μ-loop
 deliver-requires c κs = search needs

@@ -10,17 +10,17 @@ Inv-loop name bytes i₀ t4 i = i ≤ length bytes
 abbrev μ-loop : tie.MeasureT-loop
 μ-loop name bytes i₀ t4 i = length bytes - i
 
-write-all-requires : tie.Need-write-all-requires Inv-loop μ-loop
-write-all-requires c κs = search needs
+say-requires : tie.Need-say-requires Inv-loop μ-loop
+say-requires c κs = search needs
 
 loop-holds : tie.Need-loop-holds Inv-loop μ-loop
 loop-holds c = search needs
 
-shared-slice-read-hex : tie.Need-shared-slice-read-hex Inv-loop μ-loop
-shared-slice-read-hex c = search needs
+shared-slice-read-tell-hex : tie.Need-shared-slice-read-tell-hex Inv-loop μ-loop
+shared-slice-read-tell-hex c = search needs
 
-hex-requires : tie.Need-hex-requires Inv-loop μ-loop
-hex-requires c κs = search needs
+tell-hex-requires : tie.Need-tell-hex-requires Inv-loop μ-loop
+tell-hex-requires c κs = search needs
 
 add-i : tie.Need-add-i Inv-loop μ-loop
 add-i c = search needs
@@ -31,11 +31,11 @@ loop-less c = search needs
 loop-again : tie.Need-loop-again Inv-loop μ-loop
 loop-again c = search needs
 
-slice-aggregate-write-all : tie.Need-slice-aggregate-write-all Inv-loop μ-loop
-slice-aggregate-write-all c = search needs
+slice-aggregate-say : tie.Need-slice-aggregate-say Inv-loop μ-loop
+slice-aggregate-say c = search needs
 
-write-all-requires-2 : tie.Need-write-all-requires-2 Inv-loop μ-loop
-write-all-requires-2 c κs = search needs
+say-requires-2 : tie.Need-say-requires-2 Inv-loop μ-loop
+say-requires-2 c κs = search needs
 
 returns : tie.Need-returns Inv-loop μ-loop
 returns c = search needs
@@ -46,13 +46,13 @@ say-hex-spec =
     (tie.spec
     Inv-loop
     μ-loop
-    write-all-requires
+    say-requires
     loop-holds
-    shared-slice-read-hex
-    hex-requires
+    shared-slice-read-tell-hex
+    tell-hex-requires
     add-i
     loop-less
     loop-again
-    slice-aggregate-write-all
-    write-all-requires-2
+    slice-aggregate-say
+    say-requires-2
     returns)

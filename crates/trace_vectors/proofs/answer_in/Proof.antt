@@ -8,14 +8,14 @@ use Rattle.trace_vectors.proofs.answer_in.Tie as tie
 trace-requires : tie.Need-trace-requires
 trace-requires c κs = search needs
 
-slice-reshare-prefix-write-all : tie.Need-slice-reshare-prefix-write-all
-slice-reshare-prefix-write-all c = count-fits _ _ _ _ (c .before .before .trace .ensures .0) (sym (c .before .before .trace .kept .1 .0))
+slice-reshare-prefix-say : tie.Need-slice-reshare-prefix-say
+slice-reshare-prefix-say c = count-fits _ _ _ _ (c .before .before .trace .ensures .0) (sym (c .before .before .trace .kept .1 .0))
 
-slice-aggregate-write-all : tie.Need-slice-aggregate-write-all
-slice-aggregate-write-all c = sym (length-take-le _ _ (count-fits _ _ _ _ (c .before .before .before .trace .ensures .0) (sym (c .before .before .before .trace .kept .1 .0))))
+slice-aggregate-say : tie.Need-slice-aggregate-say
+slice-aggregate-say c = sym (length-take-le _ _ (count-fits _ _ _ _ (c .before .before .before .trace .ensures .0) (sym (c .before .before .before .trace .kept .1 .0))))
 
-write-all-requires : tie.Need-write-all-requires
-write-all-requires c κs = search needs
+say-requires : tie.Need-say-requires
+say-requires c κs = search needs
 
 same-length : tie.Need-same-length
 same-length c = search needs
@@ -28,8 +28,8 @@ answer-in-spec =
     tie.close
     (tie.spec
     trace-requires
-    slice-reshare-prefix-write-all
-    slice-aggregate-write-all
-    write-all-requires
+    slice-reshare-prefix-say
+    slice-aggregate-say
+    say-requires
     same-length
     returns)

@@ -1,0 +1,70 @@
+// The lines that a trying program reads: a letter for what is done, up to sixteen numbers and, after a colon, what is tried.
+
+// The part from `a` to `e`, for a caller whose slice has it.
+pub fn cut(s: &[u8], a: usize, e: usize) -> &[u8] {
+    if a <= e {
+        if e <= s.len() {
+            return &s[a..e];
+        }
+    }
+    s
+}
+
+pub fn more(n: usize) -> usize {
+    if n < 65536 { n + 1 } else { n }
+}
+
+// A number with one digit more; anything but a digit leaves it.
+fn with_digit(n: usize, x: u8) -> usize {
+    if x < 48 {
+        return n;
+    }
+    if 57 < x {
+        return n;
+    }
+    if n < 65536 {
+        return n * 10 + (x - 48) as usize;
+    }
+    n
+}
+
+fn put(values: &mut [usize; 16], k: usize, x: u8) {
+    if k < 16 {
+        values[k] = with_digit(values[k], x);
+    }
+}
+
+fn read(line: &[u8], values: &mut [usize; 16]) {
+    let mut k = 0;
+    let mut i = 2;
+    while i < line.len() {
+        if line[i] == b' ' {
+            k = more(k);
+        }
+        put(values, k, line[i]);
+        i += 1;
+    }
+}
+
+// The numbers of a line after its first two bytes, a space between them; what follows the sixteenth is passed over.
+pub fn numbers(line: &[u8]) -> [usize; 16] {
+    let mut values = [0; 16];
+    read(line, &mut values);
+    values
+}
+
+fn colon(line: &[u8]) -> usize {
+    let mut i = 0;
+    while i < line.len() {
+        if line[i] == b':' {
+            return i;
+        }
+        i += 1;
+    }
+    line.len()
+}
+
+// What is tried: the text behind the colon and a space.
+pub fn label(line: &[u8]) -> &[u8] {
+    cut(line, more(more(colon(line))), line.len())
+}

@@ -1,0 +1,539 @@
+// The words of a command line, made into a job. What is wrong with a word is said on standard error at once.
+use libc::STDERR_FILENO;
+use libc::STDIN_FILENO;
+
+// What a command asks for. `ok` false: a word was wrong, and that was said.
+pub struct Job {
+    pub ok: bool,
+    pub part: u8,
+    // What the driver selects by, and what the chip answers at.
+    pub enable: u8,
+    pub own: u8,
+    pub at: usize,
+    pub ident: bool,
+    pub reads: bool,
+    pub length: usize,
+    pub budget: usize,
+    pub ends: usize,
+    // The event that sets Write Control; 0 for none.
+    pub pin: u8,
+    // Whether the events are printed.
+    pub events: bool,
+    // Which words name the files and have the bytes; 0 for none.
+    pub image: usize,
+    pub save: usize,
+    pub bytes: usize,
+}
+
+// How far the words are read: the one that is looked at next, where they end, and what each kind of word said.
+struct Read {
+    ok: bool,
+    next: usize,
+    end: usize,
+    said: [usize; 16],
+}
+
+pub struct Number {
+    pub ok: bool,
+    pub n: usize,
+}
+
+// What a word is taken for, by number: the words that are always there, then the options.
+const PART: usize = 1;
+
+const ENABLE: usize = 2;
+
+const ADDRESS: usize = 3;
+
+const LENGTH: usize = 4;
+
+const BUDGET: usize = 5;
+
+const ENDS: usize = 6;
+
+const OWN: usize = 7;
+
+const PIN: usize = 8;
+
+const IMAGE: usize = 9;
+
+const SAVE: usize = 10;
+
+const IDENT: usize = 11;
+
+const EVENTS: usize = 12;
+
+// The name of an option, the bytes of a write, and two more that a word can be wrong as.
+const OPTION: usize = 13;
+
+const BYTES: usize = 14;
+
+const LONG: usize = 15;
+
+const MISSING: usize = 16;
+
+const NONE: usize = 255;
+
+// ---- complaints
+
+fn tell(text: &[u8]) {
+    io::write_all(STDERR_FILENO, text);
+}
+
+fn usage() {
+    tell(
+        b"usage: sapwoodle write PART ENABLE ADDRESS HEXBYTES [option ..]    HEXBYTES - : the bytes from standard input\n       sapwoodle read PART ENABLE ADDRESS LENGTH [option ..]\n       sapwoodle bench [PART [--enable N]]\noptions: --ident --events --budget N --ends-at D --pin high|low|floating --chip-enable N --image FILE --save FILE\n",
+    );
+}
+
+fn reason(kind: usize) {
+    match kind {
+        PART => tell(b"is no part: a digit, or a name such as M24C64-D\n"),
+        PIN => tell(b"is none of high, low, floating, for --pin\n"),
+        OPTION => tell(b"is no option, or one too many\n"),
+        BYTES => tell(b"is no row of bytes: two hexadecimal digits a byte, or -\n"),
+        LONG => tell(b"is too long\n"),
+        MISSING => tell(b"is missing\n"),
+        _ => tell(b"is no number, decimal or 0x\n"),
+    }
+}
+
+fn quote(word: &[u8]) {
+    tell(b" '");
+    tell(word);
+    tell(b"' ");
+}
+
+// A word is named by its number too: it may be missing, or too long to show.
+fn complain(i: usize, kind: usize) {
+    let mut word = io::buffer();
+    let n = os::arg(i, &mut word);
+    tell(b"sapwoodle: word ");
+    io::print_decimal(STDERR_FILENO, i as u64);
+    quote(&word[..n]);
+    reason(kind);
+    usage();
+}
+
+// The word that is looked at is wrong.
+fn bad(read: Read, kind: usize) -> Read {
+    complain(read.next, kind);
+    Read { ok: false, ..read }
+}
+
+// ---- letters and numbers
+
+fn upper(b: u8) -> u8 {
+    if b < 97 {
+        return b;
+    }
+    if b < 123 { b - 32 } else { b }
+}
+
+// Whether two words are the same but for the case of letters.
+fn same(a: &[u8], b: &[u8]) -> bool {
+    if a.len() != b.len() {
+        return false;
+    }
+    let mut i = 0;
+    while i < a.len() {
+        if upper(a[i]) != upper(b[i]) {
+            return false;
+        }
+        i += 1;
+    }
+    true
+}
+
+// A number of more than 28 bits is no number here: nothing takes one so large.
+fn grown(n: usize, hex: bool, d: u8) -> Number {
+    if n < 16777216 {
+        if hex {
+            return Number {
+                ok: d < 16,
+                n: n * 16 + d as usize,
+            };
+        }
+        return Number {
+            ok: d < 10,
+            n: n * 10 + d as usize,
+        };
+    }
+    Number { ok: false, n: 0 }
+}
+
+fn digits(word: &[u8], hex: bool) -> Number {
+    let mut so_far = Number {
+        ok: 0 < word.len(),
+        n: 0,
+    };
+    let mut i = 0;
+    while i < word.len() {
+        so_far = grown(so_far.n, hex, text::value(word[i]));
+        if !so_far.ok {
+            return so_far;
+        }
+        i += 1;
+    }
+    so_far
+}
+
+fn prefix(a: u8, b: u8) -> bool {
+    if a == b'0' {
+        return upper(b) == b'X';
+    }
+    false
+}
+
+fn number_of(word: &[u8]) -> Number {
+    if 2 < word.len() {
+        if prefix(word[0], word[1]) {
+            return digits(&word[2..], true);
+        }
+    }
+    digits(word, false)
+}
+
+// ---- what a word says
+
+fn named(word: &[u8]) -> usize {
+    if same(word, b"M24C16-DFCU") {
+        return 0;
+    }
+    if same(word, b"M24C16-DRE") {
+        return 1;
+    }
+    if same(word, b"M24C64") {
+        return 2;
+    }
+    if same(word, b"M24C64-D") {
+        return 3;
+    }
+    if same(word, b"M24256-B") {
+        return 4;
+    }
+    if same(word, b"M24256-D") {
+        return 5;
+    }
+    NONE
+}
+
+// A digit above 5 is taken: the run refuses it with its number.
+fn part_of(word: &[u8]) -> usize {
+    if word.len() == 1 {
+        let d = text::value(word[0]);
+        if d < 10 {
+            return text::wide(d);
+        }
+    }
+    named(word)
+}
+
+// The events L, H and F.
+fn pin_of(word: &[u8]) -> usize {
+    if same(word, b"low") {
+        return 5;
+    }
+    if same(word, b"high") {
+        return 6;
+    }
+    if same(word, b"floating") {
+        return 7;
+    }
+    NONE
+}
+
+fn rarer_of(word: &[u8]) -> usize {
+    if same(word, b"--image") {
+        return IMAGE;
+    }
+    if same(word, b"--save") {
+        return SAVE;
+    }
+    if same(word, b"--ident") {
+        return IDENT;
+    }
+    if same(word, b"--enable") {
+        return ENABLE;
+    }
+    NONE
+}
+
+fn option_of(word: &[u8]) -> usize {
+    if same(word, b"--events") {
+        return EVENTS;
+    }
+    if same(word, b"--budget") {
+        return BUDGET;
+    }
+    if same(word, b"--ends-at") {
+        return ENDS;
+    }
+    if same(word, b"--pin") {
+        return PIN;
+    }
+    if same(word, b"--chip-enable") {
+        return OWN;
+    }
+    rarer_of(word)
+}
+
+fn found(n: usize) -> Number {
+    Number { ok: n != NONE, n }
+}
+
+fn parsed(word: &[u8], kind: usize) -> Number {
+    match kind {
+        PART => found(part_of(word)),
+        PIN => found(pin_of(word)),
+        OPTION => found(option_of(word)),
+        _ => number_of(word),
+    }
+}
+
+fn parsed_at(i: usize, kind: usize) -> Number {
+    let mut word = io::buffer();
+    let n = os::arg(i, &mut word);
+    parsed(&word[..n], kind)
+}
+
+// ---- reading the words
+
+// The limit is for the proof alone.
+fn after(i: usize) -> usize {
+    if i < 1000 { i + 1 } else { i }
+}
+
+fn put(mut read: Read, kind: usize, n: usize) -> Read {
+    if kind < 16 {
+        read.said[kind] = n;
+    }
+    read
+}
+
+// The chip is at the driver's enable until an option says otherwise.
+fn set(read: Read, kind: usize, n: usize) -> Read {
+    if kind == ENABLE {
+        return put(put(read, OWN, n), ENABLE, n);
+    }
+    put(read, kind, n)
+}
+
+fn passed(read: Read) -> Read {
+    let next = after(read.next);
+    Read { next, ..read }
+}
+
+// The next word, as a number of the kind.
+fn take(read: Read, kind: usize) -> Read {
+    if !read.ok {
+        return read;
+    }
+    let value = parsed_at(read.next, kind);
+    if value.ok {
+        return set(passed(read), kind, value.n);
+    }
+    bad(read, kind)
+}
+
+// The next word names a file.
+fn take_file(read: Read, kind: usize) -> Read {
+    let word = read.next;
+    if word < read.end {
+        return set(passed(read), kind, word);
+    }
+    bad(read, MISSING)
+}
+
+// `read` stands behind the option's name.
+fn take_value(read: Read, kind: usize) -> Read {
+    if kind < IMAGE {
+        return take(read, kind);
+    }
+    if kind < IDENT {
+        return take_file(read, kind);
+    }
+    set(read, kind, 1)
+}
+
+// `--enable` is an option of bench alone.
+fn take_option(read: Read) -> Read {
+    if !read.ok {
+        return read;
+    }
+    if read.end <= read.next {
+        return read;
+    }
+    let kind = parsed_at(read.next, OPTION);
+    if kind.ok {
+        if ENABLE < kind.n {
+            return take_value(passed(read), kind.n);
+        }
+    }
+    bad(read, OPTION)
+}
+
+fn take_some(read: Read) -> Read {
+    let one = take_option(read);
+    let two = take_option(one);
+    let three = take_option(two);
+    take_option(three)
+}
+
+// There are eight options: more words than that repeat one.
+fn take_options(read: Read) -> Read {
+    let all = take_some(take_some(read));
+    if all.ok {
+        if all.next < all.end {
+            return bad(all, OPTION);
+        }
+    }
+    all
+}
+
+// Nothing is said yet; the words go from `next` to before `end`.
+fn start(next: usize, end: usize) -> Read {
+    let read = Read {
+        ok: true,
+        next,
+        end,
+        said: [0; 16],
+    };
+    put(put(read, BUDGET, 100), ENDS, 1)
+}
+
+// The bytes of a write are taken later, where there is a buffer for them.
+fn take_last(read: Read, reads: bool) -> Read {
+    if reads {
+        return take(read, LENGTH);
+    }
+    put(passed(read), BYTES, read.next)
+}
+
+// The four words that are always there, and options.
+fn take_all(read: Read, reads: bool) -> Read {
+    let three = take(take(take(read, PART), ENABLE), ADDRESS);
+    take_options(take_last(three, reads))
+}
+
+// ---- jobs: the words go from `next` to before `end`
+
+fn job_of(read: Read, reads: bool) -> Job {
+    let said = read.said;
+    Job {
+        ok: read.ok,
+        part: text::narrow(said[PART]),
+        enable: text::narrow(said[ENABLE]),
+        own: text::narrow(said[OWN]),
+        at: said[ADDRESS],
+        ident: said[IDENT] == 1,
+        reads,
+        length: said[LENGTH],
+        budget: said[BUDGET],
+        ends: said[ENDS],
+        pin: text::narrow(said[PIN]),
+        events: said[EVENTS] == 1,
+        image: said[IMAGE],
+        save: said[SAVE],
+        bytes: said[BYTES],
+    }
+}
+
+// `PART ENABLE ADDRESS LENGTH` of a read, `PART ENABLE ADDRESS HEXBYTES` of a write, and options.
+pub fn asked(reads: bool, next: usize, end: usize) -> Job {
+    let last = after(after(after(next)));
+    if end <= last {
+        return job_of(bad(start(end, end), MISSING), reads);
+    }
+    job_of(take_all(start(next, end), reads), reads)
+}
+
+// The enable of `PART [--enable N]`, behind the part.
+fn take_enable(read: Read) -> Read {
+    if read.end <= read.next {
+        return read;
+    }
+    let kind = parsed_at(read.next, OPTION);
+    if kind.n == ENABLE {
+        return take(passed(read), ENABLE);
+    }
+    if read.ok {
+        return bad(read, OPTION);
+    }
+    read
+}
+
+pub fn bench_asked(next: usize, end: usize) -> Job {
+    job_of(take_enable(take(start(next, end), PART)), false)
+}
+
+// ---- the bytes of a write
+
+// All that a file or the standard input has, or as much as there is room for. One more read tells the end from a failure.
+pub fn read_all(fd: i32, to: &mut [u8]) -> Number {
+    let n = io::read_full(fd, to);
+    if n < to.len() {
+        let mut more = [0u8; 1];
+        let got = libc::read(fd, &mut more);
+        return Number { ok: got == 0, n };
+    }
+    Number { ok: true, n }
+}
+
+fn input(to: &mut [u8]) -> Number {
+    let got = read_all(STDIN_FILENO, to);
+    if !got.ok {
+        os::fail(b"sapwoodle: standard input");
+    }
+    got
+}
+
+fn put_byte(to: &mut [u8], i: usize, a: u8, b: u8) -> bool {
+    if a < 16 {
+        if b < 16 {
+            if i < to.len() {
+                to[i] = a * 16 + b;
+                return true;
+            }
+        }
+    }
+    false
+}
+
+fn unhex(word: &[u8], to: &mut [u8]) -> Number {
+    let k = word.len() / 2;
+    let mut ok = word.len() % 2 == 0;
+    let mut i = 0;
+    while i < k {
+        let high = text::value(word[2 * i]);
+        let low = text::value(word[2 * i + 1]);
+        if !put_byte(to, i, high, low) {
+            ok = false;
+        }
+        i += 1;
+    }
+    Number { ok, n: k }
+}
+
+fn bytes(word: &[u8], to: &mut [u8], i: usize) -> Number {
+    if same(word, b"-") {
+        return input(to);
+    }
+    let made = unhex(word, to);
+    if !made.ok {
+        complain(i, BYTES);
+    }
+    made
+}
+
+// The bytes of word i, and how many. A word that the buffer cannot hold has more bytes than any array.
+pub fn data(to: &mut [u8], i: usize) -> Number {
+    let mut word = io::large_buffer();
+    let n = os::arg(i, &mut word);
+    let error = os::errno();
+    if error != 0 {
+        complain(i, LONG);
+        return Number { ok: false, n: 0 };
+    }
+    bytes(&word[..n], to, i)
+}
