@@ -2,7 +2,6 @@
 // A line is a letter for the call (`call`), sixteen numbers and, after a colon, what is tried.
 use cases::more;
 use libc::STDIN_FILENO;
-use parts::Refusal;
 use parts::Verdict;
 use state::Chip;
 use text::narrow;
@@ -139,25 +138,11 @@ fn nothing(level: u8, cycles: usize, same: bool) -> bool {
     same
 }
 
-fn place_of(r: Refusal) -> usize {
-    match r {
-        Refusal::BadEvent(k) => k,
-        _ => 0,
-    }
-}
-
 fn answered(verdict: Verdict, kept: bool) -> Tried {
-    match verdict {
-        Verdict::Fine => Tried {
-            number: 0,
-            place: 0,
-            kept: kept,
-        },
-        Verdict::Refused(r) => Tried {
-            number: parts::number(r),
-            place: place_of(r),
-            kept: kept,
-        },
+    Tried {
+        number: parts::verdict_number(verdict),
+        place: parts::verdict_place(verdict),
+        kept: kept,
     }
 }
 

@@ -101,7 +101,8 @@ fn put(text: &[u8]) {
 }
 
 fn answer_in(text: &[u8], out: &mut [u8]) {
-    let n = trace::trace(text, out);
+    let t = trace::trace(text, out);
+    let n = t.length;
     put(&out[..n]);
 }
 
@@ -121,7 +122,8 @@ fn is_answered(out: &[u8]) -> bool {
 
 // The trace told byte by byte, then its answer; of a refused one only the answer.
 fn tell_in(text: &[u8], out: &mut [u8]) {
-    let n = trace::trace(text, out);
+    let t = trace::trace(text, out);
+    let n = t.length;
     let answered = is_answered(out);
     if answered {
         explain::explain(text);

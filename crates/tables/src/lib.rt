@@ -292,11 +292,12 @@ fn lock_bytes(k: usize) -> usize {
     if k < 5 { 1 } else { 2 }
 }
 
-// The address bit that chooses the lock is in the first address byte where there are two.
-fn lock_command(a: usize, enable: u8, k: usize) -> Script {
-    let low = if a == 2 { 0 } else { 0x80 };
+// The address bit that chooses the lock, at location 0.
+fn lock_command(lock: usize, a: usize, enable: u8, k: usize) -> Script {
+    let high = (lock / 256 % 256) as u8;
+    let low = (lock % 256) as u8;
     Script {
-        bytes: transfer(a, enable, true, 4, low, lock_byte(k), 0),
+        bytes: transfer(a, enable, true, high, low, lock_byte(k), 0),
         clocks: clocks(a, lock_bytes(k)),
         high: NEVER,
     }
@@ -527,8 +528,9 @@ fn tell_lock(k: usize, a: usize, s: Script, levels: &[u8], l: Locked) {
 }
 
 fn lock_row(part: u8, enable: u8, k: usize, array: &mut [u8], id: &mut [u8]) -> bool {
-    let a = parts::address_bytes(parts::facts_of(part));
-    let s = lock_command(a, enable, k);
+    let f = parts::facts_of(part);
+    let a = parts::address_bytes(f);
+    let s = lock_command(f.lock, a, enable, k);
     let later = id_write(a, enable);
     let n = events_in(s);
     let events = behind(events_of(s), n, later);
@@ -651,16 +653,14 @@ fn busy(part: u8, enable: u8, page: usize) -> bool {
 }
 
 fn tell_name(part: u8) {
-    match part {
-        0 => say(b"M24C16-DFCU"),
-        1 => say(b"M24C16-DRE"),
-        2 => say(b"M24C64"),
-        3 => say(b"M24C64-D"),
-        4 => say(b"M24256-B"),
-        5 => say(b"M24256-D"),
-        _ => say(b"unknown"),
+    let name = parts::name_of(part);
+    let bytes = name.bytes;
+    let n = name.length;
+    if n == 0 {
+        say(b"unknown");
+        return;
     }
-    ;
+    say(&bytes[..n]);
 }
 
 fn heading(part: u8, enable: u8) {

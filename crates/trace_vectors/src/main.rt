@@ -34,7 +34,8 @@ fn add(text: &mut [u8], n: usize, b: u8) -> usize
 }
 
 fn answer_in(text: &[u8], out: &mut [u8]) {
-    let n = trace::trace(text, out);
+    let t = trace::trace(text, out);
+    let n = t.length;
     text::say(&out[..n]);
 }
 

@@ -196,24 +196,25 @@ fn number_of(word: &[u8]) -> Number {
 
 // ---- what a word says
 
+fn is_name(part: u8, word: &[u8]) -> bool {
+    let name = parts::name_of(part);
+    let bytes = name.bytes;
+    let n = name.length;
+    same(word, &bytes[..n])
+}
+
+// The part of this name in the part table.
 fn named(word: &[u8]) -> usize {
-    if same(word, b"M24C16-DFCU") {
-        return 0;
-    }
-    if same(word, b"M24C16-DRE") {
-        return 1;
-    }
-    if same(word, b"M24C64") {
-        return 2;
-    }
-    if same(word, b"M24C64-D") {
-        return 3;
-    }
-    if same(word, b"M24256-B") {
-        return 4;
-    }
-    if same(word, b"M24256-D") {
-        return 5;
+    let mut part = 0;
+    while part < 255 {
+        let f = parts::facts_of(part);
+        if !f.known {
+            return NONE;
+        }
+        if is_name(part, word) {
+            return part as usize;
+        }
+        part += 1;
     }
     NONE
 }

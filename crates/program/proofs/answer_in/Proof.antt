@@ -1,4 +1,4 @@
-use Rattle.trace.proofs.Promises.{count-fits}
+use Rattle.trace.proofs.Promises.{length-fits}
 use lib.Seq.{length-take-le}
 use mathlib.Core.Path.{sym}
 use borrow.Author.Needs.{needs}
@@ -9,10 +9,10 @@ trace-requires : tie.Need-trace-requires
 trace-requires c κs = search needs
 
 slice-reshare-prefix-put : tie.Need-slice-reshare-prefix-put
-slice-reshare-prefix-put c = count-fits _ _ _ _ (c .before .before .trace .ensures .0) (sym (c .before .before .trace .kept .1 .0))
+slice-reshare-prefix-put c = length-fits _ _ _ _ (c .before .before .trace .ensures .0) (sym (c .before .before .trace .kept .1 .0))
 
 slice-aggregate-put : tie.Need-slice-aggregate-put
-slice-aggregate-put c = sym (length-take-le _ _ (count-fits _ _ _ _ (c .before .before .before .trace .ensures .0) (sym (c .before .before .before .trace .kept .1 .0))))
+slice-aggregate-put c = sym (length-take-le _ _ (length-fits _ _ _ _ (c .before .before .before .trace .ensures .0) (sym (c .before .before .before .trace .kept .1 .0))))
 
 put-requires : tie.Need-put-requires
 put-requires c κs = search needs
