@@ -1,24 +1,10 @@
-// Stored chips: an image read from a file, and one written into a file that is there whole or not at all.
+// Stored chips: an image read from a file, and one written into a file that is there whole or not at all. A chip is held as its bytes.
 use libc::STDERR_FILENO;
-use state::Chip;
-use words::Job;
 
-// A chip before a run. `number`: the refusal, 0 for none, TOLD where standard error has the reason.
-pub struct First {
-    pub number: u8,
-    pub chip: Chip,
-}
-
+// In place of a refusal's number: standard error has the reason.
 pub const TOLD: u8 = 255;
 
 const BAD_IMAGE: u8 = 12;
-
-pub fn refused(number: u8) -> First {
-    First {
-        number,
-        chip: chip::standby(0, false),
-    }
-}
 
 // ---- reading
 
@@ -37,28 +23,32 @@ fn is_image(part: u8, bytes: &[u8]) -> bool {
 }
 
 // An image of another part is not what was meant; anything else is no image.
-fn other(part: u8, bytes: &[u8]) -> First {
+fn other(part: u8, bytes: &[u8]) -> u8 {
     if is_image(part, bytes) {
         io::write_all(
             STDERR_FILENO,
             b"sapwoodle: the image is of another part than the one named\n",
         );
-        return refused(TOLD);
+        return TOLD;
     }
-    refused(BAD_IMAGE)
+    BAD_IMAGE
 }
 
-fn load(part: u8, enable: u8, bytes: &[u8], array: &mut [u8], id: &mut [u8]) -> First {
+fn load(
+    part: u8,
+    enable: u8,
+    bytes: &[u8],
+    held: &mut [u8],
+    array: &mut [u8],
+    id: &mut [u8],
+) -> u8 {
     let loaded = image::load(bytes, enable, array, id);
     if loaded.part != part {
         return other(loaded.part, bytes);
     }
     let verdict = loaded.verdict;
-    let chip = loaded.chip;
-    First {
-        number: parts::verdict_number(verdict),
-        chip,
-    }
+    pack_chip::pack(loaded.chip, held);
+    parts::verdict_number(verdict)
 }
 
 fn fetch_from(
@@ -66,40 +56,55 @@ fn fetch_from(
     enable: u8,
     fd: i32,
     bytes: &mut [u8],
+    held: &mut [u8],
     array: &mut [u8],
     id: &mut [u8],
-) -> First {
+) -> u8 {
     let got = words::read_all(fd, bytes);
     libc::close(fd);
     let n = got.n;
     if got.ok {
         if n <= bytes.len() {
-            return load(part, enable, &bytes[0..n], array, id);
+            return load(part, enable, &bytes[0..n], held, array, id);
         }
     }
     io::write_all(
         STDERR_FILENO,
         b"sapwoodle: the file of --image cannot be read\n",
     );
-    refused(TOLD)
+    TOLD
 }
 
 // One byte more than the longest image, so that a longer file is seen to be too long.
-fn fetch(part: u8, enable: u8, name: &[u8], array: &mut [u8], id: &mut [u8]) -> First {
+fn fetch(
+    part: u8,
+    enable: u8,
+    name: &[u8],
+    held: &mut [u8],
+    array: &mut [u8],
+    id: &mut [u8],
+) -> u8 {
     let fd = os::open_read(name);
     if fd < 0 {
         os::fail(b"sapwoodle: the file of --image");
-        return refused(TOLD);
+        return TOLD;
     }
     let mut bytes = [0u8; 32840];
-    fetch_from(part, enable, fd, &mut bytes, array, id)
+    fetch_from(part, enable, fd, &mut bytes, held, array, id)
 }
 
-// The chip that the file named by a word has.
-pub fn fetched(job: Job, array: &mut [u8], id: &mut [u8]) -> First {
+// The chip that the file named by a word has, and the refusal's number, 0 for none.
+pub fn fetched(
+    word: usize,
+    part: u8,
+    enable: u8,
+    held: &mut [u8],
+    array: &mut [u8],
+    id: &mut [u8],
+) -> u8 {
     let mut name = io::buffer();
-    let n = os::arg(job.image, &mut name);
-    fetch(job.part, job.own, &name[..n], array, id)
+    let n = os::arg(word, &mut name);
+    fetch(part, enable, &name[..n], held, array, id)
 }
 
 // ---- writing
@@ -183,20 +188,20 @@ fn store(word: usize, bytes: &[u8]) -> bool {
     store_as(&name[..n], bytes)
 }
 
-fn save_in(job: Job, chip: Chip, array: &[u8], id: &[u8], out: &mut [u8]) -> bool {
-    let saved = image::save(job.part, chip, array, id, out);
+fn save_in(word: usize, part: u8, held: &[u8], array: &[u8], id: &[u8], out: &mut [u8]) -> bool {
+    let saved = image::save(part, pack_chip::unpack(held), array, id, out);
     let n = saved.length;
     if n <= out.len() {
-        return store(job.save, &out[0..n]);
+        return store(word, &out[0..n]);
     }
     false
 }
 
-// Whether the file stands, or none is asked for.
-pub fn save(job: Job, chip: Chip, array: &[u8], id: &[u8]) -> bool {
-    if job.save == 0 {
+// Whether the file stands that a word names, or none is asked for.
+pub fn save(word: usize, part: u8, held: &[u8], array: &[u8], id: &[u8]) -> bool {
+    if word == 0 {
         return true;
     }
     let mut out = [0u8; 32839];
-    save_in(job, chip, array, id, &mut out)
+    save_in(word, part, held, array, id, &mut out)
 }

@@ -5,59 +5,59 @@ mod show;
 
 ghost use mathlib.Core.Path.{_≡_};
 ghost use lib.ListN.{length};
-use bench::Report;
 use driver::Place;
 use driver::Request;
-use files::First;
 use files::TOLD;
 use parts::ArrayAddress;
 use parts::IdLocation;
-use state::Chip;
 use words::Job;
 
 // The events of a run that are kept: more than writing or reading the whole of the largest array takes, where no page is polled
 // more than a dozen times.
 const TAPE: usize = 393216;
 
-// ---- the chip before the run
+// What a run reports: the refusal's number, 0 for none, and how many events it sent.
+struct Ended {
+    number: u8,
+    bytes: usize,
+    polls: usize,
+    cycles: usize,
+    clocks: usize,
+    sent: usize,
+}
 
-fn delivered(part: u8, array: &mut [u8], id: &mut [u8]) -> First {
+// ---- the chip before the run, held as its bytes: each answers the refusal's number, 0 for none
+
+fn delivered(part: u8, held: &mut [u8], array: &mut [u8], id: &mut [u8]) -> u8 {
     let d = chip::deliver(part, array, id);
     let verdict = d.verdict;
-    let chip = d.chip;
-    First {
-        number: parts::verdict_number(verdict),
-        chip,
-    }
+    pack_chip::pack(d.chip, held);
+    parts::verdict_number(verdict)
 }
 
-fn at_first(job: Job, array: &mut [u8], id: &mut [u8]) -> First {
+fn at_first(job: Job, held: &mut [u8], array: &mut [u8], id: &mut [u8]) -> u8 {
     if job.image == 0 {
-        return delivered(job.part, array, id);
+        return delivered(job.part, held, array, id);
     }
-    files::fetched(job, array, id)
+    files::fetched(job.image, job.part, job.own, held, array, id)
 }
 
-fn pinned(job: Job, chip: Chip, array: &mut [u8], id: &mut [u8]) -> First {
-    let s = chip::step(job.part, job.own, chip, array, id, job.pin);
+fn pinned(part: u8, enable: u8, pin: u8, held: &mut [u8], array: &mut [u8], id: &mut [u8]) -> u8 {
+    let s = chip::step(part, enable, pack_chip::unpack(held), array, id, pin);
     let verdict = s.verdict;
-    let chip = s.chip;
-    First {
-        number: parts::verdict_number(verdict),
-        chip,
-    }
+    pack_chip::pack(s.chip, held);
+    parts::verdict_number(verdict)
 }
 
-fn prepared(job: Job, array: &mut [u8], id: &mut [u8]) -> First {
-    let found = at_first(job, array, id);
-    if found.number != 0 {
-        return found;
+fn prepared(job: Job, held: &mut [u8], array: &mut [u8], id: &mut [u8]) -> u8 {
+    let number = at_first(job, held, array, id);
+    if number != 0 {
+        return number;
     }
     if job.pin == 0 {
-        return found;
+        return number;
     }
-    let chip = found.chip;
-    pinned(job, chip, array, id)
+    pinned(job.part, job.own, job.pin, held, array, id)
 }
 
 // ---- the run
@@ -114,31 +114,27 @@ fn dump(ok: bool, job: Job, data: &[u8]) -> bool {
 }
 
 // A run that is not done leaves no file.
-fn saved(job: Job, report: Report, array: &[u8], id: &[u8]) -> bool {
-    let verdict = report.verdict;
-    let last = report.chip;
-    if parts::verdict_number(verdict) == 0 {
-        return files::save(job, last, array, id);
+fn saved(job: Job, number: u8, held: &[u8], array: &[u8], id: &[u8]) -> bool {
+    if number == 0 {
+        return files::save(job.save, job.part, held, array, id);
     }
     true
 }
 
-fn tell_report(asked: usize, report: Report) -> bool {
-    let verdict = report.verdict;
+fn tell_report(asked: usize, e: Ended) -> bool {
     show::figures(
-        show::head(parts::verdict_number(verdict)),
-        report.bytes,
+        show::head(e.number),
+        e.bytes,
         asked,
-        report.polls,
-        report.cycles,
-        report.clocks,
+        e.polls,
+        e.cycles,
+        e.clocks,
     )
 }
 
 // Of a read that is done.
-fn tell_bytes(ok: bool, job: Job, report: Report, data: &[u8]) -> bool {
-    let verdict = report.verdict;
-    if parts::verdict_number(verdict) == 0 {
+fn tell_bytes(ok: bool, job: Job, number: u8, data: &[u8]) -> bool {
+    if number == 0 {
         return dump(ok, job, data);
     }
     ok
@@ -150,40 +146,61 @@ fn blank() -> [u8; 393216]
     [0; 393216]
 }
 
-// The file stands before the report is told.
-fn run(job: Job, chip: Chip, array: &mut [u8], id: &mut [u8], data: &mut [u8]) -> bool {
-    let mut events = blank();
-    let mut levels = blank();
+fn recorded(
+    job: Job,
+    held: &mut [u8],
+    array: &mut [u8],
+    id: &mut [u8],
+    data: &mut [u8],
+    events: &mut [u8],
+    levels: &mut [u8],
+) -> Ended {
     let run = bench::record(
         request(job),
         job.own,
         job.ends,
-        chip,
+        pack_chip::unpack(held),
         array,
         id,
         data,
-        &mut events,
-        &mut levels,
+        events,
+        levels,
     );
     let report = run.report;
-    if !saved(job, report, array, id) {
-        return false;
+    let verdict = report.verdict;
+    pack_chip::pack(report.chip, held);
+    Ended {
+        number: parts::verdict_number(verdict),
+        bytes: report.bytes,
+        polls: report.polls,
+        cycles: report.cycles,
+        clocks: report.clocks,
+        sent: run.sent,
     }
-    let told = tell_report(job.length, report);
-    let taped = tell_tape(told, job.events, run.sent, &mut events, &mut levels);
-    tell_bytes(taped, job, report, data)
 }
 
-fn begin(job: Job, array: &mut [u8], id: &mut [u8], data: &mut [u8]) -> bool {
-    let first = prepared(job, array, id);
-    let chip = first.chip;
-    if first.number == TOLD {
+// The file stands before the report is told.
+fn run(job: Job, held: &mut [u8], array: &mut [u8], id: &mut [u8], data: &mut [u8]) -> bool {
+    let mut events = blank();
+    let mut levels = blank();
+    let e = recorded(job, held, array, id, data, &mut events, &mut levels);
+    if !saved(job, e.number, held, array, id) {
         return false;
     }
-    if first.number != 0 {
-        return show::head(first.number);
+    let told = tell_report(job.length, e);
+    let taped = tell_tape(told, job.events, e.sent, &mut events, &mut levels);
+    tell_bytes(taped, job, e.number, data)
+}
+
+fn begin(job: Job, held: &mut [u8], array: &mut [u8], id: &mut [u8], data: &mut [u8]) -> bool {
+    let number = prepared(job, held, array, id);
+    if number == TOLD {
+        return false;
     }
-    run(job, chip, array, id, data)
+    if number != 0 {
+        return show::head(number);
+    }
+    run(job, held, array, id, data)
 }
 
 // 1 and 2 are given before a file is looked at.
@@ -208,8 +225,10 @@ fn lend(job: Job, data: &mut [u8]) -> bool {
     }
     let mut array = [0u8; 32768];
     let mut id = [0u8; 64];
+    let mut held = [0u8; pack_chip::LENGTH];
     begin(
         job,
+        &mut held,
         fitted::array(job.part, &mut array),
         fitted::id(job.part, &mut id),
         data,

@@ -29,12 +29,9 @@ fn bytes(ok: bool, n: usize, asked: usize) -> bool {
     count(told, b" of ", asked)
 }
 
-// Refused before anything changed: by the request or by what it is run on.
-fn reason_before(n: u8) -> bool {
+// Refused for the run's own bytes and limits, or for its file.
+fn reason_run(n: u8) -> bool {
     match n {
-        1 => say(true, b"there is no such part\n"),
-        2 => say(true, b"this part is never at this enable\n"),
-        5 => say(true, b"this part has no Write Control pin\n"),
         7 => say(
             true,
             b"the bytes do not all lie in the array or the page, or there is no such page\n",
@@ -45,6 +42,16 @@ fn reason_before(n: u8) -> bool {
         ),
         12 => say(true, b"the file is no image of its part\n"),
         _ => true,
+    }
+}
+
+// Refused before anything changed: by the request or by what it is run on.
+fn reason_before(n: u8) -> bool {
+    match n {
+        1 => say(true, b"there is no such part\n"),
+        2 => say(true, b"this part is never at this enable\n"),
+        5 => say(true, b"this part has no Write Control pin\n"),
+        _ => reason_run(n),
     }
 }
 
