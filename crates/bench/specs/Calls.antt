@@ -21,7 +21,7 @@ use Rattle.driver.specs.declared.Answer.the-variants.{Send, Done, Refused}
 use Rattle.driver.specs.Request.{judgeOf}
 use Rattle.bench.specs.declared.Report.{Report}
 use Rattle.bench.specs.Together.{System, startOf, turnsOf, lastOf, enough}
-use Rattle.bench.specs.Tape.{eventsOf, heardOf}
+use Rattle.bench.specs.Tape.{tapeEventsOf, tapeLevelsOf}
 
 -- ---- refusals: the driver's of the request (1, 2, 7, 8), the chip's of itself at its own enable (1 to 4), and the run's own
 
@@ -53,12 +53,12 @@ abbrev pub modelOf : Request → ℕ → Model
 modelOf r enable = ours (factsOf (r .part)) enable
 
 -- the driver has what it was asked to write or read, and no more; a read's buffer may be longer
-abbrev pub beginOf : Request → Chip → Mem → List ℕ → System
-beginOf r c m buffer = startOf r (take (r .length) buffer) c m
+abbrev pub outsetOf : Request → Chip → Mem → List ℕ → System
+outsetOf r c m buffer = startOf r (take (r .length) buffer) c m
 
 -- the system when the driver has finished: it selects by the request's enable, the chip answers at its own
 unfoldable pub finalOf : Request → ℕ → ℕ → Chip → Mem → List ℕ → System
-finalOf r enable d c m buffer = turnsOf (modelOf r enable) d enough (beginOf r c m buffer)
+finalOf r enable d c m buffer = turnsOf (modelOf r enable) d enough (outsetOf r c m buffer)
 
 -- of the system and the driver's last answer; one that would still send cannot be (proved with the promises)
 abbrev pub reportBy : System → Answer → Report
@@ -81,11 +81,11 @@ pub record BenchLeft : Type 0 where
 abbrev pub benchBy : Request → ℕ → ℕ → Chip → Mem → List ℕ → Verdict → BenchLeft
 benchBy r enable d c m buffer Fine =
     record {
-      report = reportBy (finalOf r enable d c m buffer) (lastOf (modelOf r enable) d enough (Done 0 0) (beginOf r c m buffer));
+      report = reportBy (finalOf r enable d c m buffer) (lastOf (modelOf r enable) d enough (Done 0 0) (outsetOf r c m buffer));
       mem = finalOf r enable d c m buffer .mem;
       buffer = finalOf r enable d c m buffer .buffer ++ drop (r .length) buffer;
-      events = eventsOf (modelOf r enable) d enough (beginOf r c m buffer);
-      levels = heardOf (modelOf r enable) d enough (beginOf r c m buffer);
+      events = tapeEventsOf (modelOf r enable) d enough (outsetOf r c m buffer);
+      levels = tapeLevelsOf (modelOf r enable) d enough (outsetOf r c m buffer);
     }
 benchBy r enable d c m buffer (Judged x) = record { report = refusedBy x c; mem = m; buffer = buffer; events = []; levels = [] }
 

@@ -10,14 +10,14 @@ use Rattle.state.specs.declared.Chip.{Chip}
 use Rattle.state.specs.Range.{inRangeOf}
 use Rattle.chip.specs.Memory.{Mem}
 use Rattle.chip.specs.Model.{Model}
-use Rattle.laws.specs.Range.{Typed}
+use Rattle.chip_laws.specs.Range.{Typed}
 use Rattle.driver.specs.declared.Driver.{Driver}
 use Rattle.driver.specs.declared.Answer.{Answer}
 use Rattle.driver.specs.declared.Answer.the-variants.{Send, Done, Refused}
-use Rattle.driver.specs.Step.{nextOf}
+use Rattle.driver.specs.Step.{driverNextOf}
 use Rattle.bench.specs.declared.Held.{Held}
 use Rattle.bench.specs.declared.Report.{Report}
-use Rattle.bench.specs.Together.{System, clockOf, ends, dueOf}
+use Rattle.bench.specs.Together.{System, clockOf, ends, endDueOf}
 use Rattle.bench.specs.Tape.{sendsOf}
 
 -- the system, of what is held and what is lent
@@ -25,8 +25,8 @@ abbrev pub whole : Held → List ℕ → Mem → System
 whole h b m = record { driver = h .driver; level = h .level; buffer = b; chip = h .chip; mem = m; cycles = h .cycles; clocks = h .clocks }
 
 -- the chip takes an event that the driver sends
-abbrev pub sentOf : Model → Held → Mem → Driver → ℕ → Held
-sentOf M h m d e =
+abbrev pub chipTakesOf : Model → Held → Mem → Driver → ℕ → Held
+chipTakesOf M h m d e =
     record {
       driver = d;
       level = M .level (h .chip) m e;
@@ -42,7 +42,7 @@ atEndOf M h =
 
 -- false: a turn changes nothing any more
 unfoldable pub goingOf : ℕ → System → Bool
-goingOf d s = cond (dueOf d s) true (sendsOf (nextOf (s .driver) (s .level) (s .buffer) .answer))
+goingOf d s = cond (endDueOf d s) true (sendsOf (driverNextOf (s .driver) (s .level) (s .buffer) .answer))
 
 -- what refuses a step of the chip does not apply; n and i are the lengths of the lent array and identification page
 pub record Fit (part enable : ℕ) (c : Chip) (n i : ℕ) : Type 0 where

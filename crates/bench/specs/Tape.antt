@@ -7,8 +7,8 @@ use lib.ListN.{length, take, drop}
 use Rattle.chip.specs.Model.{Model}
 use Rattle.driver.specs.declared.Answer.{Answer}
 use Rattle.driver.specs.declared.Answer.the-variants.{Send, Done, Refused}
-use Rattle.driver.specs.Step.{nextOf}
-use Rattle.bench.specs.Together.{System, dueOf, turnOf}
+use Rattle.driver.specs.Step.{driverNextOf}
+use Rattle.bench.specs.Together.{System, endDueOf, turnOf}
 
 abbrev pub sendsOf : Answer → Bool
 sendsOf (Send e) = true
@@ -16,10 +16,10 @@ sendsOf (Done polls bytes) = false
 sendsOf (Refused r polls bytes) = false
 
 -- 0 where nothing is sent
-abbrev pub codeOf : Answer → ℕ
-codeOf (Send e) = e
-codeOf (Done polls bytes) = 0
-codeOf (Refused r polls bytes) = 0
+abbrev pub sentCodeOf : Answer → ℕ
+sentCodeOf (Send e) = e
+sentCodeOf (Done polls bytes) = 0
+sentCodeOf (Refused r polls bytes) = 0
 
 -- of a turn: what stands for the end of a cycle, where it ends, and what stands for the driver's event, where it sends one
 abbrev pub tapeBy : Bool → Bool → ℕ → ℕ → List ℕ
@@ -28,19 +28,19 @@ tapeBy ended sends e x = cond ended (e ∷ []) [] ++ cond sends (x ∷ []) []
 -- the events of a turn: 4 is the end of a cycle
 unfoldable pub turnEvents : ℕ → System → List ℕ
 turnEvents d s =
-    tapeBy (dueOf d s) (sendsOf (nextOf (s .driver) (s .level) (s .buffer) .answer)) 4 (codeOf (nextOf (s .driver) (s .level) (s .buffer) .answer))
+    tapeBy (endDueOf d s) (sendsOf (driverNextOf (s .driver) (s .level) (s .buffer) .answer)) 4 (sentCodeOf (driverNextOf (s .driver) (s .level) (s .buffer) .answer))
 
 -- the levels of a turn: an end answers none; the driver is told its event's level next
 unfoldable pub turnLevels : Model → ℕ → System → List ℕ
-turnLevels M d s = tapeBy (dueOf d s) (sendsOf (nextOf (s .driver) (s .level) (s .buffer) .answer)) 2 (turnOf M d s .level)
+turnLevels M d s = tapeBy (endDueOf d s) (sendsOf (driverNextOf (s .driver) (s .level) (s .buffer) .answer)) 2 (turnOf M d s .level)
 
-unfoldable pub eventsOf : Model → ℕ → ℕ → System → List ℕ
-eventsOf M d zero s = []
-eventsOf M d (suc n) s = turnEvents d s ++ eventsOf M d n (turnOf M d s)
+unfoldable pub tapeEventsOf : Model → ℕ → ℕ → System → List ℕ
+tapeEventsOf M d zero s = []
+tapeEventsOf M d (suc n) s = turnEvents d s ++ tapeEventsOf M d n (turnOf M d s)
 
-unfoldable pub heardOf : Model → ℕ → ℕ → System → List ℕ
-heardOf M d zero s = []
-heardOf M d (suc n) s = turnLevels M d s ++ heardOf M d n (turnOf M d s)
+unfoldable pub tapeLevelsOf : Model → ℕ → ℕ → System → List ℕ
+tapeLevelsOf M d zero s = []
+tapeLevelsOf M d (suc n) s = turnLevels M d s ++ tapeLevelsOf M d n (turnOf M d s)
 
 -- a list in a lent buffer, as far as it reaches; bytes past the list keep their values
 unfoldable pub laidOf : List ℕ → List ℕ → List ℕ

@@ -17,7 +17,7 @@ use Rattle.driver.specs.declared.Driver.{Driver}
 use Rattle.driver.specs.declared.Answer.{Answer}
 use Rattle.driver.specs.declared.Answer.the-variants.{Send, Done, Refused}
 use Rattle.driver.specs.Request.{allowedOf}
-use Rattle.driver.specs.Step.{nextOf, bufferOf, fresh}
+use Rattle.driver.specs.Step.{driverNextOf, bufferOf, fresh}
 
 -- `level`: what the driver is told next. `cycles`, `clocks`: begun and sent so far
 pub record System : Type 0 where
@@ -54,15 +54,15 @@ answeredBy M s d b (Refused r polls bytes) = s
 -- the driver is asked once
 unfoldable pub askedOf : Model → System → System
 askedOf M s =
-    answeredBy M s (nextOf (s .driver) (s .level) (s .buffer) .driver) (bufferOf (s .driver) (s .level) (s .buffer)) (nextOf (s .driver) (s .level) (s .buffer) .answer)
+    answeredBy M s (driverNextOf (s .driver) (s .level) (s .buffer) .driver) (bufferOf (s .driver) (s .level) (s .buffer)) (driverNextOf (s .driver) (s .level) (s .buffer) .answer)
 
 -- the code of the end of a cycle
 abbrev pub ends : ℕ
 ends = 4
 
 -- the chip's cycle ends, if one runs
-unfoldable pub endedOf : Model → System → System
-endedOf M s =
+unfoldable pub cycleEndedOf : Model → System → System
+cycleEndedOf M s =
     record {
       driver = s .driver;
       level = s .level;
@@ -77,7 +77,7 @@ endedOf M s =
 unfoldable pub togetherOf : Model → List Bool → System → System
 togetherOf M [] s = s
 togetherOf M (true ∷ bs) s = togetherOf M bs (askedOf M s)
-togetherOf M (false ∷ bs) s = togetherOf M bs (endedOf M s)
+togetherOf M (false ∷ bs) s = togetherOf M bs (cycleEndedOf M s)
 
 -- ---- the run with d: "each cycle ends just before its poll number d"
 
@@ -98,11 +98,11 @@ pollNext (Heard slot) tries allowed level = pollBy slot tries allowed level
 pollNext Rest tries allowed level = tries + 1
 pollNext (Over f) tries allowed level = 0
 
-unfoldable pub dueOf : ℕ → System → Bool
-dueOf d s = eqb (pollNext (s .driver .phase) (s .driver .counts .tries) (allowedOf (s .driver .request)) (s .level)) d
+unfoldable pub endDueOf : ℕ → System → Bool
+endDueOf d s = eqb (pollNext (s .driver .phase) (s .driver .counts .tries) (allowedOf (s .driver .request)) (s .level)) d
 
 unfoldable pub turnOf : Model → ℕ → System → System
-turnOf M d s = askedOf M (cond (dueOf d s) (endedOf M s) s)
+turnOf M d s = askedOf M (cond (endDueOf d s) (cycleEndedOf M s) s)
 
 unfoldable pub turnsOf : Model → ℕ → ℕ → System → System
 turnsOf M d zero s = s
@@ -111,7 +111,7 @@ turnsOf M d (suc n) s = turnsOf M d n (turnOf M d s)
 -- what the driver answered when it was asked last, of n turns; a where it was not asked
 unfoldable pub lastOf : Model → ℕ → ℕ → Answer → System → Answer
 lastOf M d zero a s = a
-lastOf M d (suc n) a s = lastOf M d n (nextOf (s .driver) (s .level) (s .buffer) .answer) (turnOf M d s)
+lastOf M d (suc n) a s = lastOf M d n (driverNextOf (s .driver) (s .level) (s .buffer) .answer) (turnOf M d s)
 
 -- more askings than any request takes: 9 clocks for each of 512 pages' select and address, 32,768 bytes and 512,000 polls, and
 -- their Starts and Stops

@@ -10,7 +10,7 @@ ghost use Rattle.parts.specs.Events.{eventOf};
 ghost use Rattle.chip.specs.Memory.{mem, storeOf};
 ghost use Rattle.chip.specs.Model.{ours};
 ghost use Rattle.driver.specs.declared.Answer.the-variants.{Done};
-ghost use Rattle.driver.specs.Step.{nextOf};
+ghost use Rattle.driver.specs.Step.{driverNextOf};
 ghost use Rattle.bench.specs.Together.{
   clockOf,
   startOf,
@@ -21,10 +21,10 @@ ghost use Rattle.bench.specs.Together.{
   turnsOf,
   lastOf,
   enough,
-  dueOf,
+  endDueOf,
 };
-ghost use Rattle.bench.specs.Tape.{sendsOf, codeOf, tapeBy, eventsOf, heardOf, laidOf};
-ghost use Rattle.bench.specs.Held.{whole, sentOf, atEndOf, madeOf, Fit};
+ghost use Rattle.bench.specs.Tape.{sendsOf, sentCodeOf, tapeBy, tapeEventsOf, tapeLevelsOf, laidOf};
+ghost use Rattle.bench.specs.Held.{whole, chipTakesOf, atEndOf, madeOf, Fit};
 ghost use Rattle.bench.specs.Calls.{otherLengthOf, shortOf, lateOf, benchVerdictOf, reportBy, refusedBy, benchOf};
 use driver::Answer;
 use driver::Driver;
@@ -102,8 +102,9 @@ fn send(
     requires fit { ⌜ Fit part enable (held .chip) (length (now array)) (length (now id)) ⌝ }
     requires code { ⌜ code < 4 ⌝ }
     requires few { ⌜ (held .cycles < 6000000) × (held .clocks < 6000000) ⌝ }
-    ensures answer { λ r. ⌜ r ≡ sentOf (ours (factsOf part) enable) held (mem (now (array .entry)) (now (id .entry))) driver code ⌝ }
-    ensures stored { λ _. ⌜ mem (now (array .exit)) (now (id .exit)) ≡ storeOf (factsOf part) (held .chip) (mem (now (array .entry)) (now (id .entry))) (eventOf code) ⌝ }
+    ensures answer { λ r. ⌜ r ≡ chipTakesOf (ours (factsOf part) enable) held (mem (now (array .entry)) (now (id .entry))) driver code ⌝ }
+    ensures stored { λ _. ⌜ mem (now (array .exit)) (now (id .exit))
+        ≡ storeOf (factsOf part) (held .chip) (mem (now (array .entry)) (now (id .entry))) (eventOf code) ⌝ }
 {
     let before = held.chip;
     let s = chip::step(part, enable, before, array, id, code);
@@ -121,7 +122,9 @@ fn send(
 fn end(due: bool, part: u8, enable: u8, held: Held, array: &mut [u8], id: &mut [u8]) -> Held
     requires { ⌜ Fit part enable (held .chip) (length (now array)) (length (now id)) ⌝ }
     ensures answer { λ r. ⌜ r ≡ cond due (atEndOf (ours (factsOf part) enable) held) held ⌝ }
-    ensures stored { λ _. ⌜ mem (now (array .exit)) (now (id .exit)) ≡ cond due (storeOf (factsOf part) (held .chip) (mem (now (array .entry)) (now (id .entry))) (eventOf 4)) (mem (now (array .entry)) (now (id .entry))) ⌝ }
+    ensures stored { λ _. ⌜ mem (now (array .exit)) (now (id .exit))
+        ≡ cond due (storeOf (factsOf part) (held .chip) (mem (now (array .entry)) (now (id .entry))) (eventOf 4))
+        (mem (now (array .entry)) (now (id .entry))) ⌝ }
 {
     if !due {
         return held;
@@ -151,8 +154,9 @@ fn ask(
 ) -> Turned
     requires fit { ⌜ Fit part enable (held .chip) (length (now array)) (length (now id)) ⌝ }
     requires few { ⌜ (held .cycles < 6000000) × (held .clocks < 6000000) ⌝ }
-    ensures together { λ r. ⌜ whole (r .held) (now (buffer .exit)) (mem (now (array .exit)) (now (id .exit))) ≡ askedOf (ours (factsOf part) enable) (whole held (now (buffer .entry)) (mem (now (array .entry)) (now (id .entry)))) ⌝ }
-    ensures found { λ r. ⌜ (r .ended ≡ ended) × (r .answer ≡ nextOf (held .driver) (held .level) (now (buffer .entry)) .answer) ⌝ }
+    ensures together { λ r. ⌜ whole (r .held) (now (buffer .exit)) (mem (now (array .exit)) (now (id .exit)))
+        ≡ askedOf (ours (factsOf part) enable) (whole held (now (buffer .entry)) (mem (now (array .entry)) (now (id .entry)))) ⌝ }
+    ensures found { λ r. ⌜ (r .ended ≡ ended) × (r .answer ≡ driverNextOf (held .driver) (held .level) (now (buffer .entry)) .answer) ⌝ }
 {
     let asked = driver::next(held.driver, held.level, buffer);
     let answer = asked.answer;
@@ -235,8 +239,10 @@ fn turn(
     requires fit { ⌜ Fit part enable (held .chip) (length (now array)) (length (now id)) ⌝ }
     requires few { ⌜ (held .cycles < 6000000) × (held .clocks < 6000000) ⌝ }
     requires first { ⌜ 0 < d ⌝ }
-    ensures together { λ r. ⌜ whole (r .held) (now (buffer .exit)) (mem (now (array .exit)) (now (id .exit))) ≡ turnOf (ours (factsOf part) enable) d (whole held (now (buffer .entry)) (mem (now (array .entry)) (now (id .entry)))) ⌝ }
-    ensures found { λ r. ⌜ (r .ended ≡ dueOf d (whole held (now (buffer .entry)) (mem (now (array .entry)) (now (id .entry))))) × (r .answer ≡ nextOf (held .driver) (held .level) (now (buffer .entry)) .answer) ⌝ }
+    ensures together { λ r. ⌜ whole (r .held) (now (buffer .exit)) (mem (now (array .exit)) (now (id .exit)))
+        ≡ turnOf (ours (factsOf part) enable) d (whole held (now (buffer .entry)) (mem (now (array .entry)) (now (id .entry)))) ⌝ }
+    ensures found { λ r. ⌜ (r .ended ≡ endDueOf d (whole held (now (buffer .entry)) (mem (now (array .entry)) (now (id .entry)))))
+        × (r .answer ≡ driverNextOf (held .driver) (held .level) (now (buffer .entry)) .answer) ⌝ }
 {
     let driver = held.driver;
     let phase = driver.phase;
@@ -260,7 +266,7 @@ fn sends(answer: Answer) -> bool
 
 // 0 where nothing is sent.
 fn code(answer: Answer) -> u8
-    ensures { λ r. ⌜ r ≡ codeOf answer ⌝ }
+    ensures { λ r. ⌜ r ≡ sentCodeOf answer ⌝ }
 {
     match answer {
         Answer::Send(e) => e,
@@ -336,11 +342,18 @@ fn go(
     requires fit { ⌜ Fit part enable (first .chip) (length (now array)) (length (now id)) ⌝ }
     requires none { ⌜ (first .cycles ≡ 0) × (first .clocks ≡ 0) ⌝ }
     requires first { ⌜ 0 < d ⌝ }
-    ensures together { λ r. ⌜ whole (r .held) (now (buffer .exit)) (mem (now (array .exit)) (now (id .exit))) ≡ turnsOf (ours (factsOf part) enable) d enough (whole first (now (buffer .entry)) (mem (now (array .entry)) (now (id .entry)))) ⌝ }
-    ensures last { λ r. ⌜ r .answer ≡ lastOf (ours (factsOf part) enable) d enough (Done 0 0) (whole first (now (buffer .entry)) (mem (now (array .entry)) (now (id .entry)))) ⌝ }
-    ensures sent { λ r. ⌜ r .sent ≡ length (eventsOf (ours (factsOf part) enable) d enough (whole first (now (buffer .entry)) (mem (now (array .entry)) (now (id .entry))))) ⌝ }
-    ensures events { λ _. ⌜ now (events .exit) ≡ laidOf (now (events .entry)) (eventsOf (ours (factsOf part) enable) d enough (whole first (now (buffer .entry)) (mem (now (array .entry)) (now (id .entry))))) ⌝ }
-    ensures levels { λ _. ⌜ now (levels .exit) ≡ laidOf (now (levels .entry)) (heardOf (ours (factsOf part) enable) d enough (whole first (now (buffer .entry)) (mem (now (array .entry)) (now (id .entry))))) ⌝ }
+    ensures together { λ r. ⌜ whole (r .held) (now (buffer .exit)) (mem (now (array .exit)) (now (id .exit)))
+        ≡ turnsOf (ours (factsOf part) enable) d enough (whole first (now (buffer .entry)) (mem (now (array .entry)) (now (id .entry)))) ⌝ }
+    ensures last { λ r. ⌜ r .answer
+        ≡ lastOf (ours (factsOf part) enable) d enough (Done 0 0) (whole first (now (buffer .entry)) (mem (now (array .entry)) (now (id .entry)))) ⌝ }
+    ensures sent { λ r. ⌜ r .sent
+        ≡ length (tapeEventsOf (ours (factsOf part) enable) d enough (whole first (now (buffer .entry)) (mem (now (array .entry)) (now (id .entry))))) ⌝ }
+    ensures events { λ _. ⌜ now (events .exit)
+        ≡ laidOf (now (events .entry))
+        (tapeEventsOf (ours (factsOf part) enable) d enough (whole first (now (buffer .entry)) (mem (now (array .entry)) (now (id .entry))))) ⌝ }
+    ensures levels { λ _. ⌜ now (levels .exit)
+        ≡ laidOf (now (levels .entry))
+        (tapeLevelsOf (ours (factsOf part) enable) d enough (whole first (now (buffer .entry)) (mem (now (array .entry)) (now (id .entry))))) ⌝ }
 {
     let mut held = first;
     let mut answer = Answer::Done(0, 0);
@@ -408,12 +421,28 @@ fn drive(
 ) -> Recorded
     requires fit { ⌜ Fit (request .part) enable chip (length (now array)) (length (now id)) ⌝ }
     requires first { ⌜ 0 < d ⌝ }
-    ensures answer { λ r. ⌜ r .report ≡ reportBy (turnsOf (ours (factsOf (request .part)) enable) d enough (startOf request (now (bytes .entry)) chip (mem (now (array .entry)) (now (id .entry))))) (lastOf (ours (factsOf (request .part)) enable) d enough (Done 0 0) (startOf request (now (bytes .entry)) chip (mem (now (array .entry)) (now (id .entry))))) ⌝ }
-    ensures stored { λ _. ⌜ mem (now (array .exit)) (now (id .exit)) ≡ turnsOf (ours (factsOf (request .part)) enable) d enough (startOf request (now (bytes .entry)) chip (mem (now (array .entry)) (now (id .entry)))) .mem ⌝ }
-    ensures bytes { λ _. ⌜ now (bytes .exit) ≡ turnsOf (ours (factsOf (request .part)) enable) d enough (startOf request (now (bytes .entry)) chip (mem (now (array .entry)) (now (id .entry)))) .buffer ⌝ }
-    ensures sent { λ r. ⌜ r .sent ≡ length (eventsOf (ours (factsOf (request .part)) enable) d enough (startOf request (now (bytes .entry)) chip (mem (now (array .entry)) (now (id .entry))))) ⌝ }
-    ensures events { λ _. ⌜ now (events .exit) ≡ laidOf (now (events .entry)) (eventsOf (ours (factsOf (request .part)) enable) d enough (startOf request (now (bytes .entry)) chip (mem (now (array .entry)) (now (id .entry))))) ⌝ }
-    ensures levels { λ _. ⌜ now (levels .exit) ≡ laidOf (now (levels .entry)) (heardOf (ours (factsOf (request .part)) enable) d enough (startOf request (now (bytes .entry)) chip (mem (now (array .entry)) (now (id .entry))))) ⌝ }
+    ensures answer { λ r. ⌜ r .report
+        ≡ reportBy (turnsOf (ours (factsOf (request .part)) enable) d enough
+        (startOf request (now (bytes .entry)) chip (mem (now (array .entry)) (now (id .entry)))))
+        (lastOf (ours (factsOf (request .part)) enable) d enough (Done 0 0)
+        (startOf request (now (bytes .entry)) chip (mem (now (array .entry)) (now (id .entry))))) ⌝ }
+    ensures stored { λ _. ⌜ mem (now (array .exit)) (now (id .exit))
+        ≡ turnsOf (ours (factsOf (request .part)) enable) d enough
+        (startOf request (now (bytes .entry)) chip (mem (now (array .entry)) (now (id .entry)))) .mem ⌝ }
+    ensures bytes { λ _. ⌜ now (bytes .exit)
+        ≡ turnsOf (ours (factsOf (request .part)) enable) d enough
+        (startOf request (now (bytes .entry)) chip (mem (now (array .entry)) (now (id .entry)))) .buffer ⌝ }
+    ensures sent { λ r. ⌜ r .sent
+        ≡ length (tapeEventsOf (ours (factsOf (request .part)) enable) d enough
+        (startOf request (now (bytes .entry)) chip (mem (now (array .entry)) (now (id .entry))))) ⌝ }
+    ensures events { λ _. ⌜ now (events .exit)
+        ≡ laidOf (now (events .entry))
+        (tapeEventsOf (ours (factsOf (request .part)) enable) d enough
+        (startOf request (now (bytes .entry)) chip (mem (now (array .entry)) (now (id .entry))))) ⌝ }
+    ensures levels { λ _. ⌜ now (levels .exit)
+        ≡ laidOf (now (levels .entry))
+        (tapeLevelsOf (ours (factsOf (request .part)) enable) d enough
+        (startOf request (now (bytes .entry)) chip (mem (now (array .entry)) (now (id .entry))))) ⌝ }
 {
     let begun = driver::begin(request);
     let driver = begun.driver;

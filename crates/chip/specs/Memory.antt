@@ -51,8 +51,8 @@ enteredOf s at [] = s
 enteredOf s at (x ∷ xs) = enteredOf (oneOf s at x) (suc at) xs
 
 -- where the counter's page begins
-unfoldable pub pageStartOf : Facts → ℕ → ℕ
-pageStartOf f c = c / f .page * f .page
+unfoldable pub counterPageOf : Facts → ℕ → ℕ
+counterPageOf f c = c / f .page * f .page
 
 abbrev pub cellsOf : Target → Mem → List ℕ
 cellsOf Array m = m .cells
@@ -63,7 +63,7 @@ withCells Array l m = record { cells = l; ident = m .ident }
 withCells Ident l m = record { cells = m .cells; ident = l }
 
 unfoldable pub committedOf : Facts → ℕ → List ℕ → Target → Mem → Mem
-committedOf f c k t m = withCells t (enteredOf (cellsOf t m) (pageStartOf f c) (take (f .page) k)) m
+committedOf f c k t m = withCells t (enteredOf (cellsOf t m) (counterPageOf f c) (take (f .page) k)) m
 
 unfoldable pub cycleStoredOf : Facts → ℕ → List ℕ → Mem → Cycle → Mem
 cycleStoredOf f c k m (Writing t) = committedOf f c k t m
@@ -107,5 +107,5 @@ seenOf f l m (Busy y) = 0
 unfoldable pub stateOf : Facts → ℕ → Chip → Event → Chip
 stateOf f enable c e = record { line = nextOf f enable (c .line) e; latch = latchOf (c .latch) (actOf f enable (c .line) e) }
 
-unfoldable pub answerOf : Facts → ℕ → Chip → Mem → Event → ℕ
-answerOf f enable c m e = levelOf f enable (c .line) (seenOf f (c .line) m (c .line .phase)) e
+unfoldable pub chipLevelOf : Facts → ℕ → Chip → Mem → Event → ℕ
+chipLevelOf f enable c m e = levelOf f enable (c .line) (seenOf f (c .line) m (c .line .phase)) e

@@ -4,7 +4,7 @@ use mathlib.Core.Path.{_≡_, sym, _∙_}
 use contract.Lifetimes.{Lfts}
 use denote.Triple.Entry.{Args, Res}
 use denote.Triple.Clauses.{Ended, Lasts}
-use Rattle.determined.specs.Determined.{Answer, Determined}
+use Rattle.determined.specs.Determined.{AnswerTo, Determined}
 
 -- two things are equal where both equal a third
 pub agree {ℓ} : {A : Type ℓ} {a b c : A} → a ≡ c → b ≡ c → a ≡ b
@@ -12,7 +12,7 @@ agree p q = p ∙ sym q
 
 module _ {e : Ended} where
   -- two answers are equal where their parts are
-  pub same : {κs : Lfts (e .signature .lifetimes)} {a : Args (e .signature) κs} {x y : Answer e κs a} →
+  pub same : {κs : Lfts (e .signature .lifetimes)} {a : Args (e .signature) κs} {x y : AnswerTo e κs a} →
       x .result ≡ y .result → x .left ≡ y .left → x ≡ y
   same p q i = record { result = p i; left = q i }
 

@@ -15,32 +15,32 @@ use denote.Triple.Entry.{Args, Res}
 use denote.Triple.Clauses.{Ended, Lasts, AtExit, atExit}
 
 module _ (ended : Ended) where
-  abbrev pub Asked : Type 1
-  Asked = (κs : Lfts (ended .signature .lifetimes)) → Args (ended .signature) κs → Type 0
+  abbrev pub InputAsked : Type 1
+  InputAsked = (κs : Lfts (ended .signature .lifetimes)) → Args (ended .signature) κs → Type 0
 
   abbrev pub Learnt : Type 1
   Learnt = (κs : Lfts (ended .signature .lifetimes)) → Args (ended .signature) κs → Res (ended .signature) κs → AtExit ended κs → Type 0
 
   -- an answer to the input `a`: the result, the state in it, and the bytes that each buffer lent for a change holds afterwards
-  pub record Answer (κs : Lfts (ended .signature .lifetimes)) (a : Args (ended .signature) κs) : Type 0 where
+  pub record AnswerTo (κs : Lfts (ended .signature .lifetimes)) (a : Args (ended .signature) κs) : Type 0 where
     pub result : Res (ended .signature) κs
     pub left : Lasts ended κs a
 
   -- the contract `learnt` allows the answer `x` to the input `a`
-  abbrev pub Allows : Learnt → (κs : Lfts (ended .signature .lifetimes)) (a : Args (ended .signature) κs) → Answer κs a → Type 0
+  abbrev pub Allows : Learnt → (κs : Lfts (ended .signature .lifetimes)) (a : Args (ended .signature) κs) → AnswerTo κs a → Type 0
   Allows learnt κs a x = learnt κs a (x .result) (atExit ended κs a (x .left))
 
   -- every input is taken, and two answers that are allowed to the same input are equal
-  pub record Determined (asked : Asked) (learnt : Learnt) : Type 0 where
+  pub record Determined (asked : InputAsked) (learnt : Learnt) : Type 0 where
     pub taken : (κs : Lfts (ended .signature .lifetimes)) (a : Args (ended .signature) κs) → asked κs a
-    pub equal : (κs : Lfts (ended .signature .lifetimes)) (a : Args (ended .signature) κs) (x y : Answer κs a) →
+    pub equal : (κs : Lfts (ended .signature .lifetimes)) (a : Args (ended .signature) κs) (x y : AnswerTo κs a) →
         Allows learnt κs a x → Allows learnt κs a y → x ≡ y
 
   -- the same where the result is a part of a lent buffer: equal in what `seen` shows of the part, and in what is left
   pub record DeterminedAs {Shown : Type 0} (seen : (κs : Lfts (ended .signature .lifetimes)) → Res (ended .signature) κs → Shown)
-      (asked : Asked) (learnt : Learnt) : Type 0 where
+      (asked : InputAsked) (learnt : Learnt) : Type 0 where
     pub taken : (κs : Lfts (ended .signature .lifetimes)) (a : Args (ended .signature) κs) → asked κs a
-    pub equal : (κs : Lfts (ended .signature .lifetimes)) (a : Args (ended .signature) κs) (x y : Answer κs a) →
+    pub equal : (κs : Lfts (ended .signature .lifetimes)) (a : Args (ended .signature) κs) (x y : AnswerTo κs a) →
         Allows learnt κs a x → Allows learnt κs a y →
         (seen κs (x .result) ≡ seen κs (y .result)) × (x .left ≡ y .left)
 

@@ -16,13 +16,13 @@ use Rattle.parts.specs.Table.{factsOf, idSizeOf, enableRightOf}
 use Rattle.parts.specs.Refusals.{isFine, claimOf}
 use Rattle.parts.proofs.Laws.{sound, branch}
 use Rattle.parts.proofs.Claims.{claim-fine, right-fine, sooner-fine}
-use Rattle.driver.specs.Split.{firstOf, pagesMetOf}
+use Rattle.driver.specs.Split.{toPageEndOf, pagesMetOf}
 use Rattle.driver.specs.declared.Place.{Place}
 use Rattle.driver.specs.declared.Place.the-variants.{Array, Ident}
 use Rattle.driver.specs.declared.Request.{Request}
 use Rattle.driver.specs.declared.Driver.{Driver}
 use Rattle.driver.specs.Request.{fromOf, roomOf, thereOf, beyondAt, limitOf, judgeOf, allowedOf, kOf, GoodRequest}
-use Rattle.driver.specs.Step.{nameOf, selectAt, hereOf, wireOf, phaseRight, countsRight, clocksOf, rangeOf, GoodCounts, shiftOf, wholeOf, keptOf, bufferOf}
+use Rattle.driver.specs.Step.{selectNameOf, selectAt, hereOf, wireOf, phaseRight, countsRight, clocksOf, rangeOf, GoodCounts, shiftOf, wholeOf, byteKeptOf, bufferOf}
 
 pub room-most : (n : ℕ) (p : Place) → roomOf (factsOf n) p ≤ 32768
 unfolding idSizeOf
@@ -37,7 +37,7 @@ reach r g = omega (arith, g .fits, room-most (r .part) (r .place))
 pub enable-most : (r : Request) → GoodRequest r → r .enable ≤ 7
 enable-most r g = omega (arith, g .enable, sound (r .part) .enablesMost)
 
-pub name-most : (p : Place) → nameOf p ≤ 176
+pub name-most : (p : Place) → selectNameOf p ≤ 176
 name-most (Array a) = omega arith
 name-most (Ident i) = omega arith
 
@@ -51,7 +51,7 @@ pub wire-small : (d : Driver) (v : ℕ) → GoodRequest (d .request) → wireOf 
 unfolding wireOf
 wire-small d v g =
     let r = d .request in
-    omega (arith, select-most (nameOf (r .place)) (r .enable) (hereOf d) (factsOf (r .part) .wide) (name-most (r .place)) (enable-most r g))
+    omega (arith, select-most (selectNameOf (r .place)) (r .enable) (hereOf d) (factsOf (r .part) .wide) (name-most (r .place)) (enable-most r g))
 
 pub pages-suc : (P a n : ℕ) → pagesMetOf P a (suc n) ≡ (a % P + n) / P + 1
 unfolding pagesMetOf
@@ -62,8 +62,8 @@ unfolding pagesMetOf
 pages-most P a zero = omega arith
 pages-most P a (suc n) = omega (arith, pages-suc P a n, mod-le a P, div-le-self (a % P + n) P)
 
-pub first-most : (P a n : ℕ) → firstOf P a n ≤ n
-unfolding firstOf
+pub first-most : (P a n : ℕ) → toPageEndOf P a n ≤ n
+unfolding toPageEndOf
 first-most P a n = branch (λ (x : ℕ). x ≤ n) (leb n (P - a % P)) (λ e. omega arith) (λ e. omega (arith, leb-false n (P - a % P) e))
 
 -- there are as many polls as a number can hold
@@ -153,7 +153,7 @@ range-good d n e g =
 
 -- a step keeps the buffer's length
 pub buffer-length : (d : Driver) (level : ℕ) (xs : List ℕ) → length (bufferOf d level xs) ≡ length xs
-unfolding bufferOf keptOf
+unfolding bufferOf byteKeptOf
 buffer-length d level xs =
     branch L (rangeOf d (length xs))
     (λ _. branch L (wholeOf (d .phase)) (λ _. branch L (ltb (d .counts .at) (length xs)) (λ _. length-set xs (d .counts .at) (shiftOf (d .counts .byte) level)) (λ _. refl)) (λ _. refl))

@@ -6,8 +6,8 @@ use mathlib.Core.List.{List, [], _∷_}
 use lib.Dec.{eqb, leb}
 
 -- the splitter: of n bytes at address a, those up to the page's end
-unfoldable pub firstOf : ℕ → ℕ → ℕ → ℕ
-firstOf P a n = cond (leb n (P - a % P)) n (P - a % P)
+unfoldable pub toPageEndOf : ℕ → ℕ → ℕ → ℕ
+toPageEndOf P a n = cond (leb n (P - a % P)) n (P - a % P)
 
 -- the pages that n bytes at address a meet: the last page less the first, and one
 unfoldable pub pagesMetOf : ℕ → ℕ → ℕ → ℕ
@@ -17,7 +17,7 @@ pagesMetOf P a n = cond (eqb n 0) 0 ((a % P + (n - 1)) / P + 1)
 abbrev pub partsOf : ℕ → ℕ → ℕ → ℕ → List ℕ
 partsOf P zero a n = []
 partsOf P (suc most) a zero = []
-partsOf P (suc most) a (suc n) = firstOf P a (suc n) ∷ partsOf P most (a + firstOf P a (suc n)) (suc n - firstOf P a (suc n))
+partsOf P (suc most) a (suc n) = toPageEndOf P a (suc n) ∷ partsOf P most (a + toPageEndOf P a (suc n)) (suc n - toPageEndOf P a (suc n))
 
 abbrev pub sum : List ℕ → ℕ
 sum [] = 0

@@ -11,7 +11,7 @@ use Rattle.parts.specs.declared.Refusal.the-variants.{BadState, NoSelect, NoDat
 use Rattle.parts.specs.declared.Verdict.the-variants.{Fine, Refused as Judged}
 use Rattle.parts.specs.Table.{factsOf}
 use Rattle.parts.specs.Refusals.{isFine}
-use Rattle.driver.specs.Split.{firstOf}
+use Rattle.driver.specs.Split.{toPageEndOf}
 use Rattle.driver.specs.Request.{fromOf, judgeOf, allowedOf, kOf}
 use Rattle.driver.specs.declared.Place.{Place}
 use Rattle.driver.specs.declared.Place.the-variants.{Array, Ident}
@@ -33,9 +33,9 @@ use Rattle.driver.specs.declared.Begun.{Begun}
 -- ---- the bytes on the bus
 
 -- 1010 names the array, 1011 the identification page
-abbrev pub nameOf : Place → ℕ
-nameOf (Array a) = 160
-nameOf (Ident i) = 176
+abbrev pub selectNameOf : Place → ℕ
+selectNameOf (Array a) = 160
+selectNameOf (Ident i) = 176
 
 -- the select code with write for bytes from address x on: the enable, or A10, A9, A8 (a location has none: 0)
 unfoldable pub selectAt : ℕ → Bool → ℕ → ℕ → ℕ
@@ -49,21 +49,21 @@ hereOf d = fromOf (d .request .place) + d .counts .seen
 unfoldable pub wireOf : Driver → ℕ → Wire
 wireOf d value =
     record {
-      select = selectAt (nameOf (d .request .place)) (factsOf (d .request .part) .wide) (d .request .enable) (hereOf d);
+      select = selectAt (selectNameOf (d .request .place)) (factsOf (d .request .part) .wide) (d .request .enable) (hereOf d);
       high = hereOf d / 256 % 256;
       low = hereOf d % 256;
       value = value;
     }
 
 -- the byte of a slot; "read clocks as 1"
-abbrev pub byteOf : Wire → Slot → ℕ
-byteOf w Select = w .select
-byteOf w High = w .high
-byteOf w Low = w .low
-byteOf w Data = w .value
-byteOf w Poll = w .select
-byteOf w Turn = w .select + 1
-byteOf w Take = 255
+abbrev pub slotByteOf : Wire → Slot → ℕ
+slotByteOf w Select = w .select
+slotByteOf w High = w .high
+slotByteOf w Low = w .low
+slotByteOf w Data = w .value
+slotByteOf w Poll = w .select
+slotByteOf w Turn = w .select + 1
+slotByteOf w Take = 255
 
 -- bit number i of a byte, highest first; past the bits the line is released
 unfoldable pub bitOf : ℕ → ℕ → ℕ
@@ -101,42 +101,42 @@ abbrev pub withSeen : Counts → Counts
 withSeen c = record { at = c .at; seen = c .at; tries = 0; polls = c .polls; byte = c .byte }
 
 -- a level told inside a byte matters only in a byte that is read
-abbrev pub takenOf : Slot → Counts → ℕ → Counts
-takenOf Select c level = c
-takenOf High c level = c
-takenOf Low c level = c
-takenOf Data c level = c
-takenOf Poll c level = c
-takenOf Turn c level = c
-takenOf Take c level = withByte c (shiftOf (c .byte) level)
+abbrev pub toldCountsOf : Slot → Counts → ℕ → Counts
+toldCountsOf Select c level = c
+toldCountsOf High c level = c
+toldCountsOf Low c level = c
+toldCountsOf Data c level = c
+toldCountsOf Poll c level = c
+toldCountsOf Turn c level = c
+toldCountsOf Take c level = withByte c (shiftOf (c .byte) level)
 
-abbrev pub sentOf : Slot → Counts → Counts
-sentOf Select c = c
-sentOf High c = c
-sentOf Low c = c
-sentOf Data c = withNext c
-sentOf Poll c = c
-sentOf Turn c = c
-sentOf Take c = withNext c
+abbrev pub sentCountsOf : Slot → Counts → Counts
+sentCountsOf Select c = c
+sentCountsOf High c = c
+sentCountsOf Low c = c
+sentCountsOf Data c = withNext c
+sentCountsOf Poll c = c
+sentCountsOf Turn c = c
+sentCountsOf Take c = withNext c
 
 -- ---- one step, by phases
 
 -- an event is sent (2 Start, 3 Stop)
-abbrev pub goes : ℕ → Phase → Counts → Move
-goes event phase c = record { answer = Send event; phase = phase; counts = c }
+abbrev pub sendThen : ℕ → Phase → Counts → Move
+sendThen event phase c = record { answer = Send event; phase = phase; counts = c }
 
 -- the first clock of a byte
 abbrev pub opens : Slot → ℕ → Counts → Move
-opens slot clock c = goes clock (Bits slot 1) (withByte c 0)
+opens slot clock c = sendThen clock (Bits slot 1) (withByte c 0)
 
 -- before a part's Start, or done: all bytes are
 unfoldable pub readyOf : Counts → ℕ → Move
 readyOf c length =
-    cond (eqb (c .at) length) (record { answer = Done (c .polls) (c .seen); phase = Ready; counts = c }) (goes 2 (Bits Select 0) c)
+    cond (eqb (c .at) length) (record { answer = Done (c .polls) (c .seen); phase = Ready; counts = c }) (sendThen 2 (Bits Select 0) c)
 
 -- inside a byte: its next clock, or the ninth
 unfoldable pub bitsAt : Slot → ℕ → ℕ → ℕ → Counts → Counts → Move
-bitsAt slot b clock ninth taken sent = cond (ltb b 8) (goes clock (Bits slot (b + 1)) taken) (goes ninth (Heard slot) sent)
+bitsAt slot b clock ninth taken sent = cond (ltb b 8) (sendThen clock (Bits slot (b + 1)) taken) (sendThen ninth (Heard slot) sent)
 
 -- the byte that comes after a byte, where no Start or Stop comes first
 abbrev pub followOf : Slot → Bool → Slot
@@ -150,32 +150,32 @@ followOf Take wide = Take
 
 -- a select or address byte is acknowledged, or Stop and refusal 9
 unfoldable pub leadAt : Counts → Slot → ℕ → ℕ → Move
-leadAt c next clock level = cond (eqb level 0) (opens next clock c) (goes 3 (Over AtSelect) c)
+leadAt c next clock level = cond (eqb level 0) (opens next clock c) (sendThen 3 (Over AtSelect) c)
 
 -- after the address: a read starts again, for its select
 unfoldable pub lowAt : Counts → Bool → ℕ → ℕ → Move
-lowAt c reads clock level = cond (eqb level 0) (cond reads (goes 2 (Bits Turn 0) c) (opens Data clock c)) (goes 3 (Over AtSelect) c)
+lowAt c reads clock level = cond (eqb level 0) (cond reads (sendThen 2 (Bits Turn 0) c) (opens Data clock c)) (sendThen 3 (Over AtSelect) c)
 
 -- a data byte is acknowledged, or Stop and refusal 10; at the end of the part, Stop
 unfoldable pub dataAt : Counts → ℕ → ℕ → ℕ → Move
-dataAt c end clock level = cond (eqb level 0) (cond (eqb (c .at) end) (goes 3 Rest c) (opens Data clock c)) (goes 3 (Over AtData) c)
+dataAt c end clock level = cond (eqb level 0) (cond (eqb (c .at) end) (sendThen 3 Rest c) (opens Data clock c)) (sendThen 3 (Over AtData) c)
 
 -- "A poll is Start and the select code with write"
-unfoldable pub pollOf : Counts → Move
-pollOf c = goes 2 (Bits Poll 0) (withPoll c)
+unfoldable pub pollMoveOf : Counts → Move
+pollMoveOf c = sendThen 2 (Bits Poll 0) (withPoll c)
 
 -- "on 0 it ends with Stop, on 1 the next poll starts. After the last poll allowed for a page it sends Stop and refuses"
 unfoldable pub answeredOf : Counts → ℕ → ℕ → Move
 answeredOf c allowed level =
-    cond (eqb level 0) (goes 3 Ready (withSeen c)) (cond (ltb (c .tries) allowed) (pollOf c) (goes 3 (Over AtPolls) c))
+    cond (eqb level 0) (sendThen 3 Ready (withSeen c)) (cond (ltb (c .tries) allowed) (pollMoveOf c) (sendThen 3 (Over AtPolls) c))
 
 -- after a byte that was read: the next, or Stop
 unfoldable pub takeAt : Counts → ℕ → ℕ → Move
-takeAt c length clock = cond (eqb (c .at) length) (goes 3 Ready (withSeen c)) (opens Take clock c)
+takeAt c length clock = cond (eqb (c .at) length) (sendThen 3 Ready (withSeen c)) (opens Take clock c)
 
 -- the number of bytes at which the part ends that is under way
 abbrev pub endOf : Driver → ℕ
-endOf d = d .counts .seen + firstOf (factsOf (d .request .part) .page) (hereOf d) (d .request .length - d .counts .seen)
+endOf d = d .counts .seen + toPageEndOf (factsOf (d .request .part) .page) (hereOf d) (d .request .length - d .counts .seen)
 
 -- the byte's ninth clock was sent, and its level is told; clock: the first clock of the byte that follows
 abbrev pub heardAt : Driver → Slot → ℕ → ℕ → Move
@@ -187,13 +187,13 @@ heardAt d Poll level clock = answeredOf (d .counts) (allowedOf (d .request)) lev
 heardAt d Turn level clock = leadAt (d .counts) Take clock level
 heardAt d Take level clock = takeAt (d .counts) (d .request .length) clock
 
-unfoldable pub heardOf : Driver → Slot → ℕ → ℕ → Move
-heardOf d slot level value = heardAt d slot level (bitOf (byteOf (wireOf d value) (followOf slot (factsOf (d .request .part) .wide))) 0)
+unfoldable pub heardMoveOf : Driver → Slot → ℕ → ℕ → Move
+heardMoveOf d slot level value = heardAt d slot level (bitOf (slotByteOf (wireOf d value) (followOf slot (factsOf (d .request .part) .wide))) 0)
 
-unfoldable pub bitsOf : Driver → Slot → ℕ → ℕ → ℕ → Move
-bitsOf d slot b level value =
-    bitsAt slot b (bitOf (byteOf (wireOf d value) slot) b) (ninthOf slot (eqb (d .counts .at + 1) (d .request .length)))
-    (takenOf slot (d .counts) level) (sentOf slot (d .counts))
+unfoldable pub bitsMoveOf : Driver → Slot → ℕ → ℕ → ℕ → Move
+bitsMoveOf d slot b level value =
+    bitsAt slot b (bitOf (slotByteOf (wireOf d value) slot) b) (ninthOf slot (eqb (d .counts .at + 1) (d .request .length)))
+    (toldCountsOf slot (d .counts) level) (sentCountsOf slot (d .counts))
 
 -- document 01's numbers of these are 9, 10 and 11 (numberOf of crate parts)
 abbrev pub refusalOf : Failed → Refusal
@@ -208,13 +208,13 @@ overOf f c = record { answer = Refused (refusalOf f) (c .polls) (c .seen); phase
 -- a step; value: the data byte at the driver's position
 abbrev pub moveAt : Phase → Driver → ℕ → ℕ → Move
 moveAt Ready d level value = readyOf (d .counts) (d .request .length)
-moveAt (Bits slot b) d level value = bitsOf d slot b level value
-moveAt (Heard slot) d level value = heardOf d slot level value
-moveAt Rest d level value = pollOf (d .counts)
+moveAt (Bits slot b) d level value = bitsMoveOf d slot b level value
+moveAt (Heard slot) d level value = heardMoveOf d slot level value
+moveAt Rest d level value = pollMoveOf (d .counts)
 moveAt (Over f) d level value = overOf f (d .counts)
 
-unfoldable pub stepOf : Driver → ℕ → ℕ → Asked
-stepOf d level value =
+unfoldable pub driverStepOf : Driver → ℕ → ℕ → Asked
+driverStepOf d level value =
     record {
       answer = moveAt (d .phase) d level value .answer;
       driver = record { request = d .request; phase = moveAt (d .phase) d level value .phase; counts = moveAt (d .phase) d level value .counts };
@@ -277,11 +277,11 @@ pub record GoodCounts (d : Driver) (n : ℕ) : Type 0 where
 
 -- ---- what `next` answers, and what it leaves in the buffer, on every input
 
-abbrev pub unfitOf : Driver → Asked
-unfitOf d = record { answer = Refused BadState 0 0; driver = d }
+abbrev pub badStateOf : Driver → Asked
+badStateOf d = record { answer = Refused BadState 0 0; driver = d }
 
-unfoldable pub nextOf : Driver → ℕ → List ℕ → Asked
-nextOf d level buffer = cond (rangeOf d (length buffer)) (stepOf d level (getD buffer (d .counts .at) 0)) (unfitOf d)
+unfoldable pub driverNextOf : Driver → ℕ → List ℕ → Asked
+driverNextOf d level buffer = cond (rangeOf d (length buffer)) (driverStepOf d level (getD buffer (d .counts .at) 0)) (badStateOf d)
 
 -- the eighth bit of a byte that is read was told
 abbrev pub slotWhole : Slot → ℕ → Bool
@@ -300,18 +300,18 @@ wholeOf (Heard slot) = false
 wholeOf Rest = false
 wholeOf (Over f) = false
 
-unfoldable pub keptOf : Driver → ℕ → List ℕ → List ℕ
-keptOf d level buffer =
+unfoldable pub byteKeptOf : Driver → ℕ → List ℕ → List ℕ
+byteKeptOf d level buffer =
     cond (wholeOf (d .phase))
     (cond (ltb (d .counts .at) (length buffer)) (set buffer (d .counts .at) (shiftOf (d .counts .byte) level)) buffer) buffer
 
 unfoldable pub bufferOf : Driver → ℕ → List ℕ → List ℕ
-bufferOf d level buffer = cond (rangeOf d (length buffer)) (keptOf d level buffer) buffer
+bufferOf d level buffer = cond (rangeOf d (length buffer)) (byteKeptOf d level buffer) buffer
 
 -- ---- the driver before its first step; one that was refused answers 4 at each step
 abbrev pub fresh : Request → Driver
 fresh r = record { request = r; phase = Ready; counts = record { at = 0; seen = 0; tries = 0; polls = 0; byte = 0 } }
 
 -- what `begin` answers
-abbrev pub begunOf : Request → Begun
-begunOf r = record { verdict = judgeOf r; driver = fresh r }
+abbrev pub beginOf : Request → Begun
+beginOf r = record { verdict = judgeOf r; driver = fresh r }

@@ -3,7 +3,7 @@ ghost use mathlib.Core.Path.{_≡_};
 ghost use mathlib.Core.Bool.{true};
 ghost use Prim.Native.Nat.{_+_, _*_, _≤_, _<_};
 ghost use lib.ListN.{length, getD};
-ghost use Rattle.driver.specs.Split.{firstOf, pagesMetOf};
+ghost use Rattle.driver.specs.Split.{toPageEndOf, pagesMetOf};
 ghost use Rattle.driver.specs.Request.{
   fromOf,
   roomOf,
@@ -16,7 +16,7 @@ ghost use Rattle.driver.specs.Request.{
   GoodRequest,
 };
 ghost use Rattle.parts.specs.Refusals.{isFine};
-ghost use Rattle.driver.specs.Step.{nameOf, selectAt, wireOf, byteOf, bitOf, ninthOf, shiftOf, takenOf, sentOf, readyOf, bitsAt, followOf, leadAt, lowAt, dataAt, pollOf, answeredOf, takeAt, endOf, heardAt, heardOf, bitsOf, refusalOf, moveAt, stepOf, clocksOf, slotRight, phaseRight, countsRight, rangeOf, GoodCounts, nextOf, slotWhole, wholeOf, keptOf, bufferOf, begunOf, unfitOf};
+ghost use Rattle.driver.specs.Step.{selectNameOf, selectAt, wireOf, slotByteOf, bitOf, ninthOf, shiftOf, toldCountsOf, sentCountsOf, readyOf, bitsAt, followOf, leadAt, lowAt, dataAt, pollMoveOf, answeredOf, takeAt, endOf, heardAt, heardMoveOf, bitsMoveOf, refusalOf, moveAt, driverStepOf, clocksOf, slotRight, phaseRight, countsRight, rangeOf, GoodCounts, driverNextOf, slotWhole, wholeOf, byteKeptOf, bufferOf, beginOf, badStateOf};
 use parts::ArrayAddress;
 use parts::Facts;
 use parts::IdLocation;
@@ -135,7 +135,7 @@ const STOP: u8 = 3;
 // The splitter: how many of `length` bytes stand before the page's end.
 fn first(address: usize, length: usize, page: usize) -> usize
     requires { ⌜ 0 < page ⌝ }
-    ensures { λ r. ⌜ r ≡ firstOf page address length ⌝ }
+    ensures { λ r. ⌜ r ≡ toPageEndOf page address length ⌝ }
 {
     let room = page - address % page;
     if length <= room {
@@ -231,7 +231,7 @@ pub fn judge(request: Request) -> Verdict
 
 // A driver for a request. Where the request is refused, its driver answers refusal 4 at each step.
 pub fn begin(request: Request) -> Begun
-    ensures { λ r. ⌜ r ≡ begunOf request ⌝ }
+    ensures { λ r. ⌜ r ≡ beginOf request ⌝ }
 {
     Begun {
         verdict: judge(request),
@@ -257,7 +257,7 @@ pub fn allowed(request: Request) -> usize
 }
 
 fn name(place: Place) -> u8
-    ensures { λ r. ⌜ r ≡ nameOf place ⌝ }
+    ensures { λ r. ⌜ r ≡ selectNameOf place ⌝ }
 {
     match place {
         Place::Array(_) => 160,
@@ -295,7 +295,7 @@ fn bytes_of(d: Driver, value: u8) -> Wire
 
 fn byte(w: Wire, slot: Slot) -> u8
     requires { ⌜ w .select < 255 ⌝ }
-    ensures { λ r. ⌜ r ≡ byteOf w slot ⌝ }
+    ensures { λ r. ⌜ r ≡ slotByteOf w slot ⌝ }
 {
     match slot {
         Slot::Select => w.select,
@@ -368,7 +368,7 @@ fn with_next(c: Counts) -> Counts
 
 // The counts after a level told inside a byte.
 fn taken(slot: Slot, c: Counts, level: u8) -> Counts
-    ensures { λ r. ⌜ r ≡ takenOf slot c level ⌝ }
+    ensures { λ r. ⌜ r ≡ toldCountsOf slot c level ⌝ }
 {
     match slot {
         Slot::Select => c,
@@ -384,7 +384,7 @@ fn taken(slot: Slot, c: Counts, level: u8) -> Counts
 // The counts after a byte's ninth clock.
 fn sent(slot: Slot, c: Counts) -> Counts
     requires { ⌜ c .at ≤ 65536 ⌝ }
-    ensures { λ r. ⌜ r ≡ sentOf slot c ⌝ }
+    ensures { λ r. ⌜ r ≡ sentCountsOf slot c ⌝ }
 {
     match slot {
         Slot::Select => c,
@@ -433,7 +433,7 @@ fn bits_at(slot: Slot, b: u8, clock: u8, ninth: u8, taken: Counts, sent: Counts)
 
 fn bits(d: Driver, slot: Slot, b: u8, level: u8, value: u8) -> Move
     requires { ⌜ GoodRequest (d .request) × GoodCounts d (d .request .length) ⌝ }
-    ensures { λ r. ⌜ r ≡ bitsOf d slot b level value ⌝ }
+    ensures { λ r. ⌜ r ≡ bitsMoveOf d slot b level value ⌝ }
 {
     let c = d.counts;
     let last = c.at + 1 == d.request.length;
@@ -481,7 +481,7 @@ fn opened(slot: Slot, clock: u8, c: Counts) -> Move
 
 // A Stop.
 fn stop(phase: Phase, c: Counts) -> Move
-    ensures { λ r. ⌜ r ≡ Rattle.driver.specs.Step.goes 3 phase c ⌝ }
+    ensures { λ r. ⌜ r ≡ Rattle.driver.specs.Step.sendThen 3 phase c ⌝ }
 {
     Move {
         answer: Answer::Send(STOP),
@@ -492,14 +492,14 @@ fn stop(phase: Phase, c: Counts) -> Move
 
 // Stop, and refused: 9 at a select or address byte, 10 at a data byte, 11 when the polls are used up.
 fn refused(why: Failed, c: Counts) -> Move
-    ensures { λ r. ⌜ r ≡ Rattle.driver.specs.Step.goes 3 (Phase.Over why) c ⌝ }
+    ensures { λ r. ⌜ r ≡ Rattle.driver.specs.Step.sendThen 3 (Phase.Over why) c ⌝ }
 {
     stop(Phase::Over(why), c)
 }
 
 // Stop, and all bytes so far are done.
 fn closed(c: Counts) -> Move
-    ensures { λ r. ⌜ r ≡ Rattle.driver.specs.Step.goes 3 Phase.Ready (Rattle.driver.specs.Step.withSeen c) ⌝ }
+    ensures { λ r. ⌜ r ≡ Rattle.driver.specs.Step.sendThen 3 Phase.Ready (Rattle.driver.specs.Step.withSeen c) ⌝ }
 {
     let seen = Counts {
         at: c.at,
@@ -554,7 +554,7 @@ fn after_data(c: Counts, end: usize, clock: u8, level: u8) -> Move
 // A poll starts, and is counted.
 fn poll(c: Counts) -> Move
     requires { ⌜ (c .tries ≤ 1000) × (c .polls ≤ 65536000) ⌝ }
-    ensures { λ r. ⌜ r ≡ pollOf c ⌝ }
+    ensures { λ r. ⌜ r ≡ pollMoveOf c ⌝ }
 {
     Move {
         answer: Answer::Send(START),
@@ -625,7 +625,7 @@ fn heard_at(d: Driver, slot: Slot, level: u8, clock: u8) -> Move
 
 fn heard(d: Driver, slot: Slot, level: u8, value: u8) -> Move
     requires { ⌜ GoodRequest (d .request) × GoodCounts d (d .request .length) ⌝ }
-    ensures { λ r. ⌜ r ≡ heardOf d slot level value ⌝ }
+    ensures { λ r. ⌜ r ≡ heardMoveOf d slot level value ⌝ }
 {
     let f = parts::facts_of(d.request.part);
     let next = follow(slot, f.wide);
@@ -669,7 +669,7 @@ fn moved(d: Driver, level: u8, value: u8) -> Move
 
 fn step(d: Driver, level: u8, value: u8) -> Asked
     requires { ⌜ GoodRequest (d .request) × GoodCounts d (d .request .length) ⌝ }
-    ensures { λ r. ⌜ r ≡ stepOf d level value ⌝ }
+    ensures { λ r. ⌜ r ≡ driverStepOf d level value ⌝ }
 {
     let m = moved(d, level, value);
     let request = d.request;
@@ -828,7 +828,7 @@ fn whole(p: Phase) -> bool
 
 // The one store: a byte that was read. Nothing can refuse the read any more.
 fn keep(d: Driver, level: u8, buffer: &mut [u8])
-    ensures { λ r. ⌜ now (buffer .exit) ≡ keptOf d level (now (buffer .entry)) ⌝ }
+    ensures { λ r. ⌜ now (buffer .exit) ≡ byteKeptOf d level (now (buffer .entry)) ⌝ }
 {
     let p = d.phase;
     let at = d.counts.at;
@@ -841,7 +841,7 @@ fn keep(d: Driver, level: u8, buffer: &mut [u8])
 
 // A driver out of range: refusal 4, and nothing changes.
 fn unfit(driver: Driver) -> Asked
-    ensures { λ r. ⌜ r ≡ unfitOf driver ⌝ }
+    ensures { λ r. ⌜ r ≡ badStateOf driver ⌝ }
 {
     Asked {
         answer: Answer::Refused(Refusal::BadState, 0, 0),
@@ -851,7 +851,7 @@ fn unfit(driver: Driver) -> Asked
 
 // The next event, or finished. The buffer holds the bytes to write, or takes the bytes read.
 pub fn next(driver: Driver, level: u8, buffer: &mut [u8]) -> Asked
-    ensures { λ r. ⌜ r ≡ nextOf driver level (now (buffer .entry)) ⌝ }
+    ensures { λ r. ⌜ r ≡ driverNextOf driver level (now (buffer .entry)) ⌝ }
     ensures { λ r. ⌜ now (buffer .exit) ≡ bufferOf driver level (now (buffer .entry)) ⌝ }
 {
     if in_range(driver, buffer.len()) {

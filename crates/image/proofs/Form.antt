@@ -24,9 +24,9 @@ use Rattle.state.specs.declared.Chip.{Chip}
 use Rattle.state.specs.Range.{emptyOf, marksRightOf, pinRightOf, lockRightOf, phaseRightOf, restRightOf, inRangeOf}
 use Rattle.chip.specs.Memory.{Mem, noLatch}
 use Rattle.chip.specs.Delivery.{pinAtFirstOf, standbyOf}
-use Rattle.image.specs.Layout.{headOf, imageOf, imageLengthOf, partIn, lockIn, storedIn, markRightOf, lockByteRightOf, formedOf}
+use Rattle.image.specs.Layout.{imageHeadOf, imageOf, imageLengthOf, partIn, lockIn, storedIn, imageMarkRightOf, lockByteRightOf, formedOf}
 use Rattle.image.specs.Calls.{saveVerdictOf, judgedOf, loadVerdictOf}
-use Rattle.image.specs.Promises.{Fits}
+use Rattle.image.specs.Promises.{BuffersFit}
 use Rattle.image.proofs.Laws.{CanLoad}
 
 -- ---- an image taken apart
@@ -36,8 +36,8 @@ module _ (part : ℕ) (lock : Bool) (m : Mem) where
   unfolding partIn imageOf
   part-of-image = refl
 
-  pub mark-of-image : markRightOf (imageOf part lock m) ≡ true
-  unfolding markRightOf imageOf
+  pub mark-of-image : imageMarkRightOf (imageOf part lock m) ≡ true
+  unfolding imageMarkRightOf imageOf
   mark-of-image = refl
 
   pub flag-of-image : getD (imageOf part lock m) 6 0 ≡ flagOf lock
@@ -48,16 +48,16 @@ pub lock-of-image : (part : ℕ) (lock : Bool) (m : Mem) → lockIn (imageOf par
 unfolding lockIn
 lock-of-image part lock m = rw (flag-of-image part lock m) (flag-back lock)
 
-pub length-of-image : (part : ℕ) (lock : Bool) (m : Mem) → Fits part m → length (imageOf part lock m) ≡ imageLengthOf (factsOf part)
+pub length-of-image : (part : ℕ) (lock : Bool) (m : Mem) → BuffersFit part m → length (imageOf part lock m) ≡ imageLengthOf (factsOf part)
 unfolding imageOf imageLengthOf
 length-of-image part lock m t =
-    length-append (headOf part lock ++ m .cells) (m .ident) ∙ rw (length-append (headOf part lock) (m .cells), t .cells, t .ident)
+    length-append (imageHeadOf part lock ++ m .cells) (m .ident) ∙ rw (length-append (imageHeadOf part lock) (m .cells), t .cells, t .ident)
 
-pub stored-of-image : (part : ℕ) (lock : Bool) (m : Mem) → Fits part m → storedIn (factsOf part) (imageOf part lock m) ≡ m
+pub stored-of-image : (part : ℕ) (lock : Bool) (m : Mem) → BuffersFit part m → storedIn (factsOf part) (imageOf part lock m) ≡ m
 unfolding imageOf storedIn
 stored-of-image part lock m t =
-    let long : length (headOf part lock ++ m .cells) ≡ 7 + factsOf part .size = length-append (headOf part lock) (m .cells) ∙ rw (t .cells) in
-    rw (take-at (m .cells) (m .ident) (factsOf part .size) (t .cells), drop-at (headOf part lock ++ m .cells) (m .ident) (7 + factsOf part .size) long)
+    let long : length (imageHeadOf part lock ++ m .cells) ≡ 7 + factsOf part .size = length-append (imageHeadOf part lock) (m .cells) ∙ rw (t .cells) in
+    rw (take-at (m .cells) (m .ident) (factsOf part .size) (t .cells), drop-at (imageHeadOf part lock ++ m .cells) (m .ident) (7 + factsOf part .size) long)
 
 -- ---- it is accepted
 
@@ -66,14 +66,14 @@ unfolding lockByteRightOf
 lockable-right f true h = h refl
 lockable-right f false h = refl
 
-module _ (part : ℕ) (lock : Bool) (m : Mem) (known : factsOf part .known ≡ true) (t : Fits part m) (h : lock ≡ true → factsOf part .ident ≡ true) where
+module _ (part : ℕ) (lock : Bool) (m : Mem) (known : factsOf part .known ≡ true) (t : BuffersFit part m) (h : lock ≡ true → factsOf part .ident ≡ true) where
   formed : formedOf (factsOf part) (imageOf part lock m) ≡ true
   unfolding formedOf
   formed =
       rw (eq-eqb (length (imageOf part lock m)) (imageLengthOf (factsOf part)) (length-of-image part lock m t), mark-of-image part lock m, flag-of-image part lock m)
       (lockable-right (factsOf part) lock h)
 
-  pub accepted : (enable : ℕ) (old : Mem) → enableRightOf (factsOf part) enable ≡ true → Fits part old
+  pub accepted : (enable : ℕ) (old : Mem) → enableRightOf (factsOf part) enable ≡ true → BuffersFit part old
       → loadVerdictOf (imageOf part lock m) enable (length (old .cells)) (length (old .ident)) ≡ Fine
   unfolding loadVerdictOf judgedOf soonerOf imageLengthOf
   accepted enable old e o =
@@ -108,7 +108,7 @@ unfolding lockByteRightOf
 flag-lockable f b h e = let one : b ≡ 1 = eqb-true b 1 e in rw one at h
 
 module _ (l : List ℕ) (enable n d : ℕ) (k : CanLoad l enable n d) where
-  pub stored-fits : Fits (partIn l) (storedIn (factsOf (partIn l)) l)
+  pub stored-fits : BuffersFit (partIn l) (storedIn (factsOf (partIn l)) l)
   unfolding storedIn imageLengthOf
   stored-fits =
       record { cells = simp (length-take, length-drop) (omega (arith, k .long)); ident = simp length-drop (omega (arith, k .long)) }
@@ -117,8 +117,8 @@ module _ (l : List ℕ) (enable n d : ℕ) (k : CanLoad l enable n d) where
   unfolding storedIn
   rest = sym (take-append-drop (factsOf (partIn l) .size) (drop 7 l)) ∙ rw drop-drop
 
-  head : getD l 0 0 ∷ getD l 1 0 ∷ getD l 2 0 ∷ getD l 3 0 ∷ getD l 4 0 ∷ getD l 5 0 ∷ getD l 6 0 ∷ [] ≡ headOf (partIn l) (lockIn l)
-  unfolding markRightOf partIn lockIn
+  head : getD l 0 0 ∷ getD l 1 0 ∷ getD l 2 0 ∷ getD l 3 0 ∷ getD l 4 0 ∷ getD l 5 0 ∷ getD l 6 0 ∷ [] ≡ imageHeadOf (partIn l) (lockIn l)
+  unfolding imageMarkRightOf partIn lockIn
   head =
       let a = both (eqb (getD l 0 0) 0x45) _ (k .marked) in
       let b = both (eqb (getD l 1 0) 0x50) _ (a .1) in
@@ -180,7 +180,7 @@ range-lockable f c h e =
 
 -- ---- a save that is not refused
 
-module _ (part : ℕ) (c : Chip) (m : Mem) (known : factsOf part .known ≡ true) (r : inRangeOf (factsOf part) c ≡ true) (t : Fits part m) where
+module _ (part : ℕ) (c : Chip) (m : Mem) (known : factsOf part .known ≡ true) (r : inRangeOf (factsOf part) c ≡ true) (t : BuffersFit part m) where
   pub saves : (room : ℕ) → imageLengthOf (factsOf part) ≤ room → saveVerdictOf part c (length (m .cells)) (length (m .ident)) room ≡ Fine
   unfolding saveVerdictOf soonerOf
   saves room h =

@@ -16,7 +16,7 @@ use Rattle.chip.specs.Memory.{Mem, mem}
 use Rattle.chip.specs.Delivery.{standbyOf}
 use Rattle.image.specs.Layout.{imageLengthOf}
 use Rattle.image.specs.Calls.{AfterLoad}
-use Rattle.image.specs.Promises.{Saving, Loading, Fits, GivesBack}
+use Rattle.image.specs.Promises.{Saving, Loading, BuffersFit, GivesBack}
 use Rattle.image.specs.Idle.{Refuses, Leaves, unwritten}
 use Rattle.image.proofs.Form.{standby-in-range, saves}
 
@@ -43,7 +43,7 @@ ranged : inRangeOf (factsOf 0) fresh ≡ true
 unfolding fresh
 ranged = standby-in-range (factsOf 0) false (sound 0) (λ e. cc)
 
-fits : (v : ℕ) → Fits 0 (all v)
+fits : (v : ℕ) → BuffersFit 0 (all v)
 unfolding all factsOf idSizeOf
 fits v = record { cells = length-replicate 2048 v; ident = length-replicate 16 v }
 

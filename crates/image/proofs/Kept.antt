@@ -17,7 +17,7 @@ use Rattle.chip.specs.Memory.{Mem, stateOf}
 use Rattle.chip.specs.Delivery.{standbyOf}
 use Rattle.image.specs.Layout.{imageOf, imageLengthOf, partIn, lockIn, storedIn}
 use Rattle.image.specs.Calls.{saveVerdictOf, saveOut, loadVerdictOf, loadBy, AfterLoad, saving, loading}
-use Rattle.image.specs.Promises.{Fits, GivesBack, SavesSame, AcceptsOnly, AcceptsAll, SavesLockOnly, AsAfterReset}
+use Rattle.image.specs.Promises.{BuffersFit, GivesBack, SavesSame, AcceptsOnly, AcceptsAll, SavesLockOnly, AsAfterReset}
 use Rattle.image.proofs.Laws.{load-fine, CanLoad}
 use Rattle.image.proofs.Form.{part-of-image, lock-of-image, length-of-image, stored-of-image, accepted, stored-fits, is-image, lock-allowed, standby-in-range, range-lockable, saves}
 
@@ -32,7 +32,7 @@ accepts-only l enable old h =
     record { part = partIn l; lock = lockIn l; stored = storedIn (factsOf (partIn l)) l; known = k .known; fits = stored-fits l enable _ _ k; lockable = lock-allowed l enable _ _ k; bytes = is-image l enable _ _ k }
 
 -- an image of a part, loaded
-loads : (part enable : ℕ) (lock : Bool) (m old : Mem) → factsOf part .known ≡ true → Fits part m → (lock ≡ true → factsOf part .ident ≡ true) → enableRightOf (factsOf part) enable ≡ true → Fits part old
+loads : (part enable : ℕ) (lock : Bool) (m old : Mem) → factsOf part .known ≡ true → BuffersFit part m → (lock ≡ true → factsOf part .ident ≡ true) → enableRightOf (factsOf part) enable ≡ true → BuffersFit part old
     → loading (imageOf part lock m) enable old ≡ record { answer = record { verdict = Fine; part = part; chip = standbyOf (factsOf part) lock }; stored = m }
 loads part enable lock m old known t h e o =
     rw (accepted part lock m known t h enable old e o, part-of-image part lock m, lock-of-image part lock m, stored-of-image part lock m t) refl

@@ -23,7 +23,7 @@ use Rattle.state.specs.declared.Chip.{Chip}
 use Rattle.state.specs.Range.{inRangeOf}
 use Rattle.chip.specs.Memory.{mem}
 use Rattle.chip.proofs.Laws.{buffers-are}
-use Rattle.image.specs.Layout.{headOf, imageOf, imageLengthOf, putOf, partIn, storedIn, markRightOf, lockByteRightOf, formedOf}
+use Rattle.image.specs.Layout.{imageHeadOf, imageOf, imageLengthOf, putOf, partIn, storedIn, imageMarkRightOf, lockByteRightOf, formedOf}
 use Rattle.image.specs.Calls.{saveVerdictOf, judgedOf, loadVerdictOf}
 
 -- ---- a copy
@@ -60,16 +60,16 @@ put-whole o s e =
 -- ---- the three copies of a save
 
 module _ (part : ℕ) (lock : Bool) (h a d o p q r : List ℕ)
-    (hh : h ≡ headOf part lock)
+    (hh : h ≡ imageHeadOf part lock)
     (hp : p ≡ putOf o 0 h)
     (hq : q ≡ putOf p 7 a)
     (hr : r ≡ putOf q (7 + length a) d) where
   pub written : r ≡ imageOf part lock (mem a d) ++ drop (7 + length a + length d) o
   unfolding imageOf
   written =
-      let one : p ≡ headOf part lock ++ drop 7 o = hp ∙ rw hh (put-first (headOf part lock) o) in
-      let two : q ≡ (headOf part lock ++ a) ++ drop (7 + length a) o = hq ∙ rw one (put-next (headOf part lock) a o 7 refl) in
-      hr ∙ rw two (put-next (headOf part lock ++ a) d o (7 + length a) (length-append (headOf part lock) a))
+      let one : p ≡ imageHeadOf part lock ++ drop 7 o = hp ∙ rw hh (put-first (imageHeadOf part lock) o) in
+      let two : q ≡ (imageHeadOf part lock ++ a) ++ drop (7 + length a) o = hq ∙ rw one (put-next (imageHeadOf part lock) a o 7 refl) in
+      hr ∙ rw two (put-next (imageHeadOf part lock ++ a) d o (7 + length a) (length-append (imageHeadOf part lock) a))
 
 -- ---- the two copies of a load
 
@@ -127,18 +127,18 @@ pub record CanLoad (l : List ℕ) (enable n d : ℕ) : Type 0 where
   pub cells : n ≡ factsOf (partIn l) .size
   pub ident : d ≡ idSizeOf (factsOf (partIn l))
   pub long : length l ≡ imageLengthOf (factsOf (partIn l))
-  pub marked : markRightOf l ≡ true
+  pub marked : imageMarkRightOf l ≡ true
   pub lock : lockByteRightOf (factsOf (partIn l)) (getD l 6 0) ≡ true
 
 pub load-fine : (l : List ℕ) (enable n d : ℕ) → loadVerdictOf l enable n d ≡ Fine → CanLoad l enable n d
 unfolding loadVerdictOf judgedOf formedOf
 load-fine l enable n d h =
     let (lent, r) = sooner-fine (lentVerdictOf (factsOf (partIn l)) n d) _ (passed (ltb (length l) 6) _ _ h .1) in
-    let (enable-right, form) = sooner-fine (claimOf (not (enableRightOf (factsOf (partIn l)) enable)) WrongEnable) (claimOf (not (cond (eqb (length l) (imageLengthOf (factsOf (partIn l)))) (cond (markRightOf l) (lockByteRightOf (factsOf (partIn l)) (getD l 6 0)) false) false)) BadImage) r in
+    let (enable-right, form) = sooner-fine (claimOf (not (enableRightOf (factsOf (partIn l)) enable)) WrongEnable) (claimOf (not (cond (eqb (length l) (imageLengthOf (factsOf (partIn l)))) (cond (imageMarkRightOf l) (lockByteRightOf (factsOf (partIn l)) (getD l 6 0)) false) false)) BadImage) r in
     let f = lent-fine (factsOf (partIn l)) n d lent in
     let b = buffers-are (factsOf (partIn l)) n d (f .1) in
-    let w = both (eqb (length l) (imageLengthOf (factsOf (partIn l)))) (cond (markRightOf l) (lockByteRightOf (factsOf (partIn l)) (getD l 6 0)) false) (right-fine _ BadImage form) in
-    let t = both (markRightOf l) (lockByteRightOf (factsOf (partIn l)) (getD l 6 0)) (w .1) in
+    let w = both (eqb (length l) (imageLengthOf (factsOf (partIn l)))) (cond (imageMarkRightOf l) (lockByteRightOf (factsOf (partIn l)) (getD l 6 0)) false) (right-fine _ BadImage form) in
+    let t = both (imageMarkRightOf l) (lockByteRightOf (factsOf (partIn l)) (getD l 6 0)) (w .1) in
     record { known = f .0; enabled = right-fine _ WrongEnable enable-right; cells = b .0; ident = b .1; long = eqb-true (length l) (imageLengthOf (factsOf (partIn l))) (w .0); marked = t .0; lock = t .1 }
 
 pub load-room : (l : List ℕ) (enable n d part : ℕ) → loadVerdictOf l enable n d ≡ Fine → part ≡ partIn l

@@ -13,12 +13,12 @@ use Rattle.chip.specs.Memory.{Mem, mem}
 -- ---- what is written
 
 -- mark `EPR`, version 0001h high byte first, part, lock (0 or 1)
-abbrev pub headOf : ℕ → Bool → List ℕ
-headOf part lock = 0x45 ∷ 0x50 ∷ 0x52 ∷ 0x00 ∷ 0x01 ∷ part ∷ flagOf lock ∷ []
+abbrev pub imageHeadOf : ℕ → Bool → List ℕ
+imageHeadOf part lock = 0x45 ∷ 0x50 ∷ 0x52 ∷ 0x00 ∷ 0x01 ∷ part ∷ flagOf lock ∷ []
 
 -- then the array and the identification page
 unfoldable pub imageOf : ℕ → Bool → Mem → List ℕ
-imageOf part lock m = (headOf part lock ++ m .cells) ++ m .ident
+imageOf part lock m = (imageHeadOf part lock ++ m .cells) ++ m .ident
 
 unfoldable pub imageLengthOf : Facts → ℕ
 imageLengthOf f = 7 + f .size + idSizeOf f
@@ -39,8 +39,8 @@ unfoldable pub storedIn : Facts → List ℕ → Mem
 storedIn f l = mem (take (f .size) (drop 7 l)) (drop (7 + f .size) l)
 
 -- the mark and the version
-unfoldable pub markRightOf : List ℕ → Bool
-markRightOf l =
+unfoldable pub imageMarkRightOf : List ℕ → Bool
+imageMarkRightOf l =
     cond (eqb (getD l 0 0) 0x45)
     (cond (eqb (getD l 1 0) 0x50)
     (cond (eqb (getD l 2 0) 0x52)
@@ -57,4 +57,4 @@ lockByteRightOf f b = cond (eqb b 0) true (cond (eqb b 1) (f .ident) false)
 
 -- refusal 12: "image length, mark, version or lock byte wrong for its part"
 unfoldable pub formedOf : Facts → List ℕ → Bool
-formedOf f l = cond (eqb (length l) (imageLengthOf f)) (cond (markRightOf l) (lockByteRightOf f (getD l 6 0)) false) false
+formedOf f l = cond (eqb (length l) (imageLengthOf f)) (cond (imageMarkRightOf l) (lockByteRightOf f (getD l 6 0)) false) false

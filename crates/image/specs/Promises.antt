@@ -28,7 +28,7 @@ Loading = List ℕ → ℕ → Mem → AfterLoad
 -- ---- the form of the document
 
 -- buffers of a part's lengths
-pub record Fits (part : ℕ) (m : Mem) : Type 0 where
+pub record BuffersFit (part : ℕ) (m : Mem) : Type 0 where
   pub cells : length (m .cells) ≡ factsOf part .size
   pub ident : length (m .ident) ≡ idSizeOf (factsOf part)
 
@@ -38,7 +38,7 @@ pub record Form (l : List ℕ) : Type 0 where
   pub lock : Bool
   pub stored : Mem
   pub known : factsOf part .known ≡ true
-  pub fits : Fits part stored
+  pub fits : BuffersFit part stored
   pub lockable : lock ≡ true → factsOf part .ident ≡ true
   pub bytes : l ≡ imageOf part lock stored
 
@@ -51,8 +51,8 @@ GivesBack save load =
     → factsOf part .known ≡ true
     → enableRightOf (factsOf part) enable ≡ true
     → inRangeOf (factsOf part) c ≡ true
-    → Fits part m
-    → Fits part old
+    → BuffersFit part m
+    → BuffersFit part old
     → imageLengthOf (factsOf part) ≤ length out
     → (save part c m out .answer .verdict ≡ Fine)
     × (load (take (save part c m out .answer .length) (save part c m out .out)) enable old ≡ record { answer = record { verdict = Fine; part = part; chip = standbyOf (factsOf part) (c .line .core .locked) }; stored = m })
@@ -72,7 +72,7 @@ AcceptsOnly load = (l : List ℕ) (enable : ℕ) (old : Mem) → load l enable o
 -- and all that has it is, with an enable and buffers right for its part byte
 abbrev pub AcceptsAll : Loading → Type 0
 AcceptsAll load =
-    (l : List ℕ) (enable : ℕ) (old : Mem) → Form l → enableRightOf (factsOf (partIn l)) enable ≡ true → Fits (partIn l) old → load l enable old .answer .verdict ≡ Fine
+    (l : List ℕ) (enable : ℕ) (old : Mem) → Form l → enableRightOf (factsOf (partIn l)) enable ≡ true → BuffersFit (partIn l) old → load l enable old .answer .verdict ≡ Fine
 
 -- "without latches": of the chip only the lock is saved, whatever transfer or cycle it is in
 abbrev pub SavesLockOnly : Saving → Type 0

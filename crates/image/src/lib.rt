@@ -5,7 +5,7 @@ ghost use lib.ListN.{length, drop};
 ghost use mathlib.Core.List.{_++_};
 ghost use Rattle.parts.specs.Table.{factsOf};
 ghost use Rattle.chip.specs.Memory.{mem};
-ghost use Rattle.image.specs.Layout.{headOf, imageOf, imageLengthOf, putOf, partIn, lockIn, storedIn, markRightOf, lockByteRightOf, formedOf};
+ghost use Rattle.image.specs.Layout.{imageHeadOf, imageOf, imageLengthOf, putOf, partIn, lockIn, storedIn, imageMarkRightOf, lockByteRightOf, formedOf};
 ghost use Rattle.image.specs.Calls.{saveVerdictOf, judgedOf, loadVerdictOf, saving, loading};
 use parts::Refusal;
 use parts::Verdict;
@@ -48,7 +48,7 @@ fn image_length(part: u8) -> usize
 // ---- saving
 
 fn head(part: u8, lock: bool) -> [u8; 7]
-    ensures { λ r. ⌜ r ≡ headOf part lock ⌝ }
+    ensures { λ r. ⌜ r ≡ imageHeadOf part lock ⌝ }
 {
     let flag = parts::flag(lock);
     [0x45, 0x50, 0x52, 0x00, 0x01, part, flag]
@@ -68,7 +68,9 @@ fn save_verdict(part: u8, chip: Chip, n: usize, d: usize, room: usize) -> Verdic
 
 fn write(part: u8, lock: bool, array: &[u8], id: &[u8], out: &mut [u8])
     requires { ⌜ 7 + length (now array) + length (now id) ≤ length (now out) ⌝ }
-    ensures { λ _. ⌜ now (out .exit) ≡ imageOf part lock (mem (now (array .entry)) (now (id .entry))) ++ drop (7 + length (now (array .entry)) + length (now (id .entry))) (now (out .entry)) ⌝ }
+    ensures { λ _. ⌜ now (out .exit)
+        ≡ imageOf part lock (mem (now (array .entry)) (now (id .entry))) ++ drop (7 + length (now (array .entry)) + length (now (id .entry)))
+        (now (out .entry)) ⌝ }
 {
     let first = head(part, lock);
     let n = array.len();
@@ -118,7 +120,7 @@ fn lock_in(image: &[u8]) -> bool
 
 // The mark `EPR` and the version 0001h.
 fn mark_right(image: &[u8]) -> bool
-    ensures { λ r. ⌜ r ≡ markRightOf (now (image .entry)) ⌝ }
+    ensures { λ r. ⌜ r ≡ imageMarkRightOf (now (image .entry)) ⌝ }
 {
     if parts::byte_at(image, 0) != 0x45 {
         return false;

@@ -26,11 +26,11 @@ use Rattle.line.specs.declared.Line.{Line}
 use Rattle.line.specs.declared.Act.{Act}
 use Rattle.line.specs.declared.Act.the-variants.{Keep, Drop, Put}
 use Rattle.line.specs.declared.After.{After}
-use Rattle.line.specs.declared.Heard.{Heard}
-use Rattle.line.specs.declared.Heard.the-variants.{Miss, Hit}
-use Rattle.line.specs.declared.Asked.{Asked}
-use Rattle.line.specs.declared.Asked.the-variants.{NoCycle, For}
-use Rattle.line.specs.declared.Move.{Move}
+use Rattle.line.specs.declared.Selected.{Selected}
+use Rattle.line.specs.declared.Selected.the-variants.{Miss, Hit}
+use Rattle.line.specs.declared.CycleAsked.{CycleAsked}
+use Rattle.line.specs.declared.CycleAsked.the-variants.{NoCycle, For}
+use Rattle.line.specs.declared.LineMove.{LineMove}
 
 -- ---- small changes
 
@@ -73,23 +73,23 @@ onwardOf f c = (beforeOf (f .page) c + 1) % f .size
 unfoldable pub enabledOf : Facts → ℕ → ℕ → Bool
 enabledOf f enable b = cond (f .wide) (eqb (b / 2 % 8) enable) true
 
-unfoldable pub namedOf : Facts → ℕ → Heard
+unfoldable pub namedOf : Facts → ℕ → Selected
 namedOf f b =
     cond (eqb (b / 16) 10) (Hit Array (eqb (b % 2) 1)) (cond (eqb (b / 16) 11) (cond (f .ident) (Hit Ident (eqb (b % 2) 1)) Miss) Miss)
 
-unfoldable pub decodeOf : Facts → ℕ → ℕ → Heard
+unfoldable pub decodeOf : Facts → ℕ → ℕ → Selected
 decodeOf f enable b = cond (enabledOf f enable b) (namedOf f b) Miss
 
 -- what the address starts with: A10..A8 of an array write on a part with one address byte
-unfoldable pub firstOf : Facts → Target → ℕ → Recv
-firstOf f Array b = cond (f .wide) (AddressHigh Array) (AddressLow Array (b / 2 % 8))
-firstOf f Ident b = cond (f .wide) (AddressHigh Ident) (AddressLow Ident 0)
+unfoldable pub addressStartOf : Facts → Target → ℕ → Recv
+addressStartOf f Array b = cond (f .wide) (AddressHigh Array) (AddressLow Array (b / 2 % 8))
+addressStartOf f Ident b = cond (f .wide) (AddressHigh Ident) (AddressLow Ident 0)
 
 -- a match is acknowledged; otherwise the chip releases until the next Start
-unfoldable pub selectedOf : Facts → Core → ℕ → Heard → After
+unfoldable pub selectedOf : Facts → Core → ℕ → Selected → After
 selectedOf f c b Miss = goes c Idle Keep
 selectedOf f c b (Hit t true) = goes c (Send t) Keep
-selectedOf f c b (Hit t false) = goes c (Receive (firstOf f t b)) Keep
+selectedOf f c b (Hit t false) = goes c (Receive (addressStartOf f t b)) Keep
 
 -- ---- rule 2: address
 
@@ -228,7 +228,7 @@ startActOf (Busy y) = Keep
 -- ---- rule 6: Stop
 
 -- the cycle that a Stop directly after this byte's acknowledge begins
-unfoldable pub asksOf : Recv → Asked
+unfoldable pub asksOf : Recv → CycleAsked
 asksOf Select = NoCycle
 asksOf (AddressHigh t) = NoCycle
 asksOf (AddressLow t high) = NoCycle
@@ -242,19 +242,19 @@ asksOf (LockTaken false) = NoCycle
 unfoldable pub placedOf : Line → Bool
 placedOf l = eqb (l .left) 8 && not (l .core .inhibited)
 
-abbrev pub dueOf : Bool → Asked → Asked
+abbrev pub dueOf : Bool → CycleAsked → CycleAsked
 dueOf true a = a
 dueOf false a = NoCycle
 
-abbrev pub stoppedBy : Core → Asked → Line
+abbrev pub stoppedBy : Core → CycleAsked → Line
 stoppedBy c NoCycle = at c Idle
 stoppedBy c (For y) = at c (Busy y)
 
-abbrev pub stopActBy : Asked → Act
+abbrev pub stopActBy : CycleAsked → Act
 stopActBy NoCycle = Drop
 stopActBy (For y) = Keep
 
-abbrev pub begunBy : Asked → ℕ
+abbrev pub begunBy : CycleAsked → ℕ
 begunBy NoCycle = 0
 begunBy (For y) = 1
 
@@ -366,11 +366,11 @@ begunOf l Reset = 0
 begunOf l Unknown = 0
 
 -- no level, no cycle
-abbrev pub quietly : Line → Act → Move
+abbrev pub quietly : Line → Act → LineMove
 quietly l a = record { line = l; act = a; level = 2; cycles = 0 }
 
 -- the four together
-unfoldable pub moveOf : Facts → ℕ → Line → ℕ → Event → Move
+unfoldable pub moveOf : Facts → ℕ → Line → ℕ → Event → LineMove
 moveOf f enable l b e =
     record { line = nextOf f enable l e; act = actOf f enable l e; level = levelOf f enable l b e; cycles = begunOf l e }
 

@@ -2,7 +2,7 @@
 ghost use mathlib.Core.Path.{_≡_};
 ghost use Prim.Native.Nat.{_+_, _*_, _<_};
 ghost use Rattle.parts.specs.Table.{factsOf};
-ghost use Rattle.line.specs.Rules.{isHigh, at, givenUp, rollOf, beforeOf, onwardOf, enabledOf, namedOf, decodeOf, firstOf, selectedOf, arrayAddressOf, locationOf, asksLockOf, loadArrayOf, loadIdOf, loadedOf, refusesOf, latchedOf, takenOf, filledOf, lockedByOf, endedByOf, markedIn, receivedOf, receiveActOf, receiveLevelOf, releasedIn, movedOf, sentOf, sendLevelOf, clockedOf, clockActOf, clockLevelOf, startedOf, startActOf, asksOf, placedOf, dueOf, stoppedOf, stopActOf, stopBegunOf, endedOf, endActOf, pinnedOf, resetOf, opened, marked, quietly, moveOf};
+ghost use Rattle.line.specs.Rules.{isHigh, at, givenUp, rollOf, beforeOf, onwardOf, enabledOf, namedOf, decodeOf, addressStartOf, selectedOf, arrayAddressOf, locationOf, asksLockOf, loadArrayOf, loadIdOf, loadedOf, refusesOf, latchedOf, takenOf, filledOf, lockedByOf, endedByOf, markedIn, receivedOf, receiveActOf, receiveLevelOf, releasedIn, movedOf, sentOf, sendLevelOf, clockedOf, clockActOf, clockLevelOf, startedOf, startActOf, asksOf, placedOf, dueOf, stoppedOf, stopActOf, stopBegunOf, endedOf, endActOf, pinnedOf, resetOf, opened, marked, quietly, moveOf};
 use parts::ArrayAddress;
 use parts::Event;
 use parts::IdLocation;
@@ -77,17 +77,17 @@ pub struct After {
 }
 
 // What a select byte names, and whether it asks for a read.
-pub enum Heard {
+pub enum Selected {
     Miss,
     Hit(Target, bool),
 }
 
-pub enum Asked {
+pub enum CycleAsked {
     NoCycle,
     For(Cycle),
 }
 
-pub struct Move {
+pub struct LineMove {
     pub line: Line,
     pub act: Act,
     // 0 pulls low, 1 releases, 2 no level.
@@ -149,30 +149,30 @@ fn onward(part: u8, counter: u16) -> u16
 
 // ---- rule 1
 
-fn named(part: u8, byte: u8) -> Heard
+fn named(part: u8, byte: u8) -> Selected
     ensures { λ r. ⌜ r ≡ namedOf (factsOf part) byte ⌝ }
 {
     let f = parts::facts_of(part);
     if byte / 16 == 10 {
-        return Heard::Hit(Target::Array, byte % 2 == 1);
+        return Selected::Hit(Target::Array, byte % 2 == 1);
     }
     if byte / 16 == 11 {
         if f.ident {
-            return Heard::Hit(Target::Ident, byte % 2 == 1);
+            return Selected::Hit(Target::Ident, byte % 2 == 1);
         }
-        return Heard::Miss;
+        return Selected::Miss;
     }
-    Heard::Miss
+    Selected::Miss
 }
 
-fn decode(part: u8, enable: u8, byte: u8) -> Heard
+fn decode(part: u8, enable: u8, byte: u8) -> Selected
     ensures { λ r. ⌜ r ≡ decodeOf (factsOf part) enable byte ⌝ }
 {
     let on = enabled(part, enable, byte);
     if on {
         return named(part, byte);
     }
-    Heard::Miss
+    Selected::Miss
 }
 
 fn enabled(part: u8, enable: u8, byte: u8) -> bool
@@ -186,7 +186,7 @@ fn enabled(part: u8, enable: u8, byte: u8) -> bool
 }
 
 fn first(part: u8, target: Target, byte: u8) -> Recv
-    ensures { λ r. ⌜ r ≡ firstOf (factsOf part) target byte ⌝ }
+    ensures { λ r. ⌜ r ≡ addressStartOf (factsOf part) target byte ⌝ }
 {
     let f = parts::facts_of(part);
     match target {
@@ -205,16 +205,16 @@ fn first(part: u8, target: Target, byte: u8) -> Recv
     }
 }
 
-fn select(part: u8, core: Core, byte: u8, heard: Heard) -> After
+fn select(part: u8, core: Core, byte: u8, heard: Selected) -> After
     ensures { λ r. ⌜ r ≡ selectedOf (factsOf part) core byte heard ⌝ }
 {
     match heard {
-        Heard::Miss => After {
+        Selected::Miss => After {
             core: core,
             phase: Phase::Idle,
             act: Act::Keep,
         },
-        Heard::Hit(t, read) => {
+        Selected::Hit(t, read) => {
             if read {
                 return After {
                     core: core,
@@ -418,8 +418,15 @@ fn released(phase: Phase) -> u8
     }
 }
 
-fn receive(part: u8, enable: u8, line: Line, recv: Recv, value: bool) -> Move
-    ensures { λ r. ⌜ r ≡ record { line = receivedOf (factsOf part) enable line value recv (line .left); act = receiveActOf (factsOf part) enable line recv (line .left); level = receiveLevelOf (factsOf part) enable line recv (line .left); cycles = 0 } ⌝ }
+fn receive(part: u8, enable: u8, line: Line, recv: Recv, value: bool) -> LineMove
+    ensures { λ r. ⌜ r
+        ≡ record {
+          line = receivedOf (factsOf part) enable line value recv (line .left);
+          act = receiveActOf (factsOf part) enable line recv
+              (line .left);
+          level = receiveLevelOf (factsOf part) enable line recv (line .left);
+          cycles = 0;
+        } ⌝ }
 {
     let left = line.left;
     let core = line.core;
@@ -431,7 +438,7 @@ fn receive(part: u8, enable: u8, line: Line, recv: Recv, value: bool) -> Move
         let act = a.act;
         let level = released(phase);
         let next = at_phase(kept, phase);
-        return Move {
+        return LineMove {
             line: next,
             act: act,
             level: level,
@@ -439,7 +446,7 @@ fn receive(part: u8, enable: u8, line: Line, recv: Recv, value: bool) -> Move
         };
     }
     let bit = parts::flag(value);
-    Move {
+    LineMove {
         line: Line {
             core: core,
             phase: Phase::Receive(recv),
@@ -492,8 +499,9 @@ fn bit_at(byte: u8, left: u8) -> u8
 }
 
 // A clock of a byte that is sent.
-pub fn send(part: u8, line: Line, target: Target, byte: u8, value: bool) -> Move
-    ensures { λ r. ⌜ r ≡ record { line = sentOf (factsOf part) line value target (line .left); act = Act.Keep; level = sendLevelOf byte (line .left); cycles = 0 } ⌝ }
+pub fn send(part: u8, line: Line, target: Target, byte: u8, value: bool) -> LineMove
+    ensures { λ r. ⌜ r
+        ≡ record { line = sentOf (factsOf part) line value target (line .left); act = Act.Keep; level = sendLevelOf byte (line .left); cycles = 0 } ⌝ }
 {
     let left = line.left;
     let core = line.core;
@@ -502,7 +510,7 @@ pub fn send(part: u8, line: Line, target: Target, byte: u8, value: bool) -> Move
     if left == 0 {
         if value {
             let gone = at_phase(core, Phase::Idle);
-            return Move {
+            return LineMove {
                 line: gone,
                 act: Act::Keep,
                 level: level,
@@ -510,7 +518,7 @@ pub fn send(part: u8, line: Line, target: Target, byte: u8, value: bool) -> Move
             };
         }
         let on = at_phase(core, Phase::Send(target));
-        return Move {
+        return LineMove {
             line: on,
             act: Act::Keep,
             level: level,
@@ -518,7 +526,7 @@ pub fn send(part: u8, line: Line, target: Target, byte: u8, value: bool) -> Move
         };
     }
     let kept = count_on(part, core, target, left - 1);
-    Move {
+    LineMove {
         line: Line {
             core: kept,
             phase: Phase::Send(target),
@@ -531,10 +539,10 @@ pub fn send(part: u8, line: Line, target: Target, byte: u8, value: bool) -> Move
     }
 }
 
-fn release(line: Line) -> Move
+fn release(line: Line) -> LineMove
     ensures { λ r. ⌜ r ≡ record { line = line; act = Act.Keep; level = 1; cycles = 0 } ⌝ }
 {
-    Move {
+    LineMove {
         line: line,
         act: Act::Keep,
         level: 1,
@@ -542,8 +550,15 @@ fn release(line: Line) -> Move
     }
 }
 
-fn clock(part: u8, enable: u8, line: Line, byte: u8, value: bool) -> Move
-    ensures { λ r. ⌜ r ≡ record { line = clockedOf (factsOf part) enable line value (line .phase); act = clockActOf (factsOf part) enable line (line .phase); level = clockLevelOf (factsOf part) enable line byte (line .phase); cycles = 0 } ⌝ }
+fn clock(part: u8, enable: u8, line: Line, byte: u8, value: bool) -> LineMove
+    ensures { λ r. ⌜ r
+        ≡ record {
+          line = clockedOf (factsOf part) enable line value (line .phase);
+          act = clockActOf (factsOf part) enable line
+              (line .phase);
+          level = clockLevelOf (factsOf part) enable line byte (line .phase);
+          cycles = 0;
+        } ⌝ }
 {
     let phase = line.phase;
     match phase {
@@ -556,10 +571,10 @@ fn clock(part: u8, enable: u8, line: Line, byte: u8, value: bool) -> Move
 
 // ---- the other events
 
-fn quiet(line: Line, act: Act) -> Move
+fn quiet(line: Line, act: Act) -> LineMove
     ensures { λ r. ⌜ r ≡ quietly line act ⌝ }
 {
-    Move {
+    LineMove {
         line: line,
         act: act,
         level: 2,
@@ -567,7 +582,7 @@ fn quiet(line: Line, act: Act) -> Move
     }
 }
 
-fn open(core: Core) -> Move
+fn open(core: Core) -> LineMove
     ensures { λ r. ⌜ r ≡ quietly (opened core) Act.Drop ⌝ }
 {
     let pin = core.pin;
@@ -580,7 +595,7 @@ fn open(core: Core) -> Move
     quiet(line, Act::Drop)
 }
 
-fn start(line: Line) -> Move
+fn start(line: Line) -> LineMove
     ensures { λ r. ⌜ r ≡ quietly (startedOf line (line .phase)) (startActOf (line .phase)) ⌝ }
 {
     let phase = line.phase;
@@ -593,25 +608,25 @@ fn start(line: Line) -> Move
     }
 }
 
-fn asks(recv: Recv) -> Asked
+fn asks(recv: Recv) -> CycleAsked
     ensures { λ r. ⌜ r ≡ asksOf recv ⌝ }
 {
     match recv {
-        Recv::Select => Asked::NoCycle,
-        Recv::AddressHigh(_) => Asked::NoCycle,
-        Recv::AddressLow(_, _) => Asked::NoCycle,
+        Recv::Select => CycleAsked::NoCycle,
+        Recv::AddressHigh(_) => CycleAsked::NoCycle,
+        Recv::AddressLow(_, _) => CycleAsked::NoCycle,
         Recv::Fill(t, acked) => {
             if acked {
-                return Asked::For(Cycle::Writing(t));
+                return CycleAsked::For(Cycle::Writing(t));
             }
-            Asked::NoCycle
+            CycleAsked::NoCycle
         }
-        Recv::LockByte => Asked::NoCycle,
+        Recv::LockByte => CycleAsked::NoCycle,
         Recv::LockTaken(on) => {
             if on {
-                return Asked::For(Cycle::Locking);
+                return CycleAsked::For(Cycle::Locking);
             }
-            Asked::NoCycle
+            CycleAsked::NoCycle
         }
     }
 }
@@ -627,29 +642,36 @@ fn placed(line: Line) -> bool
 }
 
 // The cycle that a Stop begins while a byte is received.
-fn due(line: Line, recv: Recv) -> Asked
+fn due(line: Line, recv: Recv) -> CycleAsked
     ensures { λ r. ⌜ r ≡ dueOf (placedOf line) (asksOf recv) ⌝ }
 {
     let well = placed(line);
     if well {
         return asks(recv);
     }
-    Asked::NoCycle
+    CycleAsked::NoCycle
 }
 
-fn stop_receiving(line: Line, recv: Recv) -> Move
-    ensures { λ r. ⌜ r ≡ record { line = stoppedOf line (Phase.Receive recv); act = stopActOf line (Phase.Receive recv); level = 2; cycles = stopBegunOf line (Phase.Receive recv) } ⌝ }
+fn stop_receiving(line: Line, recv: Recv) -> LineMove
+    ensures { λ r. ⌜ r
+        ≡ record {
+          line = stoppedOf line (Phase.Receive recv);
+          act = stopActOf line (Phase.Receive recv);
+          level = 2;
+          cycles = stopBegunOf line
+              (Phase.Receive recv);
+        } ⌝ }
 {
     let core = line.core;
     let asked = due(line, recv);
     match asked {
-        Asked::NoCycle => {
+        CycleAsked::NoCycle => {
             let next = at_phase(core, Phase::Idle);
             quiet(next, Act::Drop)
         }
-        Asked::For(cycle) => {
+        CycleAsked::For(cycle) => {
             let next = at_phase(core, Phase::Busy(cycle));
-            Move {
+            LineMove {
                 line: next,
                 act: Act::Keep,
                 level: 2,
@@ -659,15 +681,16 @@ fn stop_receiving(line: Line, recv: Recv) -> Move
     }
 }
 
-fn rest(core: Core) -> Move
+fn rest(core: Core) -> LineMove
     ensures { λ r. ⌜ r ≡ quietly (at core Phase.Idle) Act.Drop ⌝ }
 {
     let next = at_phase(core, Phase::Idle);
     quiet(next, Act::Drop)
 }
 
-fn stop(line: Line) -> Move
-    ensures { λ r. ⌜ r ≡ record { line = stoppedOf line (line .phase); act = stopActOf line (line .phase); level = 2; cycles = stopBegunOf line (line .phase) } ⌝ }
+fn stop(line: Line) -> LineMove
+    ensures { λ r. ⌜ r
+        ≡ record { line = stoppedOf line (line .phase); act = stopActOf line (line .phase); level = 2; cycles = stopBegunOf line (line .phase) } ⌝ }
 {
     let phase = line.phase;
     let core = line.core;
@@ -679,7 +702,7 @@ fn stop(line: Line) -> Move
     }
 }
 
-fn end_writing(part: u8, core: Core, target: Target) -> Move
+fn end_writing(part: u8, core: Core, target: Target) -> LineMove
     ensures { λ r. ⌜ r ≡ quietly (endedByOf (factsOf part) core (Cycle.Writing target)) Act.Drop ⌝ }
 {
     match target {
@@ -692,7 +715,7 @@ fn end_writing(part: u8, core: Core, target: Target) -> Move
     }
 }
 
-fn end_cycle(part: u8, core: Core, cycle: Cycle) -> Move
+fn end_cycle(part: u8, core: Core, cycle: Cycle) -> LineMove
     ensures { λ r. ⌜ r ≡ quietly (endedByOf (factsOf part) core cycle) Act.Drop ⌝ }
 {
     match cycle {
@@ -704,7 +727,7 @@ fn end_cycle(part: u8, core: Core, cycle: Cycle) -> Move
     }
 }
 
-fn end(part: u8, line: Line) -> Move
+fn end(part: u8, line: Line) -> LineMove
     ensures { λ r. ⌜ r ≡ quietly (endedOf (factsOf part) line (line .phase)) (endActOf (line .phase)) ⌝ }
 {
     let phase = line.phase;
@@ -766,7 +789,7 @@ fn reset(core: Core) -> Line
 }
 
 // One event; `byte` is the byte at the counter.
-pub fn advance(part: u8, enable: u8, line: Line, byte: u8, event: Event) -> Move
+pub fn advance(part: u8, enable: u8, line: Line, byte: u8, event: Event) -> LineMove
     ensures { λ r. ⌜ r ≡ moveOf (factsOf part) enable line byte event ⌝ }
 {
     match event {

@@ -1,4 +1,4 @@
--- `packedOf` and `unpackedOf` keep what is promised of them: each is the other's inverse.
+-- `packedChipOf` and `unpackedChipOf` keep what is promised of them: each is the other's inverse.
 -- Assumes nothing.
 use Prim.Native.Nat.{ℕ, zero, suc, _-_, _/_, _%_, _≤_, _<_}
 use mathlib.Core.Path.{_≡_, _∙_, refl}
@@ -25,8 +25,8 @@ use Rattle.line.specs.declared.Phase.{Phase}
 use Rattle.line.specs.declared.Phase.the-variants.{Idle, Receive, Send, Busy}
 use Rattle.state.specs.declared.Chip.{Chip}
 use Rattle.state.specs.Range.{inRangeOf}
-use Rattle.pack_chip.specs.Layout.{pinCodeOf, phaseCodeOf, phaseHighOf, packedLength, pairsOf, headOf, packedOf, pinIn, recvIn, phaseIn, joinedOf, rowOf, lineIn, phaseRightOf, codesRightOf, holdsOf, noChip, unpackedOf}
-use Rattle.pack_chip.specs.Promises.{Fits, PacksBack, UnpacksBack, RefusesOthers}
+use Rattle.pack_chip.specs.Layout.{pinCodeOf, chipPhaseCodeOf, phaseHighOf, chipLength, pairsOf, chipHeadOf, packedChipOf, pinIn, recvIn, chipPhaseIn, pairJoinedOf, pairsIn, lineIn, chipPhaseCodeRightOf, chipCodesRightOf, holdsChipOf, noChip, unpackedChipOf}
+use Rattle.pack_chip.specs.Promises.{ChipFits, ChipPacksBack, ChipUnpacksBack, ChipRefusesOthers}
 use Rattle.pack_chip.proofs.Laws.{pairs-length, row-length, holds-long}
 
 -- ---- the codes: from a state and back
@@ -46,11 +46,11 @@ pin-right Floating = refl
 
 -- both at once, for every phase
 record Coded (p : Phase) : Type 0 where
-  back : phaseIn (phaseCodeOf p) (phaseHighOf p) ≡ p
-  right : phaseRightOf (phaseCodeOf p) (phaseHighOf p) ≡ true
+  back : chipPhaseIn (chipPhaseCodeOf p) (phaseHighOf p) ≡ p
+  right : chipPhaseCodeRightOf (chipPhaseCodeOf p) (phaseHighOf p) ≡ true
 
 recv-coded : (r : Recv) → Coded (Receive r)
-unfolding phaseIn recvIn phaseRightOf
+unfolding chipPhaseIn recvIn chipPhaseCodeRightOf
 recv-coded Select = record { back = refl; right = refl }
 recv-coded (AddressHigh Array) = record { back = refl; right = refl }
 recv-coded (AddressHigh Ident) = record { back = refl; right = refl }
@@ -65,7 +65,7 @@ recv-coded (LockTaken true) = record { back = refl; right = refl }
 recv-coded (LockTaken false) = record { back = refl; right = refl }
 
 coded : (p : Phase) → Coded p
-unfolding phaseIn phaseRightOf
+unfolding chipPhaseIn chipPhaseCodeRightOf
 coded Idle = record { back = refl; right = refl }
 coded (Receive r) = recv-coded r
 coded (Send Array) = record { back = refl; right = refl }
@@ -94,20 +94,20 @@ pin-again : (n : ℕ) → n < 4 → pinCodeOf (pinIn n) ≡ n
 unfolding pinIn
 pin-again n h = eqb-true _ _ (at-each (λ k. eqb (pinCodeOf (pinIn k)) k) 4 refl n h)
 
-code-again : (n high : ℕ) → n < 18 → phaseCodeOf (phaseIn n high) ≡ n
-unfolding phaseIn recvIn
-code-again n high h = eqb-true _ _ (at-each (λ k. eqb (phaseCodeOf (phaseIn k high)) k) 18 refl n h)
+code-again : (n high : ℕ) → n < 18 → chipPhaseCodeOf (chipPhaseIn n high) ≡ n
+unfolding chipPhaseIn recvIn
+code-again n high h = eqb-true _ _ (at-each (λ k. eqb (chipPhaseCodeOf (chipPhaseIn k high)) k) 18 refl n h)
 
-none-high : (n : ℕ) → n < 18 → phaseHighOf (phaseIn n 0) ≡ 0
-unfolding phaseIn recvIn
-none-high n h = eqb-true _ _ (at-each (λ k. eqb (phaseHighOf (phaseIn k 0)) 0) 18 refl n h)
+none-high : (n : ℕ) → n < 18 → phaseHighOf (chipPhaseIn n 0) ≡ 0
+unfolding chipPhaseIn recvIn
+none-high n h = eqb-true _ _ (at-each (λ k. eqb (phaseHighOf (chipPhaseIn k 0)) 0) 18 refl n h)
 
-high-again : (n high : ℕ) → n < 18 → cond (eqb n 4) true (cond (eqb n 5) true (eqb high 0)) ≡ true → phaseHighOf (phaseIn n high) ≡ high
-unfolding phaseIn recvIn
+high-again : (n high : ℕ) → n < 18 → cond (eqb n 4) true (cond (eqb n 5) true (eqb high 0)) ≡ true → phaseHighOf (chipPhaseIn n high) ≡ high
+unfolding chipPhaseIn recvIn
 high-again n high h =
-    branch (λ (b : Bool). b ≡ true → phaseHighOf (phaseIn n high) ≡ high) (eqb n 4)
+    branch (λ (b : Bool). b ≡ true → phaseHighOf (chipPhaseIn n high) ≡ high) (eqb n 4)
     (λ e _. rw (eqb-true n 4 e) refl)
-    (λ _. branch (λ (b : Bool). b ≡ true → phaseHighOf (phaseIn n high) ≡ high) (eqb n 5)
+    (λ _. branch (λ (b : Bool). b ≡ true → phaseHighOf (chipPhaseIn n high) ≡ high) (eqb n 5)
     (λ e _. rw (eqb-true n 5 e) refl)
     (λ _ z. rw (eqb-true high 0 z) (none-high n h)))
 
@@ -118,30 +118,30 @@ record Right (pin inhibited locked code high : ℕ) : Type 0 where
   code-low : code < 18
   high-kept : cond (eqb code 4) true (cond (eqb code 5) true (eqb high 0)) ≡ true
 
-right : (pin inhibited locked code high : ℕ) → codesRightOf pin inhibited locked code high ≡ true → Right pin inhibited locked code high
-unfolding codesRightOf phaseRightOf
+right : (pin inhibited locked code high : ℕ) → chipCodesRightOf pin inhibited locked code high ≡ true → Right pin inhibited locked code high
+unfolding chipCodesRightOf chipPhaseCodeRightOf
 right pin inhibited locked code high h =
-    let a = both (ltb pin 4) (cond (ltb inhibited 2) (cond (ltb locked 2) (phaseRightOf code high) false) false) h in
-    let b = both (ltb inhibited 2) (cond (ltb locked 2) (phaseRightOf code high) false) (a .1) in
-    let c = both (ltb locked 2) (phaseRightOf code high) (b .1) in
+    let a = both (ltb pin 4) (cond (ltb inhibited 2) (cond (ltb locked 2) (chipPhaseCodeRightOf code high) false) false) h in
+    let b = both (ltb inhibited 2) (cond (ltb locked 2) (chipPhaseCodeRightOf code high) false) (a .1) in
+    let c = both (ltb locked 2) (chipPhaseCodeRightOf code high) (b .1) in
     let d = both (ltb code 18) (cond (eqb code 4) true (cond (eqb code 5) true (eqb high 0))) (c .1) in
     record { pin-low = ltb-true pin 4 (a .0); inhibited-low = ltb-true inhibited 2 (b .0); locked-low = ltb-true locked 2 (c .0); code-low = ltb-true code 18 (d .0); high-kept = d .1 }
 
 -- ---- rows of numbers
 
-row-of-pairs : (k : List ℕ) → rowOf (pairsOf k) ≡ k
+row-of-pairs : (k : List ℕ) → pairsIn (pairsOf k) ≡ k
 row-of-pairs [] = refl
-row-of-pairs (x ∷ k) = let e : joinedOf (x / 256) (x % 256) ≡ x = omega arith in rw (e, row-of-pairs k)
+row-of-pairs (x ∷ k) = let e : pairJoinedOf (x / 256) (x % 256) ≡ x = omega arith in rw (e, row-of-pairs k)
 
-pairs-of-row : (l : List ℕ) → AllBelow 256 l → length l % 2 ≡ 0 → pairsOf (rowOf l) ≡ l
+pairs-of-row : (l : List ℕ) → AllBelow 256 l → length l % 2 ≡ 0 → pairsOf (pairsIn l) ≡ l
 pairs-of-row [] b h = refl
 pairs-of-row (x ∷ []) b h = absurd (omega arith)
 pairs-of-row (x ∷ y ∷ l) b h =
-    let e : joinedOf x y / 256 ≡ x = omega (arith, b .1 .0) in
-    let d : joinedOf x y % 256 ≡ y = omega (arith, b .1 .0) in
+    let e : pairJoinedOf x y / 256 ≡ x = omega (arith, b .1 .0) in
+    let d : pairJoinedOf x y % 256 ≡ y = omega (arith, b .1 .0) in
     rw (e, d, pairs-of-row l (b .1 .1) (omega arith))
 
-row-fits : (l : List ℕ) → AllBelow 256 l → AllBelow 65536 (rowOf l)
+row-fits : (l : List ℕ) → AllBelow 256 l → AllBelow 65536 (pairsIn l)
 row-fits [] b = tt
 row-fits (x ∷ []) b = tt
 row-fits (x ∷ y ∷ l) b = (omega (arith, b .0, b .1 .0), row-fits l (b .1 .1))
@@ -162,24 +162,24 @@ nine l h =
 
 -- ---- the promises
 
-code-low : (n high : ℕ) → phaseRightOf n high ≡ true → n < 18
-unfolding phaseRightOf
+code-low : (n high : ℕ) → chipPhaseCodeRightOf n high ≡ true → n < 18
+unfolding chipPhaseCodeRightOf
 code-low n high h = ltb-true n 18 (both (ltb n 18) (cond (eqb n 4) true (cond (eqb n 5) true (eqb high 0))) h .0)
 
 pin-low : (p : Pin) → pinCodeOf p < 256
 pin-low p = let h = ltb-true (pinCodeOf p) 4 (pin-right p) in omega arith
 
-bytes : (c : Chip) → Fits c → AllBelow 256 (packedOf c)
-unfolding packedOf
+bytes : (c : Chip) → ChipFits c → AllBelow 256 (packedChipOf c)
+unfolding packedChipOf
 bytes c f =
-    let k = code-low (phaseCodeOf (c .line .phase)) (phaseHighOf (c .line .phase)) (coded (c .line .phase) .right) in
+    let k = code-low (chipPhaseCodeOf (c .line .phase)) (phaseHighOf (c .line .phase)) (coded (c .line .phase) .right) in
     (omega (arith, f .counter), (omega arith, (pin-low (c .line .core .pin), (omega (arith, flag-below (c .line .core .inhibited)), (omega (arith, flag-below (c .line .core .locked)), (omega (arith, k), (f .high, (f .left, (f .shift, pairs-fit (c .latch) (f .latch))))))))))
 
-holding : (c : Chip) → Fits c → holdsOf (packedOf c) ≡ true
-unfolding packedOf holdsOf codesRightOf
+holding : (c : Chip) → ChipFits c → holdsChipOf (packedChipOf c) ≡ true
+unfolding packedChipOf holdsChipOf chipCodesRightOf
 holding c f =
-    let n : length (packedOf c) ≡ 137 = length-append (headOf (c .line)) (pairsOf (c .latch)) ∙ rw (pairs-length, f .latches) refl in
-    rw (eq-eqb (length (packedOf c)) 137 n, pin-right (c .line .core .pin), lt-ltb _ 2 (flag-below (c .line .core .inhibited)), lt-ltb _ 2 (flag-below (c .line .core .locked)))
+    let n : length (packedChipOf c) ≡ 137 = length-append (chipHeadOf (c .line)) (pairsOf (c .latch)) ∙ rw (pairs-length, f .latches) refl in
+    rw (eq-eqb (length (packedChipOf c)) 137 n, pin-right (c .line .core .pin), lt-ltb _ 2 (flag-below (c .line .core .inhibited)), lt-ltb _ 2 (flag-below (c .line .core .locked)))
     (coded (c .line .phase) .right)
 
 same : (c : Chip) (n : ℕ) (p : Pin) (i l : Bool) (ph : Phase) (k : List ℕ)
@@ -187,13 +187,13 @@ same : (c : Chip) (n : ℕ) (p : Pin) (i l : Bool) (ph : Phase) (k : List ℕ)
     → _≡_ {A = Chip} (record { line = record { core = record { counter = n; pin = p; inhibited = i; locked = l }; phase = ph; left = c .line .left; shift = c .line .shift }; latch = k }) c
 same c n p i l ph k a b d e f g = rw (a, b, d, e, f, g) refl
 
-pub packs-back : PacksBack packedOf unpackedOf
-unfolding packedOf unpackedOf
-packs-back c f = (
+pub chip-packs-back : ChipPacksBack packedChipOf unpackedChipOf
+unfolding packedChipOf unpackedChipOf
+chip-packs-back c f = (
   bytes c f,
   holding c f,
   rw (holding c f)
-      (same c (joinedOf (c .line .core .counter / 256) (c .line .core .counter % 256)) (pinIn (pinCodeOf (c .line .core .pin))) (eqb (flagOf (c .line .core .inhibited)) 1) (eqb (flagOf (c .line .core .locked)) 1) (phaseIn (phaseCodeOf (c .line .phase)) (phaseHighOf (c .line .phase))) (rowOf (pairsOf (c .latch)))
+      (same c (pairJoinedOf (c .line .core .counter / 256) (c .line .core .counter % 256)) (pinIn (pinCodeOf (c .line .core .pin))) (eqb (flagOf (c .line .core .inhibited)) 1) (eqb (flagOf (c .line .core .locked)) 1) (chipPhaseIn (chipPhaseCodeOf (c .line .phase)) (phaseHighOf (c .line .phase))) (pairsIn (pairsOf (c .latch)))
       (omega arith)
       (pin-back (c .line .core .pin))
       (flag-back (c .line .core .inhibited))
@@ -202,17 +202,17 @@ packs-back c f = (
       (row-of-pairs (c .latch))),
 )
 
-module _ (l : List ℕ) (b : AllBelow 256 l) (h : holdsOf l ≡ true) where
+module _ (l : List ℕ) (b : AllBelow 256 l) (h : holdsChipOf l ≡ true) where
   codes : Right (getD l 2 0) (getD l 3 0) (getD l 4 0) (getD l 5 0) (getD l 6 0)
-  unfolding holdsOf
+  unfolding holdsChipOf
   codes =
       right (getD l 2 0) (getD l 3 0) (getD l 4 0) (getD l 5 0) (getD l 6 0)
-      (both (eqb (length l) packedLength) (codesRightOf (getD l 2 0) (getD l 3 0) (getD l 4 0) (getD l 5 0) (getD l 6 0)) h .1)
+      (both (eqb (length l) chipLength) (chipCodesRightOf (getD l 2 0) (getD l 3 0) (getD l 4 0) (getD l 5 0) (getD l 6 0)) h .1)
 
   rest-length : length (drop 9 l) ≡ 128
   rest-length = simp length-drop (omega (arith, holds-long l h))
 
-  fits : Fits (record { line = lineIn l; latch = rowOf (drop 9 l) })
+  fits : ChipFits (record { line = lineIn l; latch = pairsIn (drop 9 l) })
   fits =
       record {
         counter = omega (arith, below-at l b 0, below-at l b 1);
@@ -223,22 +223,22 @@ module _ (l : List ℕ) (b : AllBelow 256 l) (h : holdsOf l ≡ true) where
         latch = row-fits (drop 9 l) (all-drop 256 9 l b);
       }
 
-  again : packedOf (record { line = lineIn l; latch = rowOf (drop 9 l) }) ≡ l
-  unfolding packedOf
+  again : packedChipOf (record { line = lineIn l; latch = pairsIn (drop 9 l) }) ≡ l
+  unfolding packedChipOf
   again =
       let low = below-at l b 1 in
-      let first : joinedOf (getD l 0 0) (getD l 1 0) / 256 ≡ getD l 0 0 = omega arith in
-      let second : joinedOf (getD l 0 0) (getD l 1 0) % 256 ≡ getD l 1 0 = omega arith in
+      let first : pairJoinedOf (getD l 0 0) (getD l 1 0) / 256 ≡ getD l 0 0 = omega arith in
+      let second : pairJoinedOf (getD l 0 0) (getD l 1 0) % 256 ≡ getD l 1 0 = omega arith in
       let even : length (drop 9 l) % 2 ≡ 0 = rw rest-length refl in
       rw (first, second, pin-again (getD l 2 0) (codes .pin-low), flag-in (getD l 3 0) (codes .inhibited-low), flag-in (getD l 4 0) (codes .locked-low), code-again (getD l 5 0) (getD l 6 0) (codes .code-low), high-again (getD l 5 0) (getD l 6 0) (codes .code-low) (codes .high-kept), pairs-of-row (drop 9 l) (all-drop 256 9 l b) even)
       (nine l (holds-long l h))
 
-pub unpacks-back : UnpacksBack packedOf unpackedOf
-unfolding unpackedOf
-unpacks-back l b h = rw h (fits l b h, again l b h)
+pub chip-unpacks-back : ChipUnpacksBack packedChipOf unpackedChipOf
+unfolding unpackedChipOf
+chip-unpacks-back l b h = rw h (fits l b h, again l b h)
 
-pub refuses-others : RefusesOthers unpackedOf
-unfolding unpackedOf inRangeOf
-refuses-others l h part =
+pub chip-refuses-others : ChipRefusesOthers unpackedChipOf
+unfolding unpackedChipOf inRangeOf
+chip-refuses-others l h part =
     let most : factsOf part .size ≤ noChip .line .core .counter = omega (arith, sound part .sizeMost) in
     rw (h, le-ltb (noChip .line .core .counter) (factsOf part .size) most) refl

@@ -11,7 +11,7 @@ use lib.Seq.{sets, sets-eq, drop-cons}
 use lib.Dec.{eqb}
 use borrow.Author.Tests.{eq-eqb, eqb-true}
 use Rattle.state.specs.declared.Chip.{Chip}
-use Rattle.pack_chip.specs.Layout.{packedLength, pairsOf, headOf, packedOf, packInto, joinedOf, rowOf, codesRightOf, holdsOf}
+use Rattle.pack_chip.specs.Layout.{chipLength, pairsOf, chipHeadOf, packedChipOf, packChipInto, pairJoinedOf, pairsIn, chipCodesRightOf, holdsChipOf}
 use Rattle.parts.proofs.Tests.{both}
 use Rattle.parts.proofs.Bytes.{sets-whole}
 
@@ -31,43 +31,43 @@ pairs-length (x ∷ k) = let e = pairs-length k in omega (arith, e)
 -- ---- read
 
 pub row-step : (s k : List ℕ) (i at : ℕ) → at + 1 < length s
-    → sets (set k i (joinedOf (getD s at 0) (getD s (at + 1) 0))) (i + 1) (rowOf (drop (at + 2) s)) ≡ sets k i (rowOf (drop at s))
+    → sets (set k i (pairJoinedOf (getD s at 0) (getD s (at + 1) 0))) (i + 1) (pairsIn (drop (at + 2) s)) ≡ sets k i (pairsIn (drop at s))
 row-step s k i at h =
     let one : at < length s = omega arith in
     let two : suc at < length s = omega arith in
     rw (add-one, add-one, add-two, drop-cons s at 0 one, drop-cons s (suc at) 0 two)
 
-pub row-end : (s k : List ℕ) (i at : ℕ) → length s ≤ at → sets k i (rowOf (drop at s)) ≡ k
+pub row-end : (s k : List ℕ) (i at : ℕ) → length s ≤ at → sets k i (pairsIn (drop at s)) ≡ k
 row-end s k i at h = rw (drop-of-length-le s h)
 
-pub row-length : (l : List ℕ) → length (rowOf l) ≡ length l / 2
+pub row-length : (l : List ℕ) → length (pairsIn l) ≡ length l / 2
 row-length [] = refl
 row-length (x ∷ []) = refl
 row-length (x ∷ y ∷ l) = let e = row-length l in omega (arith, e)
 
-pub row-first : (k s : List ℕ) → length k ≡ 64 → length s ≡ 137 → sets k 0 (rowOf (drop 9 s)) ≡ rowOf (drop 9 s)
+pub row-first : (k s : List ℕ) → length k ≡ 64 → length s ≡ 137 → sets k 0 (pairsIn (drop 9 s)) ≡ pairsIn (drop 9 s)
 row-first k s e h =
     let n : length (drop 9 s) ≡ 128 = simp length-drop (omega arith) in
-    sets-whole k (rowOf (drop 9 s)) (rw (e, row-length, n) refl)
+    sets-whole k (pairsIn (drop 9 s)) (rw (e, row-length, n) refl)
 
 -- ---- packed and unpacked
 
-pub holds-long : (l : List ℕ) → holdsOf l ≡ true → length l ≡ packedLength
-unfolding holdsOf
+pub holds-long : (l : List ℕ) → holdsChipOf l ≡ true → length l ≡ chipLength
+unfolding holdsChipOf
 holds-long l h =
-    eqb-true (length l) packedLength
-    (both (eqb (length l) packedLength) (codesRightOf (getD l 2 0) (getD l 3 0) (getD l 4 0) (getD l 5 0) (getD l 6 0)) h .0)
+    eqb-true (length l) chipLength
+    (both (eqb (length l) chipLength) (chipCodesRightOf (getD l 2 0) (getD l 3 0) (getD l 4 0) (getD l 5 0) (getD l 6 0)) h .0)
 
 -- the head, then the latches
-pub packed : (out : List ℕ) (c : Chip) → length out ≡ packedLength → length (c .latch) ≡ 64
-    → sets (sets out 0 (headOf (c .line))) 9 (pairsOf (c .latch)) ≡ packInto out c
-unfolding packInto packedOf
+pub packed : (out : List ℕ) (c : Chip) → length out ≡ chipLength → length (c .latch) ≡ 64
+    → sets (sets out 0 (chipHeadOf (c .line))) 9 (pairsOf (c .latch)) ≡ packChipInto out c
+unfolding packChipInto packedChipOf
 packed out c e k =
-    let h = headOf (c .line) in
+    let h = chipHeadOf (c .line) in
     let p = pairsOf (c .latch) in
     let n : length p ≡ 128 = pairs-length (c .latch) ∙ omega (arith, k) in
     let one : sets out 0 h ≡ h ++ drop 9 out = sets-eq h out 0 (omega arith) in
     let m : length (h ++ drop 9 out) ≡ 137 = length-append h (drop 9 out) ∙ simp length-drop (omega arith) in
     let rest : drop (9 + length p) (h ++ drop 9 out) ≡ [] = drop-of-length-le (h ++ drop 9 out) {i = 9 + length p} (omega arith) in
     let two : sets (h ++ drop 9 out) 9 p ≡ h ++ p ++ drop (9 + length p) (h ++ drop 9 out) = sets-eq p (h ++ drop 9 out) 9 (omega arith) in
-    rw (eq-eqb (length out) packedLength e, one, two, rest) (ap (λ (l : List ℕ). h ++ l) (append-nil p))
+    rw (eq-eqb (length out) chipLength e, one, two, rest) (ap (λ (l : List ℕ). h ++ l) (append-nil p))

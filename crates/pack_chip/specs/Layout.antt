@@ -49,11 +49,11 @@ cycleCodeOf (Writing t) = eitherOf t 15 16
 cycleCodeOf Locking = 17
 
 -- 0 standby or released, 13 14 sending, 15 to 17 in a cycle
-abbrev pub phaseCodeOf : Phase → ℕ
-phaseCodeOf Idle = 0
-phaseCodeOf (Receive r) = recvCodeOf r
-phaseCodeOf (Send t) = eitherOf t 13 14
-phaseCodeOf (Busy y) = cycleCodeOf y
+abbrev pub chipPhaseCodeOf : Phase → ℕ
+chipPhaseCodeOf Idle = 0
+chipPhaseCodeOf (Receive r) = recvCodeOf r
+chipPhaseCodeOf (Send t) = eitherOf t 13 14
+chipPhaseCodeOf (Busy y) = cycleCodeOf y
 
 -- the first address byte; 0 where none is kept
 abbrev pub recvHighOf : Recv → ℕ
@@ -72,37 +72,37 @@ phaseHighOf (Busy y) = 0
 
 -- ---- packed
 
-abbrev pub packedLength : ℕ
-packedLength = 137
+abbrev pub chipLength : ℕ
+chipLength = 137
 
 -- numbers of 16 bits, each as two bytes
 abbrev pub pairsOf : List ℕ → List ℕ
 pairsOf [] = []
 pairsOf (x ∷ xs) = x / 256 ∷ x % 256 ∷ pairsOf xs
 
-abbrev pub headOf : Line → List ℕ
-headOf l =
+abbrev pub chipHeadOf : Line → List ℕ
+chipHeadOf l =
     l .core .counter / 256
     ∷ l .core .counter % 256
     ∷ pinCodeOf (l .core .pin)
     ∷ flagOf (l .core .inhibited)
     ∷ flagOf (l .core .locked)
-    ∷ phaseCodeOf (l .phase)
+    ∷ chipPhaseCodeOf (l .phase)
     ∷ phaseHighOf (l .phase)
     ∷ l .left
     ∷ l .shift
     ∷ []
 
-unfoldable pub packedOf : Chip → List ℕ
-packedOf c = headOf (c .line) ++ pairsOf (c .latch)
+unfoldable pub packedChipOf : Chip → List ℕ
+packedChipOf c = chipHeadOf (c .line) ++ pairsOf (c .latch)
 
 -- whether a state is packed into a buffer of n bytes
-abbrev pub packsOf : ℕ → Bool
-packsOf n = eqb n packedLength
+abbrev pub packsChipOf : ℕ → Bool
+packsChipOf n = eqb n chipLength
 
 -- into a lent buffer: one of another length stays as it was
-unfoldable pub packInto : List ℕ → Chip → List ℕ
-packInto out c = cond (packsOf (length out)) (packedOf c) out
+unfoldable pub packChipInto : List ℕ → Chip → List ℕ
+packChipInto out c = cond (packsChipOf (length out)) (packedChipOf c) out
 
 -- ---- unpacked
 
@@ -123,8 +123,8 @@ recvIn n high =
     (cond (eqb n 11) (LockTaken false)
     (cond (eqb n 12) (LockTaken true) Select))))))))))
 
-unfoldable pub phaseIn : ℕ → ℕ → Phase
-phaseIn n high =
+unfoldable pub chipPhaseIn : ℕ → ℕ → Phase
+chipPhaseIn n high =
     cond (eqb n 0) Idle
     (cond (eqb n 13) (Send Array)
     (cond (eqb n 14) (Send Ident)
@@ -133,40 +133,40 @@ phaseIn n high =
     (cond (eqb n 17) (Busy Locking) (Receive (recvIn n high)))))))
 
 -- two bytes as a number of 16 bits, and a row of them
-abbrev pub joinedOf : ℕ → ℕ → ℕ
-joinedOf high low = high * 256 + low
+abbrev pub pairJoinedOf : ℕ → ℕ → ℕ
+pairJoinedOf high low = high * 256 + low
 
-abbrev pub rowOf : List ℕ → List ℕ
-rowOf [] = []
-rowOf (x ∷ []) = []
-rowOf (x ∷ y ∷ xs) = joinedOf x y ∷ rowOf xs
+abbrev pub pairsIn : List ℕ → List ℕ
+pairsIn [] = []
+pairsIn (x ∷ []) = []
+pairsIn (x ∷ y ∷ xs) = pairJoinedOf x y ∷ pairsIn xs
 
 abbrev pub lineIn : List ℕ → Line
 lineIn l =
     record {
-      core = record { counter = joinedOf (getD l 0 0) (getD l 1 0); pin = pinIn (getD l 2 0); inhibited = eqb (getD l 3 0) 1; locked = eqb (getD l 4 0) 1 };
-      phase = phaseIn (getD l 5 0) (getD l 6 0);
+      core = record { counter = pairJoinedOf (getD l 0 0) (getD l 1 0); pin = pinIn (getD l 2 0); inhibited = eqb (getD l 3 0) 1; locked = eqb (getD l 4 0) 1 };
+      phase = chipPhaseIn (getD l 5 0) (getD l 6 0);
       left = getD l 7 0;
       shift = getD l 8 0;
     }
 
 -- only a phase that awaits the last address byte keeps the first
-unfoldable pub phaseRightOf : ℕ → ℕ → Bool
-phaseRightOf n high = cond (ltb n 18) (cond (eqb n 4) true (cond (eqb n 5) true (eqb high 0))) false
+unfoldable pub chipPhaseCodeRightOf : ℕ → ℕ → Bool
+chipPhaseCodeRightOf n high = cond (ltb n 18) (cond (eqb n 4) true (cond (eqb n 5) true (eqb high 0))) false
 
-unfoldable pub codesRightOf : ℕ → ℕ → ℕ → ℕ → ℕ → Bool
-codesRightOf pin inhibited locked code high =
-    cond (ltb pin 4) (cond (ltb inhibited 2) (cond (ltb locked 2) (phaseRightOf code high) false) false) false
+unfoldable pub chipCodesRightOf : ℕ → ℕ → ℕ → ℕ → ℕ → Bool
+chipCodesRightOf pin inhibited locked code high =
+    cond (ltb pin 4) (cond (ltb inhibited 2) (cond (ltb locked 2) (chipPhaseCodeRightOf code high) false) false) false
 
 -- bytes that hold a state: the length, and every code one of those above
-unfoldable pub holdsOf : List ℕ → Bool
-holdsOf l =
-    cond (eqb (length l) packedLength) (codesRightOf (getD l 2 0) (getD l 3 0) (getD l 4 0) (getD l 5 0) (getD l 6 0)) false
+unfoldable pub holdsChipOf : List ℕ → Bool
+holdsChipOf l =
+    cond (eqb (length l) chipLength) (chipCodesRightOf (getD l 2 0) (getD l 3 0) (getD l 4 0) (getD l 5 0) (getD l 6 0)) false
 
 -- what bytes that hold none stand for: a counter beyond every array, so that refusal 4 has its place in the order
 abbrev pub noChip : Chip
 noChip =
     record { line = record { core = record { counter = 65535; pin = Absent; inhibited = false; locked = false }; phase = Idle; left = 8; shift = 0 }; latch = replicate 64 256 }
 
-unfoldable pub unpackedOf : List ℕ → Chip
-unpackedOf l = cond (holdsOf l) (record { line = lineIn l; latch = rowOf (drop 9 l) }) noChip
+unfoldable pub unpackedChipOf : List ℕ → Chip
+unpackedChipOf l = cond (holdsChipOf l) (record { line = lineIn l; latch = pairsIn (drop 9 l) }) noChip

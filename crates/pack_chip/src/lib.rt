@@ -8,25 +8,25 @@ ghost use Rattle.pack_chip.specs.Layout.{
   eitherOf,
   recvCodeOf,
   cycleCodeOf,
-  phaseCodeOf,
+  chipPhaseCodeOf,
   recvHighOf,
   phaseHighOf,
-  packedLength,
+  chipLength,
   pairsOf,
-  headOf,
-  packsOf,
-  packInto,
+  chipHeadOf,
+  packsChipOf,
+  packChipInto,
   pinIn,
   recvIn,
-  phaseIn,
-  joinedOf,
-  rowOf,
+  chipPhaseIn,
+  pairJoinedOf,
+  pairsIn,
   lineIn,
-  phaseRightOf,
-  codesRightOf,
-  holdsOf,
+  chipPhaseCodeRightOf,
+  chipCodesRightOf,
+  holdsChipOf,
   noChip,
-  unpackedOf,
+  unpackedChipOf,
 };
 use line::Core;
 use line::Cycle;
@@ -95,7 +95,7 @@ fn cycle_code(cycle: Cycle) -> u8
 }
 
 fn phase_code(phase: Phase) -> u8
-    ensures { λ r. ⌜ r ≡ phaseCodeOf phase ⌝ }
+    ensures { λ r. ⌜ r ≡ chipPhaseCodeOf phase ⌝ }
 {
     match phase {
         Phase::Idle => 0,
@@ -144,8 +144,8 @@ fn low_byte(x: u16) -> u8
 }
 
 fn put_line(line: Line, out: &mut [u8])
-    requires { ⌜ length (now out) ≡ packedLength ⌝ }
-    ensures { λ _. ⌜ now (out .exit) ≡ sets (now (out .entry)) 0 (headOf line) ⌝ }
+    requires { ⌜ length (now out) ≡ chipLength ⌝ }
+    ensures { λ _. ⌜ now (out .exit) ≡ sets (now (out .entry)) 0 (chipHeadOf line) ⌝ }
 {
     let core = line.core;
     let counter = core.counter;
@@ -163,7 +163,7 @@ fn put_line(line: Line, out: &mut [u8])
 }
 
 fn put_latches(latch: [u16; 64], out: &mut [u8])
-    requires { ⌜ length (now out) ≡ packedLength ⌝ }
+    requires { ⌜ length (now out) ≡ chipLength ⌝ }
     ensures { λ _. ⌜ now (out .exit) ≡ sets (now (out .entry)) 9 (pairsOf latch) ⌝ }
 {
     let mut i = 0;
@@ -179,8 +179,8 @@ fn put_latches(latch: [u16; 64], out: &mut [u8])
 
 // The state into a lent buffer. False, and the buffer as it was, where it has another length.
 pub fn pack(chip: Chip, out: &mut [u8]) -> bool
-    ensures answer { λ r. ⌜ r ≡ packsOf (length (now (out .entry))) ⌝ }
-    ensures bytes { λ _. ⌜ now (out .exit) ≡ packInto (now (out .entry)) chip ⌝ }
+    ensures answer { λ r. ⌜ r ≡ packsChipOf (length (now (out .entry))) ⌝ }
+    ensures bytes { λ _. ⌜ now (out .exit) ≡ packChipInto (now (out .entry)) chip ⌝ }
 {
     if out.len() != LENGTH {
         return false;
@@ -225,7 +225,7 @@ fn recv_in(code: u8, high: u8) -> Recv
 }
 
 fn phase_in(code: u8, high: u8) -> Phase
-    ensures { λ r. ⌜ r ≡ phaseIn code high ⌝ }
+    ensures { λ r. ⌜ r ≡ chipPhaseIn code high ⌝ }
 {
     match code {
         0 => Phase::Idle,
@@ -239,13 +239,13 @@ fn phase_in(code: u8, high: u8) -> Phase
 }
 
 fn joined(high: u8, low: u8) -> u16
-    ensures { λ r. ⌜ r ≡ joinedOf high low ⌝ }
+    ensures { λ r. ⌜ r ≡ pairJoinedOf high low ⌝ }
 {
     high as u16 * 256 + low as u16
 }
 
 fn line_in(bytes: &[u8]) -> Line
-    requires { ⌜ length (now bytes) ≡ packedLength ⌝ }
+    requires { ⌜ length (now bytes) ≡ chipLength ⌝ }
     ensures { λ r. ⌜ r ≡ lineIn (now (bytes .entry)) ⌝ }
 {
     let counter = joined(bytes[0], bytes[1]);
@@ -265,8 +265,8 @@ fn line_in(bytes: &[u8]) -> Line
 }
 
 fn latches_in(bytes: &[u8]) -> [u16; 64]
-    requires { ⌜ length (now bytes) ≡ packedLength ⌝ }
-    ensures { λ r. ⌜ r ≡ rowOf (drop 9 (now (bytes .entry))) ⌝ }
+    requires { ⌜ length (now bytes) ≡ chipLength ⌝ }
+    ensures { λ r. ⌜ r ≡ pairsIn (drop 9 (now (bytes .entry))) ⌝ }
 {
     let mut latch = [0u16; 64];
     let mut i = 0;
@@ -280,7 +280,7 @@ fn latches_in(bytes: &[u8]) -> [u16; 64]
 }
 
 fn phase_right(code: u8, high: u8) -> bool
-    ensures { λ r. ⌜ r ≡ phaseRightOf code high ⌝ }
+    ensures { λ r. ⌜ r ≡ chipPhaseCodeRightOf code high ⌝ }
 {
     if 18 <= code {
         return false;
@@ -295,7 +295,7 @@ fn phase_right(code: u8, high: u8) -> bool
 }
 
 fn codes_right(pin: u8, inhibited: u8, locked: u8, code: u8, high: u8) -> bool
-    ensures { λ r. ⌜ r ≡ codesRightOf pin inhibited locked code high ⌝ }
+    ensures { λ r. ⌜ r ≡ chipCodesRightOf pin inhibited locked code high ⌝ }
 {
     if 4 <= pin {
         return false;
@@ -311,7 +311,7 @@ fn codes_right(pin: u8, inhibited: u8, locked: u8, code: u8, high: u8) -> bool
 
 // Whether the bytes hold a state: their length, and every code one that there is.
 pub fn holds(bytes: &[u8]) -> bool
-    ensures { λ r. ⌜ r ≡ holdsOf (now (bytes .entry)) ⌝ }
+    ensures { λ r. ⌜ r ≡ holdsChipOf (now (bytes .entry)) ⌝ }
 {
     if bytes.len() != LENGTH {
         return false;
@@ -340,7 +340,7 @@ fn none() -> Chip
 
 // The state that the bytes hold; where they hold none, one that is out of range for every part.
 pub fn unpack(bytes: &[u8]) -> Chip
-    ensures { λ r. ⌜ r ≡ unpackedOf (now (bytes .entry)) ⌝ }
+    ensures { λ r. ⌜ r ≡ unpackedChipOf (now (bytes .entry)) ⌝ }
 {
     let right = holds(bytes);
     if !right {

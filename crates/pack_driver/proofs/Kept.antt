@@ -23,8 +23,8 @@ use Rattle.driver.specs.declared.Phase.the-variants.{Ready, Bits, Heard, Rest, 
 use Rattle.driver.specs.declared.Driver.{Driver}
 use Rattle.driver.specs.Request.{fromOf}
 use Rattle.driver.specs.Step.{clocksOf}
-use Rattle.pack_driver.specs.Layout.{placeCodeOf, slotCodeOf, failedCodeOf, phaseCodeOf, packedLength, wordEnd, wordOf, wordsOf, numbersOf, packedOf, allSmall, smallOf, packsOf, packInto, placeIn, slotIn, failedIn, phaseIn, joinedOf, numberIn, driverIn, phaseRightOf, codesRightOf, holdsOf, unpackedOf}
-use Rattle.pack_driver.specs.Promises.{Fits, PacksBack, UnpacksBack}
+use Rattle.pack_driver.specs.Layout.{placeCodeOf, slotCodeOf, failedCodeOf, driverPhaseCodeOf, driverLength, wordEnd, wordOf, wordsOf, numbersOf, packedDriverOf, allSmall, smallOf, packsDriverOf, packDriverInto, placeIn, slotIn, failedIn, driverPhaseIn, wordJoinedOf, numberIn, driverIn, driverPhaseCodeRightOf, driverCodesRightOf, holdsDriverOf, unpackedDriverOf}
+use Rattle.pack_driver.specs.Promises.{DriverFits, DriverPacksBack, DriverUnpacksBack}
 use Rattle.pack_driver.proofs.Laws.{holds-length}
 
 -- ---- tests
@@ -40,7 +40,7 @@ pub small-all : (xs : List ℕ) → AllBelow wordEnd xs → allSmall xs ≡ true
 small-all [] h = refl
 small-all (x ∷ xs) h = rw (lt-ltb x wordEnd (h .0)) (small-all xs (h .1))
 
-joined-word : (x : ℕ) → x < wordEnd → joinedOf (x / 16777216 % 256) (x / 65536 % 256) (x / 256 % 256) (x % 256) ≡ x
+joined-word : (x : ℕ) → x < wordEnd → wordJoinedOf (x / 16777216 % 256) (x / 65536 % 256) (x / 256 % 256) (x % 256) ≡ x
 joined-word x h =
     let e₁ : x / 65536 ≡ x / 256 / 256 = omega arith in
     let e₂ : x / 16777216 ≡ x / 65536 / 256 = omega arith in
@@ -50,15 +50,15 @@ joined-word x h =
     let f₃ : x / 16777216 % 256 ≡ x / 16777216 = omega arith in
     omega arith
 
-joined-small : (a b c d : ℕ) → a < 256 → b < 256 → c < 256 → d < 256 → joinedOf a b c d < wordEnd
+joined-small : (a b c d : ℕ) → a < 256 → b < 256 → c < 256 → d < 256 → wordJoinedOf a b c d < wordEnd
 joined-small a b c d ha hb hc hd = omega arith
 
-word-joined : (a b c d : ℕ) → a < 256 → b < 256 → c < 256 → d < 256 → wordOf (joinedOf a b c d) ≡ a ∷ b ∷ c ∷ d ∷ []
+word-joined : (a b c d : ℕ) → a < 256 → b < 256 → c < 256 → d < 256 → wordOf (wordJoinedOf a b c d) ≡ a ∷ b ∷ c ∷ d ∷ []
 word-joined a b c d ha hb hc hd =
-    let e₁ : joinedOf a b c d / 16777216 % 256 ≡ a = omega arith in
-    let e₂ : joinedOf a b c d / 65536 % 256 ≡ b = omega arith in
-    let e₃ : joinedOf a b c d / 256 % 256 ≡ c = omega arith in
-    let e₄ : joinedOf a b c d % 256 ≡ d = omega arith in
+    let e₁ : wordJoinedOf a b c d / 16777216 % 256 ≡ a = omega arith in
+    let e₂ : wordJoinedOf a b c d / 65536 % 256 ≡ b = omega arith in
+    let e₃ : wordJoinedOf a b c d / 256 % 256 ≡ c = omega arith in
+    let e₄ : wordJoinedOf a b c d % 256 ≡ d = omega arith in
     λ i. e₁ i ∷ e₂ i ∷ e₃ i ∷ e₄ i ∷ []
 
 words-below : (xs : List ℕ) → AllBelow 256 (wordsOf xs)
@@ -76,8 +76,8 @@ unfolding placeIn
 place-back (Array a) = refl
 place-back (Ident i) = refl
 
-phase-back : (p : Phase) → phaseIn (phaseCodeOf p) (clocksOf p) ≡ p
-unfolding phaseIn slotIn failedIn
+phase-back : (p : Phase) → driverPhaseIn (driverPhaseCodeOf p) (clocksOf p) ≡ p
+unfolding driverPhaseIn slotIn failedIn
 phase-back Ready = refl
 phase-back (Bits Select b) = refl
 phase-back (Bits High b) = refl
@@ -102,8 +102,8 @@ either-true : (b : Bool) → cond b true true ≡ true
 either-true true = refl
 either-true false = refl
 
-phase-right : (p : Phase) → phaseRightOf (phaseCodeOf p) (clocksOf p) ≡ true
-unfolding phaseRightOf
+phase-right : (p : Phase) → driverPhaseCodeRightOf (driverPhaseCodeOf p) (clocksOf p) ≡ true
+unfolding driverPhaseCodeRightOf
 phase-right Ready = refl
 phase-right (Bits Select b) = either-true (eqb b 0)
 phase-right (Bits High b) = either-true (eqb b 0)
@@ -124,12 +124,12 @@ phase-right (Over AtSelect) = refl
 phase-right (Over AtData) = refl
 phase-right (Over AtPolls) = refl
 
-phase-below : (p : Phase) → phaseCodeOf p < 19
-unfolding phaseRightOf
-phase-below p = ltb-true _ 19 (both (ltb (phaseCodeOf p) 19) _ (phase-right p) .0)
+phase-below : (p : Phase) → driverPhaseCodeOf p < 19
+unfolding driverPhaseCodeRightOf
+phase-below p = ltb-true _ 19 (both (ltb (driverPhaseCodeOf p) 19) _ (phase-right p) .0)
 
-codes-right : (p : Place) (b : Bool) (s : Phase) → codesRightOf (placeCodeOf p) (flagOf b) (phaseCodeOf s) (clocksOf s) ≡ true
-unfolding codesRightOf
+codes-right : (p : Place) (b : Bool) (s : Phase) → driverCodesRightOf (placeCodeOf p) (flagOf b) (driverPhaseCodeOf s) (clocksOf s) ≡ true
+unfolding driverCodesRightOf
 codes-right p b s = rw (lt-ltb _ 2 (place-below p), lt-ltb _ 2 (flag-below b)) (phase-right s)
 
 -- ---- packed, and unpacked again
@@ -139,8 +139,8 @@ module _ (d : Driver) (small : smallOf d ≡ true) where
   unfolding smallOf
   each = all-small (numbersOf d) small
 
-  pub packed-below : Fits d → AllBelow 256 (packedOf d)
-  unfolding packedOf
+  pub packed-below : DriverFits d → AllBelow 256 (packedDriverOf d)
+  unfolding packedDriverOf
   packed-below f = (
     f .part,
     (
@@ -161,12 +161,12 @@ module _ (d : Driver) (small : smallOf d ≡ true) where
     ),
   )
 
-  pub packed-holds : holdsOf (packedOf d) ≡ true
-  unfolding holdsOf packedOf
+  pub packed-holds : holdsDriverOf (packedDriverOf d) ≡ true
+  unfolding holdsDriverOf packedDriverOf
   packed-holds = codes-right (d .request .place) (d .request .reads) (d .phase)
 
-  pub driver-back : driverIn (packedOf d) ≡ d
-  unfolding packedOf
+  pub driver-back : driverIn (packedDriverOf d) ≡ d
+  unfolding packedDriverOf
   driver-back =
       let s = each in
       let at = joined-word (fromOf (d .request .place)) (s .0) in
@@ -189,17 +189,17 @@ module _ (d : Driver) (small : smallOf d ≡ true) where
         };
       }
 
-  pub unpacked-packed : unpackedOf (packedOf d) ≡ d
-  unfolding unpackedOf
+  pub unpacked-packed : unpackedDriverOf (packedDriverOf d) ≡ d
+  unfolding unpackedDriverOf
   unpacked-packed = rw packed-holds driver-back
 
-pub packs-small : (n : ℕ) (d : Driver) → packsOf n d ≡ true → smallOf d ≡ true
-unfolding packsOf
-packs-small n d h = both (eqb n packedLength) (smallOf d) h .1
+pub packs-small : (n : ℕ) (d : Driver) → packsDriverOf n d ≡ true → smallOf d ≡ true
+unfolding packsDriverOf
+packs-small n d h = both (eqb n driverLength) (smallOf d) h .1
 
-pub packs-back : PacksBack packInto unpackedOf
-unfolding packInto
-packs-back d out f h =
+pub driver-packs-back : DriverPacksBack packDriverInto unpackedDriverOf
+unfolding packDriverInto
+driver-packs-back d out f h =
     let s = packs-small (length out) d h in
     rw h (packed-below d s f, packed-holds d s, unpacked-packed d s)
 
@@ -259,13 +259,13 @@ failed-code-in n h =
     Q f = failedCodeOf f ≡ n
 
 -- a code and its clocks come back
-module _ (n clocks : ℕ) (h : phaseRightOf n clocks ≡ true) where
+module _ (n clocks : ℕ) (h : driverPhaseCodeRightOf n clocks ≡ true) where
   code-below : n < 19
-  unfolding phaseRightOf
+  unfolding driverPhaseCodeRightOf
   code-below = ltb-true n 19 (both (ltb n 19) _ h .0)
 
-  phase-code-in : phaseCodeOf (phaseIn n clocks) ≡ n
-  unfolding phaseIn
+  phase-code-in : driverPhaseCodeOf (driverPhaseIn n clocks) ≡ n
+  unfolding driverPhaseIn
   phase-code-in =
       let m = code-below in
       branch Q (ltb n 1) (λ e. let l = ltb-true n 1 e in omega arith) (λ e₀. let f₀ = ltb-false n 1 e₀ in
@@ -274,10 +274,10 @@ module _ (n clocks : ℕ) (h : phaseRightOf n clocks ≡ true) where
       branch Q (ltb n 16) (λ e. let l = ltb-true n 16 e in omega arith) (λ e₃. let f₃ = ltb-false n 16 e₃ in omega (arith, failed-code-in (n - 16) (omega arith))))))
     where
       Q : Phase → Type 0
-      Q p = phaseCodeOf p ≡ n
+      Q p = driverPhaseCodeOf p ≡ n
 
   counted : (eqb clocks 0 ≡ false) → (1 ≤ n) × (n < 8)
-  unfolding phaseRightOf
+  unfolding driverPhaseCodeRightOf
   counted e =
       let z = rw e at (both (ltb n 19) _ h .1) in
       branch (λ (t : Bool). t ≡ true → (1 ≤ n) × (n < 8)) (ltb n 1) (λ l f. absurd (false≢true f)) (λ l f. (ltb-false n 1 l, ltb-true n 8 f)) z
@@ -286,8 +286,8 @@ module _ (n clocks : ℕ) (h : phaseRightOf n clocks ≡ true) where
   none-counted : ((1 ≤ n) × (n < 8) → ⊥) → 0 ≡ clocks
   none-counted out = either (eqb clocks 0) (λ e. sym (eqb-true clocks 0 e)) (λ e. absurd (out (counted e)))
 
-  clocks-in : clocksOf (phaseIn n clocks) ≡ clocks
-  unfolding phaseIn
+  clocks-in : clocksOf (driverPhaseIn n clocks) ≡ clocks
+  unfolding driverPhaseIn
   clocks-in =
       branch Q (ltb n 1) (λ e. let l = ltb-true n 1 e in none-counted (λ b. let x = b .0 in omega arith)) (λ e₀.
       branch Q (ltb n 8) (λ e. refl) (λ e₁. let f₁ = ltb-false n 8 e₁ in
@@ -297,21 +297,21 @@ module _ (n clocks : ℕ) (h : phaseRightOf n clocks ≡ true) where
       Q : Phase → Type 0
       Q p = clocksOf p ≡ clocks
 
-module _ (l : List ℕ) (b : AllBelow 256 l) (h : holdsOf l ≡ true) where
-  right : codesRightOf (getD l 2 0) (getD l 3 0) (getD l 4 0) (getD l 5 0) ≡ true
-  unfolding holdsOf
-  right = both (eqb (length l) packedLength) _ h .1
+module _ (l : List ℕ) (b : AllBelow 256 l) (h : holdsDriverOf l ≡ true) where
+  right : driverCodesRightOf (getD l 2 0) (getD l 3 0) (getD l 4 0) (getD l 5 0) ≡ true
+  unfolding holdsDriverOf
+  right = both (eqb (length l) driverLength) _ h .1
 
   place-right : getD l 2 0 < 2
-  unfolding codesRightOf
+  unfolding driverCodesRightOf
   place-right = ltb-true _ 2 (both (ltb (getD l 2 0) 2) _ right .0)
 
   reads-right : getD l 3 0 < 2
-  unfolding codesRightOf
+  unfolding driverCodesRightOf
   reads-right = ltb-true _ 2 (both (ltb (getD l 3 0) 2) _ (both (ltb (getD l 2 0) 2) _ right .1) .0)
 
-  phase-is-right : phaseRightOf (getD l 4 0) (getD l 5 0) ≡ true
-  unfolding codesRightOf
+  phase-is-right : driverPhaseCodeRightOf (getD l 4 0) (getD l 5 0) ≡ true
+  unfolding driverCodesRightOf
   phase-is-right = both (ltb (getD l 3 0) 2) _ (both (ltb (getD l 2 0) 2) _ right .1) .1
 
   at : (i : ℕ) → getD l i 0 < 256
@@ -326,7 +326,7 @@ module _ (l : List ℕ) (b : AllBelow 256 l) (h : holdsOf l ≡ true) where
   from-at : fromOf (placeIn (getD l 2 0) (numberIn l 7)) ≡ numberIn l 7
   from-at = from-in (getD l 2 0) (numberIn l 7)
 
-  pub driver-fits : Fits (driverIn l)
+  pub driver-fits : DriverFits (driverIn l)
   driver-fits = record { part = at 0; enable = at 1; clocks = rw (clocks-in (getD l 4 0) (getD l 5 0) phase-is-right) (at 5); byte = at 6 }
 
   pub driver-small : smallOf (driverIn l) ≡ true
@@ -335,8 +335,8 @@ module _ (l : List ℕ) (b : AllBelow 256 l) (h : holdsOf l ≡ true) where
       small-all (numbersOf (driverIn l))
       (rw from-at (small-at 7), (small-at 11, (small-at 15, (small-at 19, (small-at 23, (small-at 27, (small-at 31, tt)))))))
 
-  pub bytes-back : packedOf (driverIn l) ≡ l
-  unfolding packedOf
+  pub bytes-back : packedDriverOf (driverIn l) ≡ l
+  unfolding packedDriverOf
   bytes-back =
       (λ i.
       getD l 0 0
@@ -348,10 +348,10 @@ module _ (l : List ℕ) (b : AllBelow 256 l) (h : holdsOf l ≡ true) where
       ∷ getD l 6 0
       ∷ ((ap wordOf from-at ∙ word-at 7) i
       ++ (word-at 11 i ++ (word-at 15 i ++ (word-at 19 i ++ (word-at 23 i ++ (word-at 27 i ++ (word-at 31 i ++ []))))))))
-      ∙ row-whole packedLength l (holds-length l h)
+      ∙ row-whole driverLength l (holds-length l h)
 
-pub unpacks-back : UnpacksBack packInto unpackedOf
-unfolding packInto unpackedOf packsOf
-unpacks-back l out b h e =
+pub driver-unpacks-back : DriverUnpacksBack packDriverInto unpackedDriverOf
+unfolding packDriverInto unpackedDriverOf packsDriverOf
+driver-unpacks-back l out b h e =
     let s = driver-small l b h in
     rw (h, e) (driver-fits l b h, s, rw s (bytes-back l b h))

@@ -13,7 +13,7 @@ use Rattle.parts.proofs.Tests.{both}
 use Rattle.parts.proofs.Bytes.{sets-whole}
 use Rattle.driver.specs.declared.Driver.{Driver}
 use Rattle.driver.specs.Request.{fromOf}
-use Rattle.pack_driver.specs.Layout.{packedLength, wordOf, wordsOf, headOf, numbersOf, packedOf, holdsOf}
+use Rattle.pack_driver.specs.Layout.{driverLength, wordOf, wordsOf, driverHeadOf, numbersOf, packedDriverOf, holdsDriverOf}
 
 pub word-put : (out : List ℕ) (at x a b c : ℕ) → a ≡ x / 16777216 % 256 → b ≡ x / 65536 % 256 → c ≡ x / 256 % 256
     → set (set (set (set out at a) (at + 1) b) (at + 2) c) (at + 3) (x % 256) ≡ sets out at (wordOf x)
@@ -31,11 +31,11 @@ module _ (o o₁ o₂ o₃ o₄ o₅ o₆ o₇ : List ℕ) (d : Driver) (from : 
   pub words-put : o₇ ≡ sets o 7 (wordsOf (numbersOf d))
   words-put = rw (e₇, e₆, e₅, e₄, e₃, e₂, e₁, f)
 
-pub packed-put : (o o₁ o₂ : List ℕ) (d : Driver) → length o ≡ packedLength → o₁ ≡ sets o 0 (headOf d) → o₂ ≡ sets o₁ 7 (wordsOf (numbersOf d))
-    → o₂ ≡ packedOf d
-unfolding packedOf
-packed-put o o₁ o₂ d e e₁ e₂ = rw (e₂, e₁) (sets-whole o (packedOf d) e)
+pub packed-put : (o o₁ o₂ : List ℕ) (d : Driver) → length o ≡ driverLength → o₁ ≡ sets o 0 (driverHeadOf d) → o₂ ≡ sets o₁ 7 (wordsOf (numbersOf d))
+    → o₂ ≡ packedDriverOf d
+unfolding packedDriverOf
+packed-put o o₁ o₂ d e e₁ e₂ = rw (e₂, e₁) (sets-whole o (packedDriverOf d) e)
 
-pub holds-length : (l : List ℕ) → holdsOf l ≡ true → length l ≡ packedLength
-unfolding holdsOf
-holds-length l h = eqb-true (length l) packedLength (both (eqb (length l) packedLength) _ h .0)
+pub holds-length : (l : List ℕ) → holdsDriverOf l ≡ true → length l ≡ driverLength
+unfolding holdsDriverOf
+holds-length l h = eqb-true (length l) driverLength (both (eqb (length l) driverLength) _ h .0)

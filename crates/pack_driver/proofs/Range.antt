@@ -28,28 +28,28 @@ use Rattle.driver.specs.Step.{
   withNext,
   withPoll,
   withSeen,
-  takenOf,
-  sentOf,
+  toldCountsOf,
+  sentCountsOf,
   readyOf,
   bitsAt,
   leadAt,
   lowAt,
   dataAt,
-  pollOf,
+  pollMoveOf,
   answeredOf,
   takeAt,
   heardAt,
-  heardOf,
-  bitsOf,
+  heardMoveOf,
+  bitsMoveOf,
   moveAt,
-  stepOf,
+  driverStepOf,
   rangeOf,
-  nextOf,
+  driverNextOf,
   bufferOf,
 }
 use Rattle.driver.proofs.Facts.{reach, most-fits, range-request, good-counts}
-use Rattle.pack_driver.specs.Layout.{wordEnd, numbersOf, smallOf, noDriver, unpackedOf}
-use Rattle.pack_driver.specs.Promises.{RefusesOthers, InRangeSmall, SomeNotPacked, StaysSmall}
+use Rattle.pack_driver.specs.Layout.{wordEnd, numbersOf, smallOf, noDriver, unpackedDriverOf}
+use Rattle.pack_driver.specs.Promises.{DriverRefusesOthers, InRangeSmall, SomeNotPacked, StaysSmall}
 use Rattle.pack_driver.proofs.Kept.{all-small, small-all}
 
 -- ---- bytes that hold none
@@ -58,9 +58,9 @@ none-range : (n : ℕ) → rangeOf noDriver n ≡ false
 unfolding rangeOf judgeOf soonerOf factsOf enableRightOf beyondAt limitOf
 none-range n = refl
 
-pub refuses-others : RefusesOthers unpackedOf
-unfolding unpackedOf nextOf bufferOf
-refuses-others l h = rw h (none-range, λ level buffer. rw none-range refl, λ level buffer. rw none-range refl)
+pub driver-refuses-others : DriverRefusesOthers unpackedDriverOf
+unfolding unpackedDriverOf driverNextOf bufferOf
+driver-refuses-others l h = rw h (none-range, λ level buffer. rw none-range refl, λ level buffer. rw none-range refl)
 
 -- ---- in range
 
@@ -133,7 +133,7 @@ module _ (c : Counts) where
   seen-near : Near c (withSeen c)
   seen-near = record { at = omega arith; seen = omega arith; tries = omega arith; polls = omega arith }
 
-  taken-near : (s : Slot) (level : ℕ) → Near c (takenOf s c level)
+  taken-near : (s : Slot) (level : ℕ) → Near c (toldCountsOf s c level)
   taken-near Select level = kept
   taken-near High level = kept
   taken-near Low level = kept
@@ -142,7 +142,7 @@ module _ (c : Counts) where
   taken-near Turn level = kept
   taken-near Take level = byte-near _
 
-  sent-near : (s : Slot) → Near c (sentOf s c)
+  sent-near : (s : Slot) → Near c (sentCountsOf s c)
   sent-near Select = kept
   sent-near High = kept
   sent-near Low = kept
@@ -167,8 +167,8 @@ module _ (c : Counts) where
   unfolding dataAt
   data-near end clock level = branch Q (eqb level 0) (λ _. branch Q (eqb (c .at) end) (λ _. kept) (λ _. byte-near 0)) (λ _. kept)
 
-  polled-near : Q (pollOf c)
-  unfolding pollOf
+  polled-near : Q (pollMoveOf c)
+  unfolding pollMoveOf
   polled-near = poll-near
 
   answered-near : (allowed level : ℕ) → Q (answeredOf c allowed level)
@@ -180,7 +180,7 @@ module _ (c : Counts) where
   unfolding takeAt
   take-near n clock = branch Q (eqb (c .at) n) (λ _. seen-near) (λ _. byte-near 0)
 
-  bits-near : (s : Slot) (b clock ninth level : ℕ) → Q (bitsAt s b clock ninth (takenOf s c level) (sentOf s c))
+  bits-near : (s : Slot) (b clock ninth level : ℕ) → Q (bitsAt s b clock ninth (toldCountsOf s c level) (sentCountsOf s c))
   unfolding bitsAt
   bits-near s b clock ninth level = branch Q (ltb b 8) (λ _. taken-near s level) (λ _. sent-near s)
 
@@ -194,15 +194,15 @@ heard-near d Turn level clock = lead-near (d .counts) Take clock level
 heard-near d Take level clock = take-near (d .counts) (d .request .length) clock
 
 move-near : (p : Phase) (d : Driver) (level value : ℕ) → Q (d .counts) (moveAt p d level value)
-unfolding bitsOf heardOf
+unfolding bitsMoveOf heardMoveOf
 move-near Ready d level value = ready-near (d .counts) (d .request .length)
 move-near (Bits s b) d level value = bits-near (d .counts) s b _ _ level
 move-near (Heard s) d level value = heard-near d s level _
 move-near Rest d level value = polled-near (d .counts)
 move-near (Over f) d level value = kept (d .counts)
 
-step-small : (d : Driver) (n level value : ℕ) → rangeOf d n ≡ true → smallOf d ≡ true → smallOf (stepOf d level value .driver) ≡ true
-unfolding smallOf stepOf
+step-small : (d : Driver) (n level value : ℕ) → rangeOf d n ≡ true → smallOf d ≡ true → smallOf (driverStepOf d level value .driver) ≡ true
+unfolding smallOf driverStepOf
 step-small d n level value h s =
     let g = range-request d n h in
     let c = good-counts d n h in
@@ -210,7 +210,7 @@ step-small d n level value h s =
     let m = most-fits (d .request) g in
     let w = move-near (d .phase) d level value in
     let b = all-small (numbersOf d) s in
-    small-all (numbersOf (stepOf d level value .driver)) (
+    small-all (numbersOf (driverStepOf d level value .driver)) (
       b .0,
       (
         b .1 .0,
@@ -231,7 +231,7 @@ step-small d n level value h s =
     )
 
 pub stays-small : StaysSmall
-unfolding nextOf
+unfolding driverNextOf
 stays-small d level buffer s =
     branch (λ (a : Asked). smallOf (a .driver) ≡ true) (rangeOf d (length buffer))
     (λ h. step-small d (length buffer) level (getD buffer (d .counts .at) 0) h s)

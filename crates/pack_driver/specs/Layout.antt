@@ -44,17 +44,17 @@ failedCodeOf AtData = 1
 failedCodeOf AtPolls = 2
 
 -- 0 ready, 1 to 7 in a byte, 8 to 14 after its ninth clock, 15 after a part's Stop, 16 to 18 refused
-abbrev pub phaseCodeOf : Phase → ℕ
-phaseCodeOf Ready = 0
-phaseCodeOf (Bits slot b) = 1 + slotCodeOf slot
-phaseCodeOf (Heard slot) = 8 + slotCodeOf slot
-phaseCodeOf Rest = 15
-phaseCodeOf (Over f) = 16 + failedCodeOf f
+abbrev pub driverPhaseCodeOf : Phase → ℕ
+driverPhaseCodeOf Ready = 0
+driverPhaseCodeOf (Bits slot b) = 1 + slotCodeOf slot
+driverPhaseCodeOf (Heard slot) = 8 + slotCodeOf slot
+driverPhaseCodeOf Rest = 15
+driverPhaseCodeOf (Over f) = 16 + failedCodeOf f
 
 -- ---- packed
 
-abbrev pub packedLength : ℕ
-packedLength = 35
+abbrev pub driverLength : ℕ
+driverLength = 35
 
 -- a number below this has four bytes
 abbrev pub wordEnd : ℕ
@@ -68,13 +68,13 @@ abbrev pub wordsOf : List ℕ → List ℕ
 wordsOf [] = []
 wordsOf (x ∷ xs) = wordOf x ++ wordsOf xs
 
-abbrev pub headOf : Driver → List ℕ
-headOf d =
+abbrev pub driverHeadOf : Driver → List ℕ
+driverHeadOf d =
     d .request .part
     ∷ d .request .enable
     ∷ placeCodeOf (d .request .place)
     ∷ flagOf (d .request .reads)
-    ∷ phaseCodeOf (d .phase)
+    ∷ driverPhaseCodeOf (d .phase)
     ∷ clocksOf (d .phase)
     ∷ d .counts .byte
     ∷ []
@@ -90,8 +90,8 @@ numbersOf d =
     ∷ d .counts .polls
     ∷ []
 
-unfoldable pub packedOf : Driver → List ℕ
-packedOf d = headOf d ++ wordsOf (numbersOf d)
+unfoldable pub packedDriverOf : Driver → List ℕ
+packedDriverOf d = driverHeadOf d ++ wordsOf (numbersOf d)
 
 abbrev pub allSmall : List ℕ → Bool
 allSmall [] = true
@@ -102,12 +102,12 @@ unfoldable pub smallOf : Driver → Bool
 smallOf d = allSmall (numbersOf d)
 
 -- whether a driver is packed into a buffer of n bytes
-unfoldable pub packsOf : ℕ → Driver → Bool
-packsOf n d = cond (eqb n packedLength) (smallOf d) false
+unfoldable pub packsDriverOf : ℕ → Driver → Bool
+packsDriverOf n d = cond (eqb n driverLength) (smallOf d) false
 
 -- into a lent buffer: where the driver is not packed it stays as it was
-unfoldable pub packInto : List ℕ → Driver → List ℕ
-packInto out d = cond (packsOf (length out) d) (packedOf d) out
+unfoldable pub packDriverInto : List ℕ → Driver → List ℕ
+packDriverInto out d = cond (packsDriverOf (length out) d) (packedDriverOf d) out
 
 -- ---- unpacked
 
@@ -126,19 +126,19 @@ slotIn n =
 unfoldable pub failedIn : ℕ → Failed
 failedIn n = cond (eqb n 0) AtSelect (cond (eqb n 1) AtData AtPolls)
 
-unfoldable pub phaseIn : ℕ → ℕ → Phase
-phaseIn n clocks =
+unfoldable pub driverPhaseIn : ℕ → ℕ → Phase
+driverPhaseIn n clocks =
     cond (ltb n 1) Ready
     (cond (ltb n 8) (Bits (slotIn (n - 1)) clocks)
     (cond (ltb n 15) (Heard (slotIn (n - 8)))
     (cond (ltb n 16) Rest (Over (failedIn (n - 16))))))
 
 -- four bytes as a number
-abbrev pub joinedOf : ℕ → ℕ → ℕ → ℕ → ℕ
-joinedOf a b c d = a * 16777216 + b * 65536 + c * 256 + d
+abbrev pub wordJoinedOf : ℕ → ℕ → ℕ → ℕ → ℕ
+wordJoinedOf a b c d = a * 16777216 + b * 65536 + c * 256 + d
 
 abbrev pub numberIn : List ℕ → ℕ → ℕ
-numberIn l at = joinedOf (getD l at 0) (getD l (at + 1) 0) (getD l (at + 2) 0) (getD l (at + 3) 0)
+numberIn l at = wordJoinedOf (getD l at 0) (getD l (at + 1) 0) (getD l (at + 2) 0) (getD l (at + 3) 0)
 
 abbrev pub requestIn : List ℕ → Request
 requestIn l =
@@ -155,18 +155,18 @@ abbrev pub countsIn : List ℕ → Counts
 countsIn l = record { at = numberIn l 19; seen = numberIn l 23; tries = numberIn l 27; polls = numberIn l 31; byte = getD l 6 0 }
 
 abbrev pub driverIn : List ℕ → Driver
-driverIn l = record { request = requestIn l; phase = phaseIn (getD l 4 0) (getD l 5 0); counts = countsIn l }
+driverIn l = record { request = requestIn l; phase = driverPhaseIn (getD l 4 0) (getD l 5 0); counts = countsIn l }
 
 -- only a phase inside a byte counts clocks
-unfoldable pub phaseRightOf : ℕ → ℕ → Bool
-phaseRightOf n clocks = cond (ltb n 19) (cond (eqb clocks 0) true (cond (ltb n 1) false (ltb n 8))) false
+unfoldable pub driverPhaseCodeRightOf : ℕ → ℕ → Bool
+driverPhaseCodeRightOf n clocks = cond (ltb n 19) (cond (eqb clocks 0) true (cond (ltb n 1) false (ltb n 8))) false
 
-unfoldable pub codesRightOf : ℕ → ℕ → ℕ → ℕ → Bool
-codesRightOf place reads code clocks = cond (ltb place 2) (cond (ltb reads 2) (phaseRightOf code clocks) false) false
+unfoldable pub driverCodesRightOf : ℕ → ℕ → ℕ → ℕ → Bool
+driverCodesRightOf place reads code clocks = cond (ltb place 2) (cond (ltb reads 2) (driverPhaseCodeRightOf code clocks) false) false
 
 -- bytes that hold a driver: the length, and every code one of those above
-unfoldable pub holdsOf : List ℕ → Bool
-holdsOf l = cond (eqb (length l) packedLength) (codesRightOf (getD l 2 0) (getD l 3 0) (getD l 4 0) (getD l 5 0)) false
+unfoldable pub holdsDriverOf : List ℕ → Bool
+holdsDriverOf l = cond (eqb (length l) driverLength) (driverCodesRightOf (getD l 2 0) (getD l 3 0) (getD l 4 0) (getD l 5 0)) false
 
 -- what bytes that hold none stand for: a request for no part, so that it is out of range (refusal 4) at each step
 abbrev pub noDriver : Driver
@@ -177,5 +177,5 @@ noDriver =
       counts = record { at = 0; seen = 0; tries = 0; polls = 0; byte = 0 };
     }
 
-unfoldable pub unpackedOf : List ℕ → Driver
-unpackedOf l = cond (holdsOf l) (driverIn l) noDriver
+unfoldable pub unpackedDriverOf : List ℕ → Driver
+unpackedDriverOf l = cond (holdsDriverOf l) (driverIn l) noDriver

@@ -10,11 +10,11 @@ use Rattle.parts.specs.declared.Refusal.the-variants.{BadState}
 use Rattle.parts.specs.Bytes.{AllBelow}
 use Rattle.driver.specs.declared.Driver.{Driver}
 use Rattle.driver.specs.declared.Answer.the-variants.{Refused}
-use Rattle.driver.specs.Step.{clocksOf, rangeOf, nextOf, bufferOf}
-use Rattle.pack_driver.specs.Layout.{packedLength, wordEnd, smallOf, packsOf, holdsOf}
+use Rattle.driver.specs.Step.{clocksOf, rangeOf, driverNextOf, bufferOf}
+use Rattle.pack_driver.specs.Layout.{driverLength, wordEnd, smallOf, packsDriverOf, holdsDriverOf}
 
 -- a state whose bytes fit their types
-pub record Fits (d : Driver) : Type 0 where
+pub record DriverFits (d : Driver) : Type 0 where
   pub part : d .request .part < 256
   pub enable : d .request .enable < 256
   pub clocks : clocksOf (d .phase) < 256
@@ -27,23 +27,23 @@ abbrev pub Unpacking : Type 0
 Unpacking = List ℕ → Driver
 
 -- a state that is packed is packed as bytes that hold it
-abbrev pub PacksBack : Packing → Unpacking → Type 0
-PacksBack into unpack =
-    (d : Driver) (out : List ℕ) → Fits d → packsOf (length out) d ≡ true
-    → AllBelow 256 (into out d) × (holdsOf (into out d) ≡ true) × (unpack (into out d) ≡ d)
+abbrev pub DriverPacksBack : Packing → Unpacking → Type 0
+DriverPacksBack into unpack =
+    (d : Driver) (out : List ℕ) → DriverFits d → packsDriverOf (length out) d ≡ true
+    → AllBelow 256 (into out d) × (holdsDriverOf (into out d) ≡ true) × (unpack (into out d) ≡ d)
 
 -- bytes that hold a state are the ones it is packed as, and it fits
-abbrev pub UnpacksBack : Packing → Unpacking → Type 0
-UnpacksBack into unpack =
-    (l out : List ℕ) → AllBelow 256 l → holdsOf l ≡ true → length out ≡ packedLength
-    → Fits (unpack l) × (packsOf (length out) (unpack l) ≡ true) × (into out (unpack l) ≡ l)
+abbrev pub DriverUnpacksBack : Packing → Unpacking → Type 0
+DriverUnpacksBack into unpack =
+    (l out : List ℕ) → AllBelow 256 l → holdsDriverOf l ≡ true → length out ≡ driverLength
+    → DriverFits (unpack l) × (packsDriverOf (length out) (unpack l) ≡ true) × (into out (unpack l) ≡ l)
 
 -- bytes that hold none are out of range: each step answers refusal 4, and leaves its buffer
-abbrev pub RefusesOthers : Unpacking → Type 0
-RefusesOthers unpack =
-    (l : List ℕ) → holdsOf l ≡ false
+abbrev pub DriverRefusesOthers : Unpacking → Type 0
+DriverRefusesOthers unpack =
+    (l : List ℕ) → holdsDriverOf l ≡ false
     → ((n : ℕ) → rangeOf (unpack l) n ≡ false)
-    × ((level : ℕ) (buffer : List ℕ) → nextOf (unpack l) level buffer .answer ≡ Refused BadState 0 0)
+    × ((level : ℕ) (buffer : List ℕ) → driverNextOf (unpack l) level buffer .answer ≡ Refused BadState 0 0)
     × ((level : ℕ) (buffer : List ℕ) → bufferOf (unpack l) level buffer ≡ buffer)
 
 -- a driver in range has small numbers only; but no rule limits the budget of a read, which sends no poll
@@ -56,4 +56,4 @@ SomeNotPacked = (d : Driver) × (rangeOf d (d .request .length) ≡ true) × (d 
 
 -- a step leaves them small, so a driver that was unpacked is packed again after it
 abbrev pub StaysSmall : Type 0
-StaysSmall = (d : Driver) (level : ℕ) (buffer : List ℕ) → smallOf d ≡ true → smallOf (nextOf d level buffer .driver) ≡ true
+StaysSmall = (d : Driver) (level : ℕ) (buffer : List ℕ) → smallOf d ≡ true → smallOf (driverNextOf d level buffer .driver) ≡ true

@@ -8,27 +8,27 @@ ghost use Rattle.pack_driver.specs.Layout.{
   placeCodeOf,
   slotCodeOf,
   failedCodeOf,
-  phaseCodeOf,
-  packedLength,
+  driverPhaseCodeOf,
+  driverLength,
   wordOf,
   wordsOf,
-  headOf,
+  driverHeadOf,
   numbersOf,
   smallOf,
-  packsOf,
-  packInto,
+  packsDriverOf,
+  packDriverInto,
   placeIn,
   slotIn,
   failedIn,
-  phaseIn,
+  driverPhaseIn,
   numberIn,
   requestIn,
   countsIn,
-  phaseRightOf,
-  codesRightOf,
-  holdsOf,
+  driverPhaseCodeRightOf,
+  driverCodesRightOf,
+  holdsDriverOf,
   noDriver,
-  unpackedOf,
+  unpackedDriverOf,
 };
 use driver::Counts;
 use driver::Driver;
@@ -81,7 +81,7 @@ fn failed_code(failed: Failed) -> u8
 }
 
 fn phase_code(phase: Phase) -> u8
-    ensures { λ r. ⌜ r ≡ phaseCodeOf phase ⌝ }
+    ensures { λ r. ⌜ r ≡ driverPhaseCodeOf phase ⌝ }
 {
     match phase {
         Phase::Ready => 0,
@@ -124,8 +124,8 @@ fn put_number(out: &mut [u8], at: usize, x: usize)
 }
 
 fn put_head(driver: Driver, out: &mut [u8])
-    requires { ⌜ length (now out) ≡ packedLength ⌝ }
-    ensures { λ _. ⌜ now (out .exit) ≡ sets (now (out .entry)) 0 (headOf driver) ⌝ }
+    requires { ⌜ length (now out) ≡ driverLength ⌝ }
+    ensures { λ _. ⌜ now (out .exit) ≡ sets (now (out .entry)) 0 (driverHeadOf driver) ⌝ }
 {
     let request = driver.request;
     let place = request.place;
@@ -141,7 +141,7 @@ fn put_head(driver: Driver, out: &mut [u8])
 }
 
 fn put_numbers(driver: Driver, out: &mut [u8])
-    requires { ⌜ length (now out) ≡ packedLength ⌝ }
+    requires { ⌜ length (now out) ≡ driverLength ⌝ }
     ensures { λ _. ⌜ now (out .exit) ≡ sets (now (out .entry)) 7 (wordsOf (numbersOf driver)) ⌝ }
 {
     let request = driver.request;
@@ -189,8 +189,8 @@ fn small(driver: Driver) -> bool
 // The state into a lent buffer. False, and the buffer as it was, where it has another length or a number of the state
 // has more than four bytes.
 pub fn pack(driver: Driver, out: &mut [u8]) -> bool
-    ensures answer { λ r. ⌜ r ≡ packsOf (length (now (out .entry))) driver ⌝ }
-    ensures bytes { λ _. ⌜ now (out .exit) ≡ packInto (now (out .entry)) driver ⌝ }
+    ensures answer { λ r. ⌜ r ≡ packsDriverOf (length (now (out .entry))) driver ⌝ }
+    ensures bytes { λ _. ⌜ now (out .exit) ≡ packDriverInto (now (out .entry)) driver ⌝ }
 {
     if out.len() != LENGTH {
         return false;
@@ -240,7 +240,7 @@ fn failed_in(code: u8) -> Failed
 }
 
 fn phase_in(code: u8, clocks: u8) -> Phase
-    ensures { λ r. ⌜ r ≡ phaseIn code clocks ⌝ }
+    ensures { λ r. ⌜ r ≡ driverPhaseIn code clocks ⌝ }
 {
     if code < 1 {
         return Phase::Ready;
@@ -275,7 +275,7 @@ fn number_in(bytes: &[u8], at: usize) -> usize
 }
 
 fn request_in(bytes: &[u8]) -> Request
-    requires { ⌜ length (now bytes) ≡ packedLength ⌝ }
+    requires { ⌜ length (now bytes) ≡ driverLength ⌝ }
     ensures { λ r. ⌜ r ≡ requestIn (now (bytes .entry)) ⌝ }
 {
     let place = place_in(bytes[2], number_in(bytes, 7));
@@ -292,7 +292,7 @@ fn request_in(bytes: &[u8]) -> Request
 }
 
 fn counts_in(bytes: &[u8]) -> Counts
-    requires { ⌜ length (now bytes) ≡ packedLength ⌝ }
+    requires { ⌜ length (now bytes) ≡ driverLength ⌝ }
     ensures { λ r. ⌜ r ≡ countsIn (now (bytes .entry)) ⌝ }
 {
     let at = number_in(bytes, 19);
@@ -309,7 +309,7 @@ fn counts_in(bytes: &[u8]) -> Counts
 }
 
 fn phase_right(code: u8, clocks: u8) -> bool
-    ensures { λ r. ⌜ r ≡ phaseRightOf code clocks ⌝ }
+    ensures { λ r. ⌜ r ≡ driverPhaseCodeRightOf code clocks ⌝ }
 {
     if 19 <= code {
         return false;
@@ -324,7 +324,7 @@ fn phase_right(code: u8, clocks: u8) -> bool
 }
 
 fn codes_right(place: u8, reads: u8, code: u8, clocks: u8) -> bool
-    ensures { λ r. ⌜ r ≡ codesRightOf place reads code clocks ⌝ }
+    ensures { λ r. ⌜ r ≡ driverCodesRightOf place reads code clocks ⌝ }
 {
     if 2 <= place {
         return false;
@@ -336,7 +336,7 @@ fn codes_right(place: u8, reads: u8, code: u8, clocks: u8) -> bool
 }
 
 fn holds(bytes: &[u8]) -> bool
-    ensures { λ r. ⌜ r ≡ holdsOf (now (bytes .entry)) ⌝ }
+    ensures { λ r. ⌜ r ≡ holdsDriverOf (now (bytes .entry)) ⌝ }
 {
     if bytes.len() != LENGTH {
         return false;
@@ -369,7 +369,7 @@ fn none() -> Driver
 
 // The state that the bytes hold; where they hold none, one that is out of range.
 pub fn unpack(bytes: &[u8]) -> Driver
-    ensures { λ r. ⌜ r ≡ unpackedOf (now (bytes .entry)) ⌝ }
+    ensures { λ r. ⌜ r ≡ unpackedDriverOf (now (bytes .entry)) ⌝ }
 {
     let right = holds(bytes);
     if !right {

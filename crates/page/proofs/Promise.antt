@@ -22,7 +22,7 @@ use Rattle.parts.proofs.Laws.{known, unknown, branch, fine, buffers-right}
 use Rattle.parts.proofs.Claims.{fine-lent, lent-unknown, lent-wrong, later-claim, given-first}
 use Rattle.page.specs.declared.Place.{Place}
 use Rattle.page.specs.declared.Place.the-variants.{Array, Ident}
-use Rattle.page.specs.Look.{outsideOf, lookRefusalOf, pageStartOf, lookSpanOf, lookOf, shownOf, pageSpanOf, ofArray}
+use Rattle.page.specs.Look.{outsideOf, lookRefusalOf, pageStartOf, lookSpanOf, lookOf, shownSpanOf, pageSpanOf, ofArray}
 use Rattle.page.specs.Promise.{Lengths, RefusesRightly, IsPage, ShowsPages, LiesInBuffer}
 use Rattle.page.proofs.Laws.{room, accepted}
 
@@ -71,7 +71,7 @@ module _ (part array id : ℕ) where
   unfolding lookSpanOf
   span-refused place h = empty (lookRefusalOf part array id place) h
     where
-      empty : (v : Verdict) → 0 < verdictNumberOf v → shownOf v (pageSpanOf (factsOf part) place) ≡ ofArray 0 0
+      empty : (v : Verdict) → 0 < verdictNumberOf v → shownSpanOf v (pageSpanOf (factsOf part) place) ≡ ofArray 0 0
       empty Fine z = absurd (omega arith)
       empty (Refused r) z = refl
 

@@ -40,13 +40,13 @@ pageSpanOf f (Array a) = ofArray (pageStartOf (f .page) (a .0)) (f .page)
 pageSpanOf f Ident = ofIdent 0 (f .page)
 
 -- the empty part is the array's, at its start: document 01 does not say which
-abbrev pub shownOf : Verdict → Span → Span
-shownOf Fine page = page
-shownOf (Refused r) page = ofArray 0 0
+abbrev pub shownSpanOf : Verdict → Span → Span
+shownSpanOf Fine page = page
+shownSpanOf (Refused r) page = ofArray 0 0
 
 -- what is stored has no say in it
 unfoldable pub lookSpanOf : ℕ → ℕ → ℕ → Place → Span
-lookSpanOf part array id place = shownOf (lookRefusalOf part array id place) (pageSpanOf (factsOf part) place)
+lookSpanOf part array id place = shownSpanOf (lookRefusalOf part array id place) (pageSpanOf (factsOf part) place)
 
 abbrev pub spanBytes : Span → List ℕ → List ℕ → List ℕ
 spanBytes (ofArray from many) array id = take many (drop from array)

@@ -67,7 +67,8 @@ fn page<'a>(f: Facts, array: &'a [u8], id: &'a [u8], place: Place) -> &'a [u8]
 // The page at a place, as a part of one of the lent buffers; an empty part where the look is refused.
 pub fn look<'a>(part: u8, array: &'a [u8], id: &'a [u8], place: Place) -> &'a [u8]
     ensures { λ r. ⌜ now r ≡ lookOf part (now (array .entry)) (now (id .entry)) place ⌝ }
-    ensures uncopied { λ r. ⌜ r .ptr ≡ spanAt (lookSpanOf part (length (now (array .entry))) (length (now (id .entry))) place) (array .entry .ptr) (id .entry .ptr) ⌝ }
+    ensures uncopied { λ r. ⌜ r .ptr
+        ≡ spanAt (lookSpanOf part (length (now (array .entry))) (length (now (id .entry))) place) (array .entry .ptr) (id .entry .ptr) ⌝ }
 {
     let verdict = look_refusal(part, array, id, place);
     match verdict {

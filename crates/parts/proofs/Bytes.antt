@@ -30,6 +30,10 @@ below-at [] h i = omega arith
 below-at (x ∷ l) h zero = h .0
 below-at (x ∷ l) h (suc i) = below-at l (h .1) i
 
+pub below-all : (l : List ℕ) → ((i : ℕ) → getD l i 0 < 256) → AllBelow 256 l
+below-all [] h = tt
+below-all (x ∷ l) h = (h 0, below-all l (λ i. h (suc i)))
+
 -- a list stored over the whole of another
 pub sets-whole : (k s : List ℕ) → length k ≡ length s → sets k 0 s ≡ s
 sets-whole k s e = let short : length k ≤ length s = omega arith in sets-eq s k 0 (omega arith) ∙ rw (zero-add, drop-of-length-le k short) (append-nil s)

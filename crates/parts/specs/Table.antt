@@ -11,13 +11,13 @@ use Rattle.parts.specs.declared.Name.{Name}
 use Rattle.parts.specs.declared.Part.{Part}
 use Rattle.parts.specs.declared.Facts.{Facts}
 
-abbrev lettersOf : String → List ℕ
-lettersOf []ˢ = []
-lettersOf (x ∷ˢ xs) = code x ∷ lettersOf xs
+abbrev nameLettersOf : String → List ℕ
+nameLettersOf []ˢ = []
+nameLettersOf (x ∷ˢ xs) = code x ∷ nameLettersOf xs
 
 -- the letters, and zeros behind them up to the longest name
 abbrev named : String → Name
-named s = record { bytes = take 11 (lettersOf s ++ replicate 11 0); length = length (lettersOf s) }
+named s = record { bytes = take 11 (nameLettersOf s ++ replicate 11 0); length = length (nameLettersOf s) }
 
 abbrev pub rowOf : ℕ → ℕ → Bool → Bool → Bool → ℕ → ℕ → ℕ → Bool → Facts
 rowOf size page wide ident pin enables lock group coded =

@@ -11,12 +11,12 @@ use Rattle.parts.specs.Table.{factsOf, enableRightOf}
 use Rattle.parts.specs.Refusals.{claimOf, soonerOf, lentVerdictOf}
 use Rattle.state.specs.declared.Chip.{Chip}
 use Rattle.chip.specs.Memory.{Mem}
-use Rattle.pack_chip.specs.Layout.{packInto}
+use Rattle.pack_chip.specs.Layout.{packChipInto}
 
 -- "a refused call changes no byte": its state stays as it was
-abbrev pub keptOf : Verdict → Chip → List ℕ → List ℕ
-keptOf Fine c s = packInto s c
-keptOf (Refused r) c s = s
+abbrev pub chipBytesAfter : Verdict → Chip → List ℕ → List ℕ
+chipBytesAfter Fine c s = packChipInto s c
+chipBytesAfter (Refused r) c s = s
 
 -- the refusal where no state is held: 1, 2, 3 or 4
 unfoldable pub unheldOf : ℕ → ℕ → Mem → Verdict

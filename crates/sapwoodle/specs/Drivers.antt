@@ -17,8 +17,8 @@ use Rattle.driver.specs.declared.Driver.{Driver}
 use Rattle.driver.specs.declared.Answer.{Answer}
 use Rattle.driver.specs.declared.Answer.the-variants.{Send, Done, Refused}
 use Rattle.driver.specs.Request.{judgeOf}
-use Rattle.driver.specs.Step.{fresh, nextOf, bufferOf}
-use Rattle.pack_driver.specs.Layout.{packedLength, packInto, unpackedOf}
+use Rattle.driver.specs.Step.{fresh, driverNextOf, bufferOf}
+use Rattle.pack_driver.specs.Layout.{driverLength, packDriverInto, unpackedDriverOf}
 use Rattle.sapwoodle.specs.declared.drivers.Told.{Told}
 
 -- ---- a request as numbers: what is asked for, 0 write, 1 read, 2 and 3 the same of the identification page
@@ -40,7 +40,7 @@ requestOf part enable what at n budget =
 
 -- ---- begin
 
-pub record AfterBegin : Type 0 where
+pub record BytesAfterBegin : Type 0 where
   pub number : ℕ
   pub state : List ℕ
 
@@ -50,17 +50,17 @@ roomlessOf part enable =
     soonerOf (claimOf (not (factsOf part .known)) NoPart)
     (soonerOf (claimOf (not (enableRightOf (factsOf part) enable)) WrongEnable) (Judged BadState))
 
-unfoldable pub beginVerdict : Request → List ℕ → Verdict
-beginVerdict r s = cond (eqb (length s) packedLength) (judgeOf r) (roomlessOf (r .part) (r .enable))
+unfoldable pub beginVerdictIn : Request → List ℕ → Verdict
+beginVerdictIn r s = cond (eqb (length s) driverLength) (judgeOf r) (roomlessOf (r .part) (r .enable))
 
 -- "a refused call changes no byte"
-abbrev pub begunOf : Verdict → Driver → List ℕ → List ℕ
-begunOf Fine d s = packInto s d
-begunOf (Judged r) d s = s
+abbrev pub driverBytesAfterBegin : Verdict → Driver → List ℕ → List ℕ
+driverBytesAfterBegin Fine d s = packDriverInto s d
+driverBytesAfterBegin (Judged r) d s = s
 
 -- of a request and the driver's bytes
-abbrev pub beginning : Request → List ℕ → AfterBegin
-beginning r s = record { number = verdictNumberOf (beginVerdict r s); state = begunOf (beginVerdict r s) (fresh r) s }
+abbrev pub beginning : Request → List ℕ → BytesAfterBegin
+beginning r s = record { number = verdictNumberOf (beginVerdictIn r s); state = driverBytesAfterBegin (beginVerdictIn r s) (fresh r) s }
 
 -- ---- next
 
@@ -70,20 +70,20 @@ toldOf (Send e) = record { number = 0; event = e; polls = 0; bytes = 0 }
 toldOf (Done polls bytes) = record { number = 0; event = 255; polls = polls; bytes = bytes }
 toldOf (Refused r polls bytes) = record { number = numberOf r; event = 255; polls = polls; bytes = bytes }
 
-pub record AfterNext : Type 0 where
+pub record BytesAfterNext : Type 0 where
   pub told : Told
   pub state : List ℕ
   pub buffer : List ℕ
 
 -- 4 is the one refusal that says nothing of a driver; 9 to 11 end it, and its bytes say so
-unfoldable pub keptOf : ℕ → Driver → List ℕ → List ℕ
-keptOf number d s = cond (eqb number (numberOf BadState)) s (packInto s d)
+unfoldable pub driverBytesAfterNext : ℕ → Driver → List ℕ → List ℕ
+driverBytesAfterNext number d s = cond (eqb number (numberOf BadState)) s (packDriverInto s d)
 
 -- of the driver's bytes, the level told and the data buffer
-abbrev pub asking : List ℕ → ℕ → List ℕ → AfterNext
+abbrev pub asking : List ℕ → ℕ → List ℕ → BytesAfterNext
 asking s level b =
     record {
-      told = toldOf (nextOf (unpackedOf s) level b .answer);
-      state = keptOf (toldOf (nextOf (unpackedOf s) level b .answer) .number) (nextOf (unpackedOf s) level b .driver) s;
-      buffer = bufferOf (unpackedOf s) level b;
+      told = toldOf (driverNextOf (unpackedDriverOf s) level b .answer);
+      state = driverBytesAfterNext (toldOf (driverNextOf (unpackedDriverOf s) level b .answer) .number) (driverNextOf (unpackedDriverOf s) level b .driver) s;
+      buffer = bufferOf (unpackedDriverOf s) level b;
     }

@@ -8,30 +8,30 @@ use lib.Dec.{eqb, ltb}
 use Rattle.parts.specs.declared.Verdict.{Verdict}
 use Rattle.parts.specs.Refusals.{verdictNumberOf}
 use Rattle.chip.specs.Memory.{Mem}
-use Rattle.pack_chip.specs.Layout.{packedLength, unpackedOf}
-use Rattle.sapwoodle.specs.Answers.{keptOf, unheldOf}
+use Rattle.pack_chip.specs.Layout.{chipLength, unpackedChipOf}
+use Rattle.sapwoodle.specs.Answers.{chipBytesAfter, unheldOf}
 use Rattle.image.specs.Layout.{partIn}
 use Rattle.image.specs.Calls.{saving, loadVerdictOf, loadBy, loadMem}
 
 -- ---- saving
 
-pub record AfterSave : Type 0 where
+pub record BytesAfterSave : Type 0 where
   pub number : ℕ
   pub written : ℕ
   pub out : List ℕ
 
 -- of the part, the state's bytes, what is stored and the output buffer
-abbrev pub savingOf : ℕ → List ℕ → Mem → List ℕ → AfterSave
-savingOf part s m out =
+abbrev pub savingBytes : ℕ → List ℕ → Mem → List ℕ → BytesAfterSave
+savingBytes part s m out =
     record {
-      number = verdictNumberOf (saving part (unpackedOf s) m out .answer .verdict);
-      written = saving part (unpackedOf s) m out .answer .length;
-      out = saving part (unpackedOf s) m out .out;
+      number = verdictNumberOf (saving part (unpackedChipOf s) m out .answer .verdict);
+      written = saving part (unpackedChipOf s) m out .answer .length;
+      out = saving part (unpackedChipOf s) m out .out;
     }
 
 -- ---- loading
 
-pub record AfterLoad : Type 0 where
+pub record BytesAfterLoad : Type 0 where
   pub number : ℕ
   pub part : ℕ
   pub state : List ℕ
@@ -39,18 +39,18 @@ pub record AfterLoad : Type 0 where
 
 -- a state buffer of another length is refusal 4, after 1, 2 and 3 and before 12; but an image without its part byte is 12 at once
 unfoldable pub looksOf : ℕ → ℕ → Bool
-looksOf state image = cond (eqb state packedLength) true (ltb image 6)
+looksOf state image = cond (eqb state chipLength) true (ltb image 6)
 
-unfoldable pub verdictOf : List ℕ → ℕ → List ℕ → Mem → Verdict
-verdictOf l enable s m =
+unfoldable pub loadVerdictIn : List ℕ → ℕ → List ℕ → Mem → Verdict
+loadVerdictIn l enable s m =
     cond (looksOf (length s) (length l)) (loadVerdictOf l enable (length (m .cells)) (length (m .ident))) (unheldOf (partIn l) enable m)
 
 -- of the image, the enable, the state's bytes and what is stored
-abbrev pub loadingOf : List ℕ → ℕ → List ℕ → Mem → AfterLoad
-loadingOf l enable s m =
+abbrev pub loadingBytes : List ℕ → ℕ → List ℕ → Mem → BytesAfterLoad
+loadingBytes l enable s m =
     record {
-      number = verdictNumberOf (verdictOf l enable s m);
+      number = verdictNumberOf (loadVerdictIn l enable s m);
       part = partIn l;
-      state = keptOf (verdictOf l enable s m) (loadBy l (verdictOf l enable s m) .chip) s;
-      stored = loadMem l m (verdictOf l enable s m);
+      state = chipBytesAfter (loadVerdictIn l enable s m) (loadBy l (loadVerdictIn l enable s m) .chip) s;
+      stored = loadMem l m (loadVerdictIn l enable s m);
     }

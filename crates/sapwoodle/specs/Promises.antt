@@ -1,6 +1,6 @@
 -- What is promised of the calls over bytes, stated over any functions of the form. `stepping`, `running`, `delivering`, `savingOf`,
 -- `loadingOf`, `beginning`, `asking` and `benching`, which the contracts cite, keep it: proofs/chips/Kept.antt and so on. What an image holds
--- is promised in the crate `image`, what the driver does to the chip in the crate `demands`.
+-- is promised in the crate `image`, what the driver does to the chip in the crate `bench_promises`.
 -- Assumes nothing.
 use Prim.Native.Nat.{ℕ, _<_}
 use mathlib.Core.Path.{_≡_}
@@ -20,28 +20,28 @@ use Rattle.chip.specs.Calls.{stepOf, runOf}
 use Rattle.image.specs.Layout.{partIn, lockIn}
 use Rattle.image.specs.Calls.{saving}
 use Rattle.driver.specs.declared.Request.{Request}
-use Rattle.driver.specs.Step.{fresh, nextOf}
+use Rattle.driver.specs.Step.{fresh, driverNextOf}
 use Rattle.bench.specs.Calls.{benchVerdict, benchOf}
-use Rattle.pack_chip.specs.Layout.{packedOf, holdsOf, unpackedOf}
-use Rattle.pack_chip.specs.Promises.{Fits}
-use Rattle.pack_driver.specs.Layout.{holdsOf as holdsDriver, unpackedOf as unpackedDriver}
-use Rattle.sapwoodle.specs.Chips.{AfterStep, AfterRun, AfterDeliver}
-use Rattle.sapwoodle.specs.Images.{AfterSave, AfterLoad}
-use Rattle.sapwoodle.specs.Drivers.{requestOf, AfterBegin, AfterNext}
-use Rattle.sapwoodle.specs.Runs.{AfterBench}
+use Rattle.pack_chip.specs.Layout.{packedChipOf, holdsChipOf, unpackedChipOf}
+use Rattle.pack_chip.specs.Promises.{ChipFits}
+use Rattle.pack_driver.specs.Layout.{holdsDriverOf, unpackedDriverOf}
+use Rattle.sapwoodle.specs.Chips.{BytesAfterStep, BytesAfterRun, BytesAfterDeliver}
+use Rattle.sapwoodle.specs.Images.{BytesAfterSave, BytesAfterLoad}
+use Rattle.sapwoodle.specs.Drivers.{requestOf, BytesAfterBegin, BytesAfterNext}
+use Rattle.sapwoodle.specs.Runs.{BytesAfterBench}
 
 -- ======== the chip
 
 -- of the part, the enable, the state's bytes, what is stored, and the event
 abbrev pub Stepping : Type 0
-Stepping = ℕ → ℕ → List ℕ → Mem → ℕ → AfterStep
+Stepping = ℕ → ℕ → List ℕ → Mem → ℕ → BytesAfterStep
 
 -- likewise with the events and the answer buffer
 abbrev pub Running : Type 0
-Running = ℕ → ℕ → List ℕ → Mem → List ℕ → List ℕ → AfterRun
+Running = ℕ → ℕ → List ℕ → Mem → List ℕ → List ℕ → BytesAfterRun
 
 abbrev pub Delivering : Type 0
-Delivering = ℕ → List ℕ → Mem → AfterDeliver
+Delivering = ℕ → List ℕ → Mem → BytesAfterDeliver
 
 -- ---- "a call refused for bad input changes no byte"
 
@@ -63,25 +63,25 @@ DeliverKeeps deliver =
 
 abbrev pub StepIsChips : Stepping → Type 0
 StepIsChips step =
-    (part enable : ℕ) (c : Chip) (m : Mem) (e : ℕ) → Fits c
-    → step part enable (packedOf c) m e
+    (part enable : ℕ) (c : Chip) (m : Mem) (e : ℕ) → ChipFits c
+    → step part enable (packedChipOf c) m e
     ≡ record {
       number = verdictNumberOf (stepOf part enable c m e .answer .verdict);
       level = stepOf part enable c m e .answer .level;
       cycles = stepOf part enable c m e .answer .cycles;
-      state = packedOf (stepOf part enable c m e .answer .chip);
+      state = packedChipOf (stepOf part enable c m e .answer .chip);
       stored = stepOf part enable c m e .mem;
     }
 
 abbrev pub RunIsChips : Running → Type 0
 RunIsChips run =
-    (part enable : ℕ) (c : Chip) (m : Mem) (es a : List ℕ) → Fits c
-    → run part enable (packedOf c) m es a
+    (part enable : ℕ) (c : Chip) (m : Mem) (es a : List ℕ) → ChipFits c
+    → run part enable (packedChipOf c) m es a
     ≡ record {
       number = verdictNumberOf (runOf part enable c m es a .answer .verdict);
       cycles = runOf part enable c m es a .answer .cycles;
       place = verdictPlaceOf (runOf part enable c m es a .answer .verdict);
-      state = packedOf (runOf part enable c m es a .answer .chip);
+      state = packedChipOf (runOf part enable c m es a .answer .chip);
       stored = runOf part enable c m es a .mem;
       answers = runOf part enable c m es a .answers;
     }
@@ -90,7 +90,7 @@ RunIsChips run =
 abbrev pub DeliverHolds : Delivering → Type 0
 DeliverHolds deliver =
     (part : ℕ) (s : List ℕ) (m : Mem) → deliver part s m .number ≡ 0
-    → (holdsOf (deliver part s m .state) ≡ true) × (unpackedOf (deliver part s m .state) ≡ standbyOf (factsOf part) false)
+    → (holdsChipOf (deliver part s m .state) ≡ true) × (unpackedChipOf (deliver part s m .state) ≡ standbyOf (factsOf part) false)
 
 -- ---- bytes that hold no state are refused with 4, unless 1, 2 or 3 is given
 
@@ -101,7 +101,7 @@ StepRefuses4 step =
     → enableRightOf (factsOf part) enable ≡ true
     → length (m .cells) ≡ factsOf part .size
     → length (m .ident) ≡ idSizeOf (factsOf part)
-    → holdsOf s ≡ false
+    → holdsChipOf s ≡ false
     → step part enable s m e .number ≡ numberOf BadState
 
 abbrev pub RunRefuses4 : Running → Type 0
@@ -111,37 +111,37 @@ RunRefuses4 run =
     → enableRightOf (factsOf part) enable ≡ true
     → length (m .cells) ≡ factsOf part .size
     → length (m .ident) ≡ idSizeOf (factsOf part)
-    → holdsOf s ≡ false
+    → holdsChipOf s ≡ false
     → run part enable s m es a .number ≡ numberOf BadState
 
 -- ======== the image
 
 -- of the part, the state's bytes, what is stored and the output buffer
-abbrev pub Saving : Type 0
-Saving = ℕ → List ℕ → Mem → List ℕ → AfterSave
+abbrev pub SavingBytes : Type 0
+SavingBytes = ℕ → List ℕ → Mem → List ℕ → BytesAfterSave
 
 -- of the image, the enable, the state's bytes and what is stored
-abbrev pub Loading : Type 0
-Loading = List ℕ → ℕ → List ℕ → Mem → AfterLoad
+abbrev pub LoadingBytes : Type 0
+LoadingBytes = List ℕ → ℕ → List ℕ → Mem → BytesAfterLoad
 
 -- ---- "a call refused for bad input changes no byte"
 
-abbrev pub SaveKeeps : Saving → Type 0
+abbrev pub SaveKeeps : SavingBytes → Type 0
 SaveKeeps save =
     (part : ℕ) (s : List ℕ) (m : Mem) (out : List ℕ) → (save part s m out .number ≡ 0 → ⊥)
     → (save part s m out .written ≡ 0) × (save part s m out .out ≡ out)
 
-abbrev pub LoadKeeps : Loading → Type 0
+abbrev pub LoadKeeps : LoadingBytes → Type 0
 LoadKeeps load =
     (l : List ℕ) (enable : ℕ) (s : List ℕ) (m : Mem) → (load l enable s m .number ≡ 0 → ⊥)
     → (load l enable s m .state ≡ s) × (load l enable s m .stored ≡ m)
 
 -- ---- on the bytes of a state, what is saved is the chip's image
 
-abbrev pub SaveIsImages : Saving → Type 0
+abbrev pub SaveIsImages : SavingBytes → Type 0
 SaveIsImages save =
-    (part : ℕ) (c : Chip) (m : Mem) (out : List ℕ) → Fits c
-    → save part (packedOf c) m out
+    (part : ℕ) (c : Chip) (m : Mem) (out : List ℕ) → ChipFits c
+    → save part (packedChipOf c) m out
     ≡ record {
       number = verdictNumberOf (saving part c m out .answer .verdict);
       written = saving part c m out .answer .length;
@@ -149,20 +149,20 @@ SaveIsImages save =
     }
 
 -- and the bytes hold the chip that was loaded
-abbrev pub LoadHolds : Loading → Type 0
+abbrev pub LoadHolds : LoadingBytes → Type 0
 LoadHolds load =
     (l : List ℕ) (enable : ℕ) (s : List ℕ) (m : Mem) → load l enable s m .number ≡ 0
-    → (holdsOf (load l enable s m .state) ≡ true) × (unpackedOf (load l enable s m .state) ≡ standbyOf (factsOf (partIn l)) (lockIn l))
+    → (holdsChipOf (load l enable s m .state) ≡ true) × (unpackedChipOf (load l enable s m .state) ≡ standbyOf (factsOf (partIn l)) (lockIn l))
 
 -- ======== the driver
 
 -- of a request and the driver's bytes
 abbrev pub Beginning : Type 0
-Beginning = Request → List ℕ → AfterBegin
+Beginning = Request → List ℕ → BytesAfterBegin
 
 -- of the driver's bytes, the level told and the data buffer
 abbrev pub Asking : Type 0
-Asking = List ℕ → ℕ → List ℕ → AfterNext
+Asking = List ℕ → ℕ → List ℕ → BytesAfterNext
 
 -- ---- "a call refused for bad input changes no byte"; of a step, 4 is the one such refusal
 
@@ -179,30 +179,30 @@ NextKeeps next =
 abbrev pub BeginHolds : Beginning → Type 0
 BeginHolds begin =
     (part enable what at n budget : ℕ) (s : List ℕ) → part < 256 → enable < 256 → begin (requestOf part enable what at n budget) s .number ≡ 0
-    → (holdsDriver (begin (requestOf part enable what at n budget) s .state) ≡ true)
-    × (unpackedDriver (begin (requestOf part enable what at n budget) s .state) ≡ fresh (requestOf part enable what at n budget))
+    → (holdsDriverOf (begin (requestOf part enable what at n budget) s .state) ≡ true)
+    × (unpackedDriverOf (begin (requestOf part enable what at n budget) s .state) ≡ fresh (requestOf part enable what at n budget))
 
 abbrev pub NextHolds : Asking → Type 0
 NextHolds next =
     (s : List ℕ) (level : ℕ) (b : List ℕ) → AllBelow 256 s → (next s level b .told .number ≡ numberOf BadState → ⊥)
-    → (holdsDriver (next s level b .state) ≡ true) × (unpackedDriver (next s level b .state) ≡ nextOf (unpackedDriver s) level b .driver)
+    → (holdsDriverOf (next s level b .state) ≡ true) × (unpackedDriverOf (next s level b .state) ≡ driverNextOf (unpackedDriverOf s) level b .driver)
 
 -- ---- bytes that hold no driver are refused with 4
 
 abbrev pub NextRefuses4 : Asking → Type 0
-NextRefuses4 next = (s : List ℕ) (level : ℕ) (b : List ℕ) → holdsDriver s ≡ false → next s level b .told .number ≡ numberOf BadState
+NextRefuses4 next = (s : List ℕ) (level : ℕ) (b : List ℕ) → holdsDriverOf s ≡ false → next s level b .told .number ≡ numberOf BadState
 
 -- ======== driver and chip together
 
 -- of the request, the chip's own enable, d, the state's bytes, what is stored and the buffer
 abbrev pub Benching : Type 0
-Benching = Request → ℕ → ℕ → List ℕ → Mem → List ℕ → AfterBench
+Benching = Request → ℕ → ℕ → List ℕ → Mem → List ℕ → BytesAfterBench
 
 -- "a call refused for bad input changes no byte"
 abbrev pub BenchKeeps : Benching → Type 0
 BenchKeeps bench =
     (r : Request) (enable d : ℕ) (s : List ℕ) (m : Mem) (b : List ℕ) (x : Refusal) → AllBelow 256 s
-    → benchVerdict r enable d (unpackedOf s) m b ≡ Refused x
+    → benchVerdict r enable d (unpackedChipOf s) m b ≡ Refused x
     → (bench r enable d s m b .number ≡ numberOf x)
     × (bench r enable d s m b .state ≡ s)
     × (bench r enable d s m b .stored ≡ m)
@@ -211,15 +211,15 @@ BenchKeeps bench =
 -- on the bytes of a state a run is the bench's own, and leaves the bytes of the state after it
 abbrev pub BenchIsBenchs : Benching → Type 0
 BenchIsBenchs bench =
-    (r : Request) (enable d : ℕ) (c : Chip) (m : Mem) (b : List ℕ) → Fits c
-    → bench r enable d (packedOf c) m b
+    (r : Request) (enable d : ℕ) (c : Chip) (m : Mem) (b : List ℕ) → ChipFits c
+    → bench r enable d (packedChipOf c) m b
     ≡ record {
       number = verdictNumberOf (benchOf r enable d c m b .report .verdict);
       polls = benchOf r enable d c m b .report .polls;
       bytes = benchOf r enable d c m b .report .bytes;
       cycles = benchOf r enable d c m b .report .cycles;
       clocks = benchOf r enable d c m b .report .clocks;
-      state = packedOf (benchOf r enable d c m b .report .chip);
+      state = packedChipOf (benchOf r enable d c m b .report .chip);
       stored = benchOf r enable d c m b .mem;
       buffer = benchOf r enable d c m b .buffer;
     }

@@ -6,11 +6,11 @@ use mathlib.Core.List.{List}
 use Rattle.parts.specs.Refusals.{verdictNumberOf}
 use Rattle.state.specs.declared.Chip.{Chip}
 use Rattle.chip.specs.Memory.{Mem}
-use Rattle.pack_chip.specs.Layout.{packInto, holdsOf, unpackedOf}
+use Rattle.pack_chip.specs.Layout.{packChipInto, holdsChipOf, unpackedChipOf}
 use Rattle.driver.specs.declared.Request.{Request}
 use Rattle.bench.specs.Calls.{benchOf}
 
-pub record AfterBench : Type 0 where
+pub record BytesAfterBench : Type 0 where
   pub number : ℕ
   pub polls : ℕ
   pub bytes : ℕ
@@ -21,19 +21,19 @@ pub record AfterBench : Type 0 where
   pub buffer : List ℕ
 
 -- bytes that hold no state stay as they were; a refused call leaves its chip as it was, and so its bytes
-unfoldable pub keptOf : List ℕ → Chip → List ℕ
-keptOf s c = cond (holdsOf s) (packInto s c) s
+unfoldable pub chipBytesAfterBench : List ℕ → Chip → List ℕ
+chipBytesAfterBench s c = cond (holdsChipOf s) (packChipInto s c) s
 
 -- of the request, the chip's own enable, d, the state's bytes, what is stored and the buffer
-abbrev pub benching : Request → ℕ → ℕ → List ℕ → Mem → List ℕ → AfterBench
+abbrev pub benching : Request → ℕ → ℕ → List ℕ → Mem → List ℕ → BytesAfterBench
 benching r enable d s m b =
     record {
-      number = verdictNumberOf (benchOf r enable d (unpackedOf s) m b .report .verdict);
-      polls = benchOf r enable d (unpackedOf s) m b .report .polls;
-      bytes = benchOf r enable d (unpackedOf s) m b .report .bytes;
-      cycles = benchOf r enable d (unpackedOf s) m b .report .cycles;
-      clocks = benchOf r enable d (unpackedOf s) m b .report .clocks;
-      state = keptOf s (benchOf r enable d (unpackedOf s) m b .report .chip);
-      stored = benchOf r enable d (unpackedOf s) m b .mem;
-      buffer = benchOf r enable d (unpackedOf s) m b .buffer;
+      number = verdictNumberOf (benchOf r enable d (unpackedChipOf s) m b .report .verdict);
+      polls = benchOf r enable d (unpackedChipOf s) m b .report .polls;
+      bytes = benchOf r enable d (unpackedChipOf s) m b .report .bytes;
+      cycles = benchOf r enable d (unpackedChipOf s) m b .report .cycles;
+      clocks = benchOf r enable d (unpackedChipOf s) m b .report .clocks;
+      state = chipBytesAfterBench s (benchOf r enable d (unpackedChipOf s) m b .report .chip);
+      stored = benchOf r enable d (unpackedChipOf s) m b .mem;
+      buffer = benchOf r enable d (unpackedChipOf s) m b .buffer;
     }

@@ -2,7 +2,7 @@
 ghost use mathlib.Core.Path.{_≡_};
 ghost use Rattle.chip.specs.Memory.{mem};
 ghost use Rattle.parts.specs.Refusals.{verdictNumberOf};
-ghost use Rattle.sapwoodle.specs.Answers.{keptOf, unheldOf};
+ghost use Rattle.sapwoodle.specs.Answers.{chipBytesAfter, unheldOf};
 use parts::Refusal;
 use parts::Verdict;
 use state::Chip;
@@ -10,7 +10,7 @@ use state::Chip;
 // The number of a verdict. Where nothing is refused, the state is packed.
 pub(crate) fn settle(verdict: Verdict, chip: Chip, state: &mut [u8]) -> u8
     ensures answer { λ r. ⌜ r ≡ verdictNumberOf verdict ⌝ }
-    ensures kept { λ _. ⌜ now (state .exit) ≡ keptOf verdict chip (now (state .entry)) ⌝ }
+    ensures kept { λ _. ⌜ now (state .exit) ≡ chipBytesAfter verdict chip (now (state .entry)) ⌝ }
 {
     match verdict {
         Verdict::Fine => {

@@ -6,10 +6,10 @@ ghost use Rattle.sapwoodle.specs.Drivers.{
   budgetOf,
   requestOf,
   roomlessOf,
-  begunOf,
+  driverBytesAfterBegin,
   beginning,
   toldOf,
-  keptOf,
+  driverBytesAfterNext,
   asking,
 };
 use driver::Answer;
@@ -106,7 +106,7 @@ fn roomless(part: u8, enable: u8) -> Verdict
 }
 
 fn keep_begun(verdict: Verdict, begun: Driver, state: &mut [u8])
-    ensures { λ _. ⌜ now (state .exit) ≡ begunOf verdict begun (now (state .entry)) ⌝ }
+    ensures { λ _. ⌜ now (state .exit) ≡ driverBytesAfterBegin verdict begun (now (state .entry)) ⌝ }
 {
     match verdict {
         Verdict::Fine => {
@@ -170,7 +170,7 @@ fn spoken(answer: Answer) -> Told
 }
 
 fn keep(number: u8, next: Driver, state: &mut [u8])
-    ensures { λ _. ⌜ now (state .exit) ≡ keptOf number next (now (state .entry)) ⌝ }
+    ensures { λ _. ⌜ now (state .exit) ≡ driverBytesAfterNext number next (now (state .entry)) ⌝ }
 {
     let unfit = parts::number(Refusal::BadState);
     if number == unfit {

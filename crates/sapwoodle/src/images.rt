@@ -2,7 +2,7 @@
 ghost use mathlib.Core.Path.{_≡_};
 ghost use Rattle.chip.specs.Memory.{mem};
 ghost use Rattle.image.specs.Layout.{partIn};
-ghost use Rattle.sapwoodle.specs.Images.{savingOf, looksOf, loadingOf};
+ghost use Rattle.sapwoodle.specs.Images.{savingBytes, looksOf, loadingBytes};
 use crate::answers;
 
 // The chip into a lent buffer; `written` gets the length of its image.
@@ -16,11 +16,11 @@ pub extern "C" fn sapwoodle_save(
     written: &mut usize,
 ) -> u8
     ensures answer { λ r. ⌜ r
-        ≡ savingOf part (now (state .entry)) (mem (now (array .entry)) (now (id .entry))) (now (out .entry)) .number ⌝ }
+        ≡ savingBytes part (now (state .entry)) (mem (now (array .entry)) (now (id .entry))) (now (out .entry)) .number ⌝ }
     ensures bytes { λ _. ⌜ now (out .exit)
-        ≡ savingOf part (now (state .entry)) (mem (now (array .entry)) (now (id .entry))) (now (out .entry)) .out ⌝ }
+        ≡ savingBytes part (now (state .entry)) (mem (now (array .entry)) (now (id .entry))) (now (out .entry)) .out ⌝ }
     ensures written { λ _. ⌜ now (written .exit)
-        ≡ savingOf part (now (state .entry)) (mem (now (array .entry)) (now (id .entry))) (now (out .entry)) .written ⌝ }
+        ≡ savingBytes part (now (state .entry)) (mem (now (array .entry)) (now (id .entry))) (now (out .entry)) .written ⌝ }
 {
     let chip = pack_chip::unpack(state);
     let s = image::save(part, chip, array, id, out);
@@ -60,15 +60,15 @@ pub extern "C" fn sapwoodle_load(
     part: &mut u8,
 ) -> u8
     ensures answer { λ r. ⌜ r
-        ≡ loadingOf (now (image .entry)) enable (now (state .entry)) (mem (now (array .entry)) (now (id .entry))) .number ⌝ }
+        ≡ loadingBytes (now (image .entry)) enable (now (state .entry)) (mem (now (array .entry)) (now (id .entry))) .number ⌝ }
     ensures state { λ _. ⌜ now (state .exit)
-        ≡ loadingOf (now (image .entry)) enable (now (state .entry)) (mem (now (array .entry)) (now (id .entry))) .state ⌝ }
+        ≡ loadingBytes (now (image .entry)) enable (now (state .entry)) (mem (now (array .entry)) (now (id .entry))) .state ⌝ }
     ensures cells { λ _. ⌜ now (array .exit)
-        ≡ loadingOf (now (image .entry)) enable (now (state .entry)) (mem (now (array .entry)) (now (id .entry))) .stored .cells ⌝ }
+        ≡ loadingBytes (now (image .entry)) enable (now (state .entry)) (mem (now (array .entry)) (now (id .entry))) .stored .cells ⌝ }
     ensures ident { λ _. ⌜ now (id .exit)
-        ≡ loadingOf (now (image .entry)) enable (now (state .entry)) (mem (now (array .entry)) (now (id .entry))) .stored .ident ⌝ }
+        ≡ loadingBytes (now (image .entry)) enable (now (state .entry)) (mem (now (array .entry)) (now (id .entry))) .stored .ident ⌝ }
     ensures part { λ _. ⌜ now (part .exit)
-        ≡ loadingOf (now (image .entry)) enable (now (state .entry)) (mem (now (array .entry)) (now (id .entry))) .part ⌝ }
+        ≡ loadingBytes (now (image .entry)) enable (now (state .entry)) (mem (now (array .entry)) (now (id .entry))) .part ⌝ }
 {
     let own = part_in(image);
     *part = own;

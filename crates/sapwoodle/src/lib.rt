@@ -8,8 +8,8 @@ pub mod runs;
 ghost use mathlib.Core.Path.{_≡_};
 ghost use Rattle.parts.specs.Table.{factsOf, idSizeOf};
 ghost use Rattle.parts.specs.Refusals.{verdictNumberOf};
-ghost use Rattle.pack_chip.specs.Layout.{packedLength};
-ghost use Rattle.pack_driver.specs.Layout.{packedLength as driverLength};
+ghost use Rattle.pack_chip.specs.Layout.{chipLength};
+ghost use Rattle.pack_driver.specs.Layout.{driverLength};
 ghost use Rattle.trace.specs.Trace.{traceOf, layingOf};
 ghost use Rattle.sapwoodle.specs.Lengths.{arrayLengthOf};
 
@@ -36,7 +36,7 @@ pub extern "C" fn sapwoodle_id_length(part: u8) -> usize
 
 #[no_mangle]
 pub extern "C" fn sapwoodle_state_length() -> usize
-    ensures { λ r. ⌜ r ≡ packedLength ⌝ }
+    ensures { λ r. ⌜ r ≡ chipLength ⌝ }
 {
     pack_chip::LENGTH
 }

@@ -2,12 +2,12 @@
 ghost use mathlib.Core.Path.{_≡_};
 ghost use Rattle.chip.specs.Memory.{mem};
 ghost use Rattle.sapwoodle.specs.Drivers.{requestOf};
-ghost use Rattle.sapwoodle.specs.Runs.{keptOf, benching};
+ghost use Rattle.sapwoodle.specs.Runs.{chipBytesAfterBench, benching};
 use crate::drivers;
 use state::Chip;
 
 fn keep(state: &mut [u8], chip: Chip)
-    ensures { λ _. ⌜ now (state .exit) ≡ keptOf (now (state .entry)) chip ⌝ }
+    ensures { λ _. ⌜ now (state .exit) ≡ chipBytesAfterBench (now (state .entry)) chip ⌝ }
 {
     let held = pack_chip::holds(state);
     if held {

@@ -1,6 +1,6 @@
 use Rattle.bench.specs.Held.{whole, Fit}
 use Rattle.bench.specs.Together.{turnsOf, lastOf, enough}
-use Rattle.bench.specs.Tape.{eventsOf, heardOf, laidOf}
+use Rattle.bench.specs.Tape.{tapeEventsOf, tapeLevelsOf, laidOf}
 use Rattle.driver.specs.declared.Answer.the-variants.{Done}
 use Rattle.chip.specs.Memory.{mem}
 use Rattle.parts.specs.Table.{factsOf}
@@ -28,7 +28,7 @@ Inv-loop part enable d array₀ id₀ buffer₀ events₀ levels₀ held₀ answ
     × (length events ≡ length events₀)
     × (length levels ≡ length levels₀)
     × (sent + 2 * left ≤ 12000000)
-    × Left (factsOf part) enable d left (whole held buffer (mem array id)) sent events levels (length (eventsOf (ours (factsOf part) enable) d enough (whole held₀ buffer₀ (mem array₀ id₀)))) (laidOf events₀ (eventsOf (ours (factsOf part) enable) d enough (whole held₀ buffer₀ (mem array₀ id₀)))) (laidOf levels₀ (heardOf (ours (factsOf part) enable) d enough (whole held₀ buffer₀ (mem array₀ id₀))))
+    × Left (factsOf part) enable d left (whole held buffer (mem array id)) sent events levels (length (tapeEventsOf (ours (factsOf part) enable) d enough (whole held₀ buffer₀ (mem array₀ id₀)))) (laidOf events₀ (tapeEventsOf (ours (factsOf part) enable) d enough (whole held₀ buffer₀ (mem array₀ id₀)))) (laidOf levels₀ (tapeLevelsOf (ours (factsOf part) enable) d enough (whole held₀ buffer₀ (mem array₀ id₀))))
     × (lastOf (ours (factsOf part) enable) d left answer (whole held buffer (mem array id)) ≡ lastOf (ours (factsOf part) enable) d enough (Done 0 0) (whole held₀ buffer₀ (mem array₀ id₀)))
 
 abbrev μ-loop : tie.MeasureT-loop

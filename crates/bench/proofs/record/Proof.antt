@@ -1,5 +1,5 @@
 use Rattle.bench.specs.Calls.{finalOf}
-use Rattle.laws.specs.Range.{Typed}
+use Rattle.chip_laws.specs.Range.{Typed}
 use Prim.Native.Nat.{_≤_}
 use denote.Ref.{now}
 use lib.ListN.{length, length-take}

@@ -1,5 +1,5 @@
 use borrow.Author.Needs.{needs}
-use Rattle.chip.specs.Memory.{pageStartOf}
+use Rattle.chip.specs.Memory.{counterPageOf}
 use Rattle.line.proofs.Laws.{page-room}
 use native.Mathlib.Omega.{arith}
 use Rattle.chip.proofs.page_start.Statement.{statement}
@@ -15,7 +15,7 @@ mul-result : tie.Need-mul-result
 mul-result c = omega (arith, page-room 65536 (c .facts-of .result .page) (c .before .args .counter) (c .facts-of .ensures .1 .pagePos) (c .facts-of .ensures .1 .even) (omega arith))
 
 returns : tie.Need-returns
-unfolding pageStartOf
+unfolding counterPageOf
 returns c = (simp (← c .facts-of .ensures .0), omega (arith, page-room 65536 (c .facts-of .result .page) (c .before .args .counter) (c .facts-of .ensures .1 .pagePos) (c .facts-of .ensures .1 .even) (omega arith)))
 
 pub page-start-spec : {M : Type 1} → statement M

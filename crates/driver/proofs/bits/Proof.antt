@@ -5,7 +5,7 @@ use Rattle.driver.proofs.Facts.{reach, wire-small}
 use native.Mathlib.Omega.{arith}
 use borrow.Author.Needs.{needs}
 use mathlib.Core.Path.{sym}
-use Rattle.driver.specs.Step.{bitsOf}
+use Rattle.driver.specs.Step.{bitsMoveOf}
 use Rattle.driver.proofs.bits.Statement.{statement}
 use Rattle.driver.proofs.bits.Tie as tie
 
@@ -34,7 +34,7 @@ bits-at-requires : tie.Need-bits-at-requires
 bits-at-requires c κs = search needs
 
 returns : tie.Need-returns
-unfolding bitsOf
+unfolding bitsMoveOf
 returns c = cc
 
 pub bits-spec : {M : Type 1} → statement M

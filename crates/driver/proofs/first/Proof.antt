@@ -2,7 +2,7 @@ use native.Mathlib.Nat.{mod-lt}
 use native.Mathlib.Omega.{arith}
 use borrow.Author.Needs.{needs}
 use Rattle.parts.proofs.Kit.{tests}
-use Rattle.driver.specs.Split.{firstOf}
+use Rattle.driver.specs.Split.{toPageEndOf}
 use Rattle.driver.proofs.first.Statement.{statement}
 use Rattle.driver.proofs.first.Tie as tie
 
@@ -13,11 +13,11 @@ sub-room : tie.Need-sub-room
 sub-room c = omega (arith, mod-lt (c .args .address) (c .pre))
 
 returns : tie.Need-returns
-unfolding firstOf
+unfolding toPageEndOf
 returns c = simp (tests, c .if1 .taken)
 
 returns-2 : tie.Need-returns-2
-unfolding firstOf
+unfolding toPageEndOf
 returns-2 c = simp (tests, c .if1 .left)
 
 pub first-spec : {M : Type 1} → statement M

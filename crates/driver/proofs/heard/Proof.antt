@@ -4,7 +4,7 @@ use Rattle.driver.proofs.Facts.{wire-small}
 use mathlib.Core.Path.{sym, subst}
 use borrow.Author.Needs.{needs}
 use mathlib.Core.Path.{sym}
-use Rattle.driver.specs.Step.{heardOf}
+use Rattle.driver.specs.Step.{heardMoveOf}
 use Rattle.driver.proofs.heard.Statement.{statement}
 use Rattle.driver.proofs.heard.Tie as tie
 
@@ -27,7 +27,7 @@ heard-at-requires : tie.Need-heard-at-requires
 heard-at-requires c κs = search needs
 
 returns : tie.Need-returns
-unfolding heardOf
+unfolding heardMoveOf
 returns c = simp (c .heard-at .ensures, c .before .bit .ensures, c .before .before .byte .ensures, c .before .before .before .bytes-of .ensures, c .before .before .before .before .follow .ensures, c .before .before .before .before .before .facts-of .ensures .0)
 
 pub heard-spec : {M : Type 1} → statement M

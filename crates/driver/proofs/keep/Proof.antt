@@ -1,6 +1,6 @@
 use borrow.Author.Needs.{needs}
 use Rattle.parts.proofs.Kit.{tests}
-use Rattle.driver.specs.Step.{keptOf}
+use Rattle.driver.specs.Step.{byteKeptOf}
 use Rattle.driver.proofs.keep.Statement.{statement}
 use Rattle.driver.proofs.keep.Tie as tie
 
@@ -17,15 +17,15 @@ same-length : tie.Need-same-length
 same-length c = search needs
 
 returns : tie.Need-returns
-unfolding keptOf
+unfolding byteKeptOf
 returns c = simp (tests, ← c .shift .ensures, c .before .if2 .taken, c .before .before .if1 .taken, ← c .before .before .before .whole .ensures)
 
 returns-2 : tie.Need-returns-2
-unfolding keptOf
+unfolding byteKeptOf
 returns-2 c = simp (tests, c .if2 .left, c .before .if1 .taken, ← c .before .before .whole .ensures)
 
 returns-3 : tie.Need-returns-3
-unfolding keptOf
+unfolding byteKeptOf
 returns-3 c = simp (c .if1 .left, ← c .before .whole .ensures)
 
 pub keep-spec : {M : Type 1} → statement M

@@ -1,7 +1,7 @@
 use borrow.Author.Needs.{needs}
 use mathlib.Core.Path.{sym, refl, _∙_}
 use Rattle.driver.proofs.Facts.{fit}
-use Rattle.driver.specs.Step.{nextOf, bufferOf}
+use Rattle.driver.specs.Step.{driverNextOf, bufferOf}
 use Rattle.driver.proofs.next.Statement.{statement}
 use Rattle.driver.proofs.next.Tie as tie
 
@@ -21,7 +21,7 @@ same-length : tie.Need-same-length
 same-length c = search needs
 
 returns : tie.Need-returns
-unfolding nextOf bufferOf
+unfolding driverNextOf bufferOf
 returns c =
     simp (sym (c .before .before .before .before .before .before .before .before .in-range .ensures) ∙ c .before .before .before .before .before .before .before .if1 .taken, ← c .before .before .before .before .before .peek .ensures) (c .before .before .before .before .step .ensures, c .before .before .keep .ensures)
 
@@ -29,7 +29,7 @@ unfit-requires : tie.Need-unfit-requires
 unfit-requires c κs = search needs
 
 returns-2 : tie.Need-returns-2
-unfolding nextOf bufferOf
+unfolding driverNextOf bufferOf
 returns-2 c = simp (sym (c .before .before .in-range .ensures) ∙ c .before .if1 .left) (c .unfit .ensures, refl)
 
 pub next-spec : {M : Type 1} → statement M

@@ -1,6 +1,6 @@
 use borrow.Author.Needs.{needs}
 use mathlib.Core.Path.{refl}
-use Rattle.driver.specs.Step.{pollOf}
+use Rattle.driver.specs.Step.{pollMoveOf}
 use Rattle.driver.proofs.poll.Statement.{statement}
 use Rattle.driver.proofs.poll.Tie as tie
 
@@ -11,7 +11,7 @@ add-t6 : tie.Need-add-t6
 add-t6 c = search needs
 
 returns : tie.Need-returns
-unfolding pollOf
+unfolding pollMoveOf
 returns c = refl
 
 pub poll-spec : {M : Type 1} → statement M

@@ -1,5 +1,5 @@
 use borrow.Author.Needs.{needs}
-use Rattle.driver.specs.Step.{stepOf}
+use Rattle.driver.specs.Step.{driverStepOf}
 use Rattle.driver.proofs.step.Statement.{statement}
 use Rattle.driver.proofs.step.Tie as tie
 
@@ -7,7 +7,7 @@ moved-requires : tie.Need-moved-requires
 moved-requires c κs = search needs
 
 returns : tie.Need-returns
-unfolding stepOf
+unfolding driverStepOf
 returns c = simp (c .before .before .moved .ensures)
 
 pub step-spec : {M : Type 1} → statement M

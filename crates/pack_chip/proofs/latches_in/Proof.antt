@@ -4,14 +4,14 @@ use native.Mathlib.Omega.{arith}
 use borrow.Author.Needs.{needs}
 use lib.ListN.{length, drop, length-set}
 use lib.Seq.{sets}
-use Rattle.pack_chip.specs.Layout.{rowOf}
+use Rattle.pack_chip.specs.Layout.{pairsIn}
 use Rattle.pack_chip.proofs.Laws.{row-step, row-end, row-first}
 use Rattle.pack_chip.proofs.latches_in.Statement.{statement}
 use Rattle.pack_chip.proofs.latches_in.Tie as tie
 
 abbrev Inv-loop : tie.InvT-loop
 Inv-loop bytes latch₀ i₀ at₀ latch i at =
-    (i ≤ 64) × (at ≡ 9 + 2 * i) × (length latch ≡ 64) × (sets latch i (rowOf (drop at bytes)) ≡ rowOf (drop 9 bytes))
+    (i ≤ 64) × (at ≡ 9 + 2 * i) × (length latch ≡ 64) × (sets latch i (pairsIn (drop at bytes)) ≡ pairsIn (drop 9 bytes))
 
 abbrev μ-loop : tie.MeasureT-loop
 μ-loop bytes latch₀ i₀ at₀ latch i at = 64 - i

@@ -1,12 +1,12 @@
 use borrow.Author.Needs.{needs}
 use Rattle.parts.proofs.Kit.{tests}
-use Rattle.pack_chip.specs.Layout.{packInto}
+use Rattle.pack_chip.specs.Layout.{packChipInto}
 use Rattle.pack_chip.proofs.Laws.{packed}
 use Rattle.pack_chip.proofs.pack.Statement.{statement}
 use Rattle.pack_chip.proofs.pack.Tie as tie
 
 returns : tie.Need-returns
-unfolding packInto
+unfolding packChipInto
 returns c = (simp (tests, c .if1 .taken), simp (tests, c .if1 .taken))
 
 put-line-requires : tie.Need-put-line-requires

@@ -1,7 +1,7 @@
 use mathlib.Core.Path.{_∙_, sym}
 use borrow.Author.Needs.{needs}
 use borrow.Author.Tests.{not-true, not-false}
-use Rattle.pack_chip.specs.Layout.{unpackedOf}
+use Rattle.pack_chip.specs.Layout.{unpackedChipOf}
 use Rattle.pack_chip.proofs.Laws.{holds-long}
 use Rattle.pack_chip.proofs.unpack.Statement.{statement}
 use Rattle.pack_chip.proofs.unpack.Tie as tie
@@ -13,7 +13,7 @@ none-requires : tie.Need-none-requires
 none-requires c κs = search needs
 
 returns : tie.Need-returns
-unfolding unpackedOf
+unfolding unpackedChipOf
 returns c = simp (c .none .ensures, ← c .before .before .holds .ensures, not-true (c .before .before .holds .result) (c .before .if1 .taken))
 
 line-in-requires : tie.Need-line-in-requires
@@ -24,7 +24,7 @@ latches-in-requires c κs =
     holds-long _ (sym (c .before .before .holds .ensures) ∙ not-false (c .before .before .holds .result) (c .before .if1 .left))
 
 returns-2 : tie.Need-returns-2
-unfolding unpackedOf
+unfolding unpackedChipOf
 returns-2 c =
     simp (c .latches-in .ensures, c .before .line-in .ensures, ← c .before .before .before .holds .ensures, not-false (c .before .before .before .holds .result) (c .before .before .if1 .left))
 

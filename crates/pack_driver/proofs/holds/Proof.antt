@@ -1,11 +1,11 @@
 use borrow.Author.Needs.{needs}
 use Rattle.parts.proofs.Kit.{tests}
-use Rattle.pack_driver.specs.Layout.{holdsOf}
+use Rattle.pack_driver.specs.Layout.{holdsDriverOf}
 use Rattle.pack_driver.proofs.holds.Statement.{statement}
 use Rattle.pack_driver.proofs.holds.Tie as tie
 
 returns : tie.Need-returns
-unfolding holdsOf
+unfolding holdsDriverOf
 returns c = simp (tests, c .if1 .taken)
 
 shared-slice-read-codes-right : tie.Need-shared-slice-read-codes-right
@@ -24,7 +24,7 @@ codes-right-requires : tie.Need-codes-right-requires
 codes-right-requires c κs = search needs
 
 returns-2 : tie.Need-returns-2
-unfolding holdsOf
+unfolding holdsDriverOf
 returns-2 c = simp (← c .codes-right .ensures, c .before .before .before .before .before .if1 .left)
 
 pub holds-spec : {M : Type 1} → statement M

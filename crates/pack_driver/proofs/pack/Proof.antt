@@ -1,20 +1,20 @@
 use borrow.Author.Needs.{needs}
 use Rattle.parts.proofs.Kit.{tests}
 use borrow.Author.Tests.{not-true, not-false}
-use Rattle.pack_driver.specs.Layout.{packsOf, packInto}
+use Rattle.pack_driver.specs.Layout.{packsDriverOf, packDriverInto}
 use Rattle.pack_driver.proofs.Laws.{packed-put}
 use Rattle.pack_driver.proofs.pack.Statement.{statement}
 use Rattle.pack_driver.proofs.pack.Tie as tie
 
 returns : tie.Need-returns
-unfolding packsOf packInto
+unfolding packsDriverOf packDriverInto
 returns c = (simp (tests, c .if1 .taken), simp (tests, c .if1 .taken))
 
 small-requires : tie.Need-small-requires
 small-requires c κs = search needs
 
 returns-2 : tie.Need-returns-2
-unfolding packsOf packInto
+unfolding packsDriverOf packDriverInto
 returns-2 c =
     let large = not-true (c .before .small .result) (c .if2 .taken) in
     let e = c .before .small .ensures in
@@ -31,7 +31,7 @@ same-length : tie.Need-same-length
 same-length c = search needs
 
 returns-3 : tie.Need-returns-3
-unfolding packsOf packInto
+unfolding packsDriverOf packDriverInto
 returns-3 c =
     let at = c .before .before .before .before .before .before .before .before in
     let fits = not-false (at .before .small .result) (at .if2 .left) in

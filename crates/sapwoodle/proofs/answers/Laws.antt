@@ -14,7 +14,7 @@ use Rattle.parts.specs.Refusals.{claimOf, soonerOf, lentVerdictOf}
 use Rattle.parts.proofs.Claims.{refused-not, sooner-fine}
 use Rattle.chip.specs.Memory.{Mem, noLatch}
 use Rattle.chip.specs.Delivery.{standbyOf}
-use Rattle.pack_chip.specs.Promises.{Fits}
+use Rattle.pack_chip.specs.Promises.{ChipFits}
 use Rattle.sapwoodle.specs.Answers.{unheldOf}
 
 -- where no state is held, the call is refused
@@ -31,7 +31,7 @@ all-same : (n k x : ℕ) → x < n → AllBelow n (replicate k x)
 all-same n zero x h = tt
 all-same n (suc k) x h = (h, all-same n k x h)
 
-pub standby-fits : (f : Facts) (lock : Bool) → Fits (standbyOf f lock)
+pub standby-fits : (f : Facts) (lock : Bool) → ChipFits (standbyOf f lock)
 unfolding standbyOf noLatch
 standby-fits f lock =
     record { counter = omega arith; high = omega arith; left = omega arith; shift = omega arith; latches = refl; latch = all-same 65536 64 256 (omega arith) }

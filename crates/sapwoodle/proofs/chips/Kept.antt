@@ -20,12 +20,12 @@ use Rattle.chip.specs.Memory.{Mem}
 use Rattle.chip.specs.Delivery.{standbyOf}
 use Rattle.chip.specs.Calls.{heldVerdictOf, stepVerdictOf, stepVerdict, stepBy, stepMem, runVerdictOf, runVerdict, runBy, runMem, runAnswers}
 use Rattle.chip.proofs.Laws.{held-out, step-behind, run-behind}
-use Rattle.pack_chip.specs.Layout.{packedLength, packedOf, packInto, holdsOf, unpackedOf}
-use Rattle.pack_chip.specs.Promises.{Fits}
+use Rattle.pack_chip.specs.Layout.{chipLength, packedChipOf, packChipInto, holdsChipOf, unpackedChipOf}
+use Rattle.pack_chip.specs.Promises.{ChipFits}
 use Rattle.pack_chip.proofs.Laws.{holds-long}
-use Rattle.pack_chip.proofs.Kept.{packs-back, refuses-others}
-use Rattle.sapwoodle.specs.Answers.{keptOf}
-use Rattle.sapwoodle.specs.Chips.{deliverVerdict, stepping, running, delivering}
+use Rattle.pack_chip.proofs.Kept.{chip-packs-back, chip-refuses-others}
+use Rattle.sapwoodle.specs.Answers.{chipBytesAfter}
+use Rattle.sapwoodle.specs.Chips.{deliverVerdictIn, stepping, running, delivering}
 use Rattle.sapwoodle.proofs.chips.Laws.{delivers-nothing}
 use Rattle.sapwoodle.specs.Promises.{StepKeeps, RunKeeps, DeliverKeeps, StepIsChips, RunIsChips, DeliverHolds, StepRefuses4, RunRefuses4}
 use Rattle.sapwoodle.proofs.answers.Laws.{unheld-refused, standby-fits}
@@ -33,82 +33,82 @@ use Rattle.sapwoodle.proofs.answers.Laws.{unheld-refused, standby-fits}
 -- ---- a refused call changes nothing
 
 step-keeps-by : (part enable : ℕ) (c : Chip) (s : List ℕ) (m : Mem) (e : ℕ) (v : Verdict) → (verdictNumberOf (stepBy (ours (factsOf part) enable) c m e v .verdict) ≡ 0 → ⊥)
-    → (keptOf (stepBy (ours (factsOf part) enable) c m e v .verdict) (stepBy (ours (factsOf part) enable) c m e v .chip) s ≡ s) × (stepMem (ours (factsOf part) enable) c m e v ≡ m)
+    → (chipBytesAfter (stepBy (ours (factsOf part) enable) c m e v .verdict) (stepBy (ours (factsOf part) enable) c m e v .chip) s ≡ s) × (stepMem (ours (factsOf part) enable) c m e v ≡ m)
 step-keeps-by part enable c s m e Fine h = absurd (h refl)
 step-keeps-by part enable c s m e (Refused r) h = (refl, refl)
 
 pub step-keeps : StepKeeps stepping
-step-keeps part enable s m e h = step-keeps-by part enable (unpackedOf s) s m e (stepVerdict part enable (unpackedOf s) m e) h
+step-keeps part enable s m e h = step-keeps-by part enable (unpackedChipOf s) s m e (stepVerdict part enable (unpackedChipOf s) m e) h
 
 run-keeps-by : (part enable : ℕ) (c : Chip) (s : List ℕ) (m : Mem) (es a : List ℕ) (v : Verdict) → (verdictNumberOf (runBy (ours (factsOf part) enable) c es v .verdict) ≡ 0 → ⊥)
-    → (keptOf (runBy (ours (factsOf part) enable) c es v .verdict) (runBy (ours (factsOf part) enable) c es v .chip) s ≡ s) × (runMem (ours (factsOf part) enable) c m es v ≡ m) × (runAnswers (ours (factsOf part) enable) c m es a v ≡ a)
+    → (chipBytesAfter (runBy (ours (factsOf part) enable) c es v .verdict) (runBy (ours (factsOf part) enable) c es v .chip) s ≡ s) × (runMem (ours (factsOf part) enable) c m es v ≡ m) × (runAnswers (ours (factsOf part) enable) c m es a v ≡ a)
 run-keeps-by part enable c s m es a Fine h = absurd (h refl)
 run-keeps-by part enable c s m es a (Refused r) h = (refl, refl, refl)
 
 pub run-keeps : RunKeeps running
-run-keeps part enable s m es a h = run-keeps-by part enable (unpackedOf s) s m es a (runVerdict part enable (unpackedOf s) m es a) h
+run-keeps part enable s m es a h = run-keeps-by part enable (unpackedChipOf s) s m es a (runVerdict part enable (unpackedChipOf s) m es a) h
 
 pub deliver-keeps : DeliverKeeps delivering
-deliver-keeps part s m h = delivers-nothing part _ s m (deliverVerdict part s m) (λ e. h (rw e refl))
+deliver-keeps part s m h = delivers-nothing part _ s m (deliverVerdictIn part s m) (λ e. h (rw e refl))
 
 -- ---- on the bytes of a state
 
 -- packed over a state's bytes
-over : (c n : Chip) → Fits c → packInto (packedOf c) n ≡ packedOf n
-unfolding packInto
-over c n f = rw (eq-eqb (length (packedOf c)) packedLength (holds-long (packedOf c) (packs-back c f .1))) refl
+over : (c n : Chip) → ChipFits c → packChipInto (packedChipOf c) n ≡ packedChipOf n
+unfolding packChipInto
+over c n f = rw (eq-eqb (length (packedChipOf c)) chipLength (holds-long (packedChipOf c) (chip-packs-back c f .1))) refl
 
-step-state : (part enable : ℕ) (c : Chip) (m : Mem) (e : ℕ) (v : Verdict) → Fits c
-    → keptOf (stepBy (ours (factsOf part) enable) c m e v .verdict) (stepBy (ours (factsOf part) enable) c m e v .chip) (packedOf c) ≡ packedOf (stepBy (ours (factsOf part) enable) c m e v .chip)
+step-state : (part enable : ℕ) (c : Chip) (m : Mem) (e : ℕ) (v : Verdict) → ChipFits c
+    → chipBytesAfter (stepBy (ours (factsOf part) enable) c m e v .verdict) (stepBy (ours (factsOf part) enable) c m e v .chip) (packedChipOf c) ≡ packedChipOf (stepBy (ours (factsOf part) enable) c m e v .chip)
 step-state part enable c m e Fine f = over c (stepBy (ours (factsOf part) enable) c m e Fine .chip) f
 step-state part enable c m e (Refused r) f = refl
 
 pub step-is-chips : StepIsChips stepping
 step-is-chips part enable c m e f =
-    rw (packs-back c f .2, step-state part enable c m e (stepVerdict part enable c m e) f) refl
+    rw (chip-packs-back c f .2, step-state part enable c m e (stepVerdict part enable c m e) f) refl
 
-run-state : (part enable : ℕ) (c : Chip) (m : Mem) (es : List ℕ) (v : Verdict) → Fits c
-    → keptOf (runBy (ours (factsOf part) enable) c es v .verdict) (runBy (ours (factsOf part) enable) c es v .chip) (packedOf c) ≡ packedOf (runBy (ours (factsOf part) enable) c es v .chip)
+run-state : (part enable : ℕ) (c : Chip) (m : Mem) (es : List ℕ) (v : Verdict) → ChipFits c
+    → chipBytesAfter (runBy (ours (factsOf part) enable) c es v .verdict) (runBy (ours (factsOf part) enable) c es v .chip) (packedChipOf c) ≡ packedChipOf (runBy (ours (factsOf part) enable) c es v .chip)
 run-state part enable c m es Fine f = over c (runBy (ours (factsOf part) enable) c es Fine .chip) f
 run-state part enable c m es (Refused r) f = refl
 
 pub run-is-chips : RunIsChips running
 run-is-chips part enable c m es a f =
-    rw (packs-back c f .2, run-state part enable c m es (runVerdict part enable c m es a) f) refl
+    rw (chip-packs-back c f .2, run-state part enable c m es (runVerdict part enable c m es a) f) refl
 
-deliver-long : (part : ℕ) (s : List ℕ) (m : Mem) → deliverVerdict part s m ≡ Fine → length s ≡ packedLength
-unfolding deliverVerdict
+deliver-long : (part : ℕ) (s : List ℕ) (m : Mem) → deliverVerdictIn part s m ≡ Fine → length s ≡ chipLength
+unfolding deliverVerdictIn
 deliver-long part s m =
-    branch (λ (v : Verdict). v ≡ Fine → length s ≡ packedLength) (eqb (length s) packedLength)
-    (λ e _. eqb-true (length s) packedLength e)
+    branch (λ (v : Verdict). v ≡ Fine → length s ≡ chipLength) (eqb (length s) chipLength)
+    (λ e _. eqb-true (length s) chipLength e)
     (λ _ h. absurd (unheld-refused part 0 m h))
 
 pub deliver-holds : DeliverHolds delivering
-unfolding packInto
+unfolding packChipInto
 deliver-holds part s m h =
-    let v = fine (deliverVerdict part s m) h in
-    let b = packs-back (standbyOf (factsOf part) false) (standby-fits (factsOf part) false) in
-    rw (v, eq-eqb (length s) packedLength (deliver-long part s m v)) (b .1, b .2)
+    let v = fine (deliverVerdictIn part s m) h in
+    let b = chip-packs-back (standbyOf (factsOf part) false) (standby-fits (factsOf part) false) in
+    rw (v, eq-eqb (length s) chipLength (deliver-long part s m v)) (b .1, b .2)
 
 -- ---- bytes that hold no state
 
 module _ (part enable : ℕ) (s : List ℕ) (m : Mem) (k : factsOf part .known ≡ true) (n : enableRightOf (factsOf part) enable ≡ true)
-    (a : length (m .cells) ≡ factsOf part .size) (d : length (m .ident) ≡ idSizeOf (factsOf part)) (h : holdsOf s ≡ false) where
-  out : heldVerdictOf part enable (unpackedOf s) (length (m .cells)) (length (m .ident)) ≡ Refused BadState
-  out = held-out part enable (unpackedOf s) (length (m .cells)) (length (m .ident)) k n (buffers-right (factsOf part) (length (m .cells)) (length (m .ident)) a d) (refuses-others s h part)
+    (a : length (m .cells) ≡ factsOf part .size) (d : length (m .ident) ≡ idSizeOf (factsOf part)) (h : holdsChipOf s ≡ false) where
+  out : heldVerdictOf part enable (unpackedChipOf s) (length (m .cells)) (length (m .ident)) ≡ Refused BadState
+  out = held-out part enable (unpackedChipOf s) (length (m .cells)) (length (m .ident)) k n (buffers-right (factsOf part) (length (m .cells)) (length (m .ident)) a d) (chip-refuses-others s h part)
 
-  step-4 : (e : ℕ) → stepVerdict part enable (unpackedOf s) m e ≡ Refused BadState
+  step-4 : (e : ℕ) → stepVerdict part enable (unpackedChipOf s) m e ≡ Refused BadState
   unfolding stepVerdictOf
   step-4 e = rw out (step-behind BadState part e (omega arith))
 
-  run-4 : (es b : List ℕ) → runVerdict part enable (unpackedOf s) m es b ≡ Refused BadState
+  run-4 : (es b : List ℕ) → runVerdict part enable (unpackedChipOf s) m es b ≡ Refused BadState
   unfolding runVerdictOf
   run-4 es b = rw out (run-behind BadState part es (length b) (omega arith))
 
 pub step-refuses-4 : StepRefuses4 stepping
 step-refuses-4 part enable s m e k n a d h =
-    ap (λ (w : Verdict). verdictNumberOf (stepBy (ours (factsOf part) enable) (unpackedOf s) m e w .verdict)) (step-4 part enable s m k n a d h e)
+    ap (λ (w : Verdict). verdictNumberOf (stepBy (ours (factsOf part) enable) (unpackedChipOf s) m e w .verdict)) (step-4 part enable s m k n a d h e)
 
 pub run-refuses-4 : RunRefuses4 running
 run-refuses-4 part enable s m es b k n a d h =
-    ap (λ (w : Verdict). verdictNumberOf (runBy (ours (factsOf part) enable) (unpackedOf s) es w .verdict)) (run-4 part enable s m k n a d h es b)
+    ap (λ (w : Verdict). verdictNumberOf (runBy (ours (factsOf part) enable) (unpackedChipOf s) es w .verdict)) (run-4 part enable s m k n a d h es b)

@@ -11,7 +11,7 @@ use Rattle.parts.specs.Table.{factsOf, enableRightOf}
 use Rattle.parts.specs.Refusals.{claimOf, soonerOf}
 use Rattle.parts.proofs.Claims.{refused-not, sooner-fine}
 use Rattle.driver.specs.declared.Driver.{Driver}
-use Rattle.sapwoodle.specs.Drivers.{roomlessOf, begunOf}
+use Rattle.sapwoodle.specs.Drivers.{roomlessOf, driverBytesAfterBegin}
 
 -- where a driver has no room, the call is refused
 pub roomless-refused : (part enable : ℕ) → roomlessOf part enable ≡ Fine → ⊥
@@ -21,6 +21,6 @@ roomless-refused part enable h =
     let u = sooner-fine (claimOf (not (factsOf part .known)) NoPart) (soonerOf named (Refused BadState)) h in
     refused-not (sooner-fine named (Refused BadState) (u .1) .1)
 
-pub begins-nothing : (d : Driver) (s : List ℕ) (v : Verdict) → (v ≡ Fine → ⊥) → begunOf v d s ≡ s
+pub begins-nothing : (d : Driver) (s : List ℕ) (v : Verdict) → (v ≡ Fine → ⊥) → driverBytesAfterBegin v d s ≡ s
 begins-nothing d s Fine h = absurd (h refl)
 begins-nothing d s (Refused r) h = refl

@@ -17,7 +17,7 @@ use Rattle.driver.specs.declared.Counts.{Counts}
 use Rattle.driver.specs.declared.Driver.{Driver}
 use Rattle.driver.specs.declared.Move.{Move}
 use Rattle.driver.specs.Request.{allowedOf}
-use Rattle.driver.specs.Step.{shiftOf, withByte, withPoll, withSeen, takenOf, sentOf, goes, readyOf, bitsAt, leadAt, lowAt, dataAt, pollOf, answeredOf, takeAt, heardAt, heardOf, bitsOf, overOf, moveAt, clocksOf}
+use Rattle.driver.specs.Step.{shiftOf, withByte, withPoll, withSeen, toldCountsOf, sentCountsOf, sendThen, readyOf, bitsAt, leadAt, lowAt, dataAt, pollMoveOf, answeredOf, takeAt, heardAt, heardMoveOf, bitsMoveOf, overOf, moveAt, clocksOf}
 use Rattle.sapwoodle.specs.Drivers.{toldOf}
 
 pub record Well (m : Move) : Type 0 where
@@ -25,7 +25,7 @@ pub record Well (m : Move) : Type 0 where
   pub byte : m .counts .byte < 256
   pub told : toldOf (m .answer) .number ≡ 4 → ⊥
 
-sends : (e : ℕ) (p : Phase) (c : Counts) → clocksOf p ≤ 8 → c .byte < 256 → Well (goes e p c)
+sends : (e : ℕ) (p : Phase) (c : Counts) → clocksOf p ≤ 8 → c .byte < 256 → Well (sendThen e p c)
 sends e p c k b = record { clocks = k; byte = b; told = λ h. omega arith }
 
 shift-low : (byte level : ℕ) → shiftOf byte level < 256
@@ -33,7 +33,7 @@ unfolding shiftOf
 shift-low byte level = branch (λ (n : ℕ). n < 256) (eqb level 0) (λ _. omega arith) (λ _. omega arith)
 
 module _ (c : Counts) (b : c .byte < 256) where
-  taken-low : (s : Slot) (level : ℕ) → takenOf s c level .byte < 256
+  taken-low : (s : Slot) (level : ℕ) → toldCountsOf s c level .byte < 256
   taken-low Select level = b
   taken-low High level = b
   taken-low Low level = b
@@ -42,7 +42,7 @@ module _ (c : Counts) (b : c .byte < 256) where
   taken-low Turn level = b
   taken-low Take level = shift-low (c .byte) level
 
-  sent-low : (s : Slot) → sentOf s c .byte < 256
+  sent-low : (s : Slot) → sentCountsOf s c .byte < 256
   sent-low Select = b
   sent-low High = b
   sent-low Low = b
@@ -51,7 +51,7 @@ module _ (c : Counts) (b : c .byte < 256) where
   sent-low Turn = b
   sent-low Take = b
 
-  opened : (s : Slot) (clock : ℕ) → Well (goes clock (Bits s 1) (withByte c 0))
+  opened : (s : Slot) (clock : ℕ) → Well (sendThen clock (Bits s 1) (withByte c 0))
   opened s clock = sends clock (Bits s 1) (withByte c 0) (omega arith) (omega arith)
 
   ready-well : (n : ℕ) → Well (readyOf c n)
@@ -76,8 +76,8 @@ module _ (c : Counts) (b : c .byte < 256) where
       branch Well (eqb level 0) (λ _. branch Well (eqb (c .at) end) (λ _. sends 3 Rest c (omega arith) b) (λ _. opened Data clock))
       (λ _. sends 3 (Over AtData) c (omega arith) b)
 
-  poll-well : Well (pollOf c)
-  unfolding pollOf
+  poll-well : Well (pollMoveOf c)
+  unfolding pollMoveOf
   poll-well = sends 2 (Bits Poll 0) (withPoll c) (omega arith) b
 
   answered-well : (allowed level : ℕ) → Well (answeredOf c allowed level)
@@ -90,12 +90,12 @@ module _ (c : Counts) (b : c .byte < 256) where
   unfolding takeAt
   take-well n clock = branch Well (eqb (c .at) n) (λ _. sends 3 Ready (withSeen c) (omega arith) b) (λ _. opened Take clock)
 
-  bits-well : (s : Slot) (k clock ninth level : ℕ) → Well (bitsAt s k clock ninth (takenOf s c level) (sentOf s c))
+  bits-well : (s : Slot) (k clock ninth level : ℕ) → Well (bitsAt s k clock ninth (toldCountsOf s c level) (sentCountsOf s c))
   unfolding bitsAt
   bits-well s k clock ninth level =
       branch Well (ltb k 8)
-      (λ h. let l = ltb-true k 8 h in sends clock (Bits s (k + 1)) (takenOf s c level) (omega arith) (taken-low s level))
-      (λ _. sends ninth (Heard s) (sentOf s c) (omega arith) (sent-low s))
+      (λ h. let l = ltb-true k 8 h in sends clock (Bits s (k + 1)) (toldCountsOf s c level) (omega arith) (taken-low s level))
+      (λ _. sends ninth (Heard s) (sentCountsOf s c) (omega arith) (sent-low s))
 
   over-well : (f : Failed) → Well (overOf f c)
   over-well AtSelect = record { clocks = omega arith; byte = b; told = λ h. omega arith }
@@ -112,7 +112,7 @@ heard-well d Turn level clock b = lead-well (d .counts) b Take clock level
 heard-well d Take level clock b = take-well (d .counts) b (d .request .length) clock
 
 pub move-well : (p : Phase) (d : Driver) (level value : ℕ) → d .counts .byte < 256 → Well (moveAt p d level value)
-unfolding bitsOf heardOf
+unfolding bitsMoveOf heardMoveOf
 move-well Ready d level value b = ready-well (d .counts) b (d .request .length)
 move-well (Bits s k) d level value b = bits-well (d .counts) b s k _ _ level
 move-well (Heard s) d level value b = heard-well d s level _ b

@@ -1,4 +1,4 @@
--- `savingOf` and `loadingOf` keep what is promised of them.
+-- `savingBytes` and `loadingBytes` keep what is promised of them.
 -- Assumes nothing.
 use Prim.Native.Nat.{ℕ, _<_}
 use mathlib.Core.Path.{_≡_, refl}
@@ -16,29 +16,29 @@ use Rattle.parts.specs.Refusals.{verdictNumberOf}
 use Rattle.parts.proofs.Laws.{branch, fine}
 use Rattle.chip.specs.Memory.{Mem}
 use Rattle.chip.specs.Delivery.{standbyOf}
-use Rattle.pack_chip.specs.Layout.{packedLength, packInto, unpackedOf}
-use Rattle.pack_chip.proofs.Kept.{packs-back}
+use Rattle.pack_chip.specs.Layout.{chipLength, packChipInto, unpackedChipOf}
+use Rattle.pack_chip.proofs.Kept.{chip-packs-back}
 use Rattle.sapwoodle.proofs.answers.Laws.{unheld-refused, standby-fits}
 use Rattle.image.specs.Layout.{partIn, lockIn}
 use Rattle.image.specs.Calls.{saveVerdictOf, saveBy, saveOut, loadVerdictOf}
-use Rattle.sapwoodle.specs.Images.{looksOf, verdictOf, savingOf, loadingOf}
+use Rattle.sapwoodle.specs.Images.{looksOf, loadVerdictIn, savingBytes, loadingBytes}
 use Rattle.sapwoodle.specs.Promises.{SaveKeeps, LoadKeeps, SaveIsImages, LoadHolds}
 use Rattle.sapwoodle.proofs.images.Laws.{loads-nothing}
 
 save-keeps-by : (part : ℕ) (s : List ℕ) (m : Mem) (out : List ℕ) (v : Verdict) → (verdictNumberOf (saveBy (factsOf part) v .verdict) ≡ 0 → ⊥)
-    → (saveBy (factsOf part) v .length ≡ 0) × (saveOut part (unpackedOf s) m out v ≡ out)
+    → (saveBy (factsOf part) v .length ≡ 0) × (saveOut part (unpackedChipOf s) m out v ≡ out)
 save-keeps-by part s m out Fine h = absurd (h refl)
 save-keeps-by part s m out (Refused r) h = (refl, refl)
 
-pub save-keeps : SaveKeeps savingOf
+pub save-keeps : SaveKeeps savingBytes
 save-keeps part s m out h =
-    save-keeps-by part s m out (saveVerdictOf part (unpackedOf s) (length (m .cells)) (length (m .ident)) (length out)) h
+    save-keeps-by part s m out (saveVerdictOf part (unpackedChipOf s) (length (m .cells)) (length (m .ident)) (length out)) h
 
-pub save-is-images : SaveIsImages savingOf
-save-is-images part c m out f = rw (packs-back c f .2) refl
+pub save-is-images : SaveIsImages savingBytes
+save-is-images part c m out f = rw (chip-packs-back c f .2) refl
 
-pub load-keeps : LoadKeeps loadingOf
-load-keeps l enable s m h = loads-nothing l _ s m (verdictOf l enable s m) (λ e. h (rw e refl))
+pub load-keeps : LoadKeeps loadingBytes
+load-keeps l enable s m h = loads-nothing l _ s m (loadVerdictIn l enable s m) (λ e. h (rw e refl))
 
 short-refused : (l : List ℕ) (enable n d : ℕ) → length l < 6 → loadVerdictOf l enable n d ≡ Fine → ⊥
 unfolding loadVerdictOf
@@ -47,23 +47,23 @@ short-refused l enable n d k h =
     let z : _≡_ {A = ℕ} 0 1 = cc in
     omega arith
 
-looked : (l s : List ℕ) (enable n d : ℕ) → looksOf (length s) (length l) ≡ true → loadVerdictOf l enable n d ≡ Fine → length s ≡ packedLength
+looked : (l s : List ℕ) (enable n d : ℕ) → looksOf (length s) (length l) ≡ true → loadVerdictOf l enable n d ≡ Fine → length s ≡ chipLength
 unfolding looksOf
 looked l s enable n d =
-    branch (λ (b : Bool). b ≡ true → loadVerdictOf l enable n d ≡ Fine → length s ≡ packedLength) (eqb (length s) packedLength)
-    (λ e _ _. eqb-true (length s) packedLength e)
+    branch (λ (b : Bool). b ≡ true → loadVerdictOf l enable n d ≡ Fine → length s ≡ chipLength) (eqb (length s) chipLength)
+    (λ e _ _. eqb-true (length s) chipLength e)
     (λ _ k h. absurd (short-refused l enable n d (ltb-true (length l) 6 k) h))
 
-load-long : (l : List ℕ) (enable : ℕ) (s : List ℕ) (m : Mem) → verdictOf l enable s m ≡ Fine → length s ≡ packedLength
-unfolding verdictOf
+load-long : (l : List ℕ) (enable : ℕ) (s : List ℕ) (m : Mem) → loadVerdictIn l enable s m ≡ Fine → length s ≡ chipLength
+unfolding loadVerdictIn
 load-long l enable s m =
-    branch (λ (v : Verdict). v ≡ Fine → length s ≡ packedLength) (looksOf (length s) (length l))
+    branch (λ (v : Verdict). v ≡ Fine → length s ≡ chipLength) (looksOf (length s) (length l))
     (λ k h. looked l s enable (length (m .cells)) (length (m .ident)) k h)
     (λ _ h. absurd (unheld-refused (partIn l) enable m h))
 
-pub load-holds : LoadHolds loadingOf
-unfolding packInto
+pub load-holds : LoadHolds loadingBytes
+unfolding packChipInto
 load-holds l enable s m h =
-    let v = fine (verdictOf l enable s m) h in
-    let b = packs-back (standbyOf (factsOf (partIn l)) (lockIn l)) (standby-fits (factsOf (partIn l)) (lockIn l)) in
-    rw (v, eq-eqb (length s) packedLength (load-long l enable s m v)) (b .1, b .2)
+    let v = fine (loadVerdictIn l enable s m) h in
+    let b = chip-packs-back (standbyOf (factsOf (partIn l)) (lockIn l)) (standby-fits (factsOf (partIn l)) (lockIn l)) in
+    rw (v, eq-eqb (length s) chipLength (load-long l enable s m v)) (b .1, b .2)

@@ -7,9 +7,9 @@ use Rattle.parts.specs.declared.Verdict.{Verdict}
 use Rattle.parts.specs.declared.Verdict.the-variants.{Fine, Refused}
 use Rattle.state.specs.declared.Chip.{Chip}
 use Rattle.chip.specs.Memory.{Mem}
-use Rattle.sapwoodle.specs.Answers.{keptOf}
+use Rattle.sapwoodle.specs.Answers.{chipBytesAfter}
 use Rattle.image.specs.Calls.{loadMem}
 
-pub loads-nothing : (l : List ℕ) (c : Chip) (s : List ℕ) (m : Mem) (v : Verdict) → (v ≡ Fine → ⊥) → (keptOf v c s ≡ s) × (loadMem l m v ≡ m)
+pub loads-nothing : (l : List ℕ) (c : Chip) (s : List ℕ) (m : Mem) (v : Verdict) → (v ≡ Fine → ⊥) → (chipBytesAfter v c s ≡ s) × (loadMem l m v ≡ m)
 loads-nothing l c s m Fine h = absurd (h refl)
 loads-nothing l c s m (Refused r) h = (refl, refl)

@@ -3,7 +3,7 @@ use borrow.Author.Tests.{eq-eqb, ne-eqb}
 use denote.Ref.{now}
 use Rattle.chip.specs.Memory.{Mem, mem}
 use Rattle.sapwoodle.proofs.answers.Laws.{unheld-refused}
-use Rattle.sapwoodle.specs.Chips.{deliverVerdict}
+use Rattle.sapwoodle.specs.Chips.{deliverVerdictIn}
 use Rattle.sapwoodle.proofs.chips.Laws.{delivers-nothing}
 use borrow.Author.Needs.{needs}
 use Rattle.sapwoodle.proofs.chips.sapwoodle_deliver.Statement.{statement}
@@ -22,7 +22,7 @@ same-length-2 : tie.Need-same-length-2
 same-length-2 c = search needs
 
 returns : tie.Need-returns
-unfolding deliverVerdict
+unfolding deliverVerdictIn
 returns c =
     let w = ne-eqb _ _ (c .before .before .before .before .if1 .taken) in
     let a = c .before .before .before .before .before .before .before .before .args in
@@ -46,7 +46,7 @@ same-length-5 : tie.Need-same-length-5
 same-length-5 c = search needs
 
 returns-2 : tie.Need-returns-2
-unfolding deliverVerdict
+unfolding deliverVerdictIn
 returns-2 c =
     let w = eq-eqb _ _ (c .before .before .before .before .before .before .before .before .before .before .before .before .if1 .left) in
     let d = c .before .before .before .before .before .before .before .before .before .deliver .ensures in

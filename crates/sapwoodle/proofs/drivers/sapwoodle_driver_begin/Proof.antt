@@ -1,6 +1,6 @@
 use mathlib.Core.Path.{refl, sym}
 use borrow.Author.Tests.{eq-eqb, ne-eqb}
-use Rattle.sapwoodle.specs.Drivers.{beginVerdict}
+use Rattle.sapwoodle.specs.Drivers.{beginVerdictIn}
 use Rattle.sapwoodle.proofs.drivers.Laws.{roomless-refused, begins-nothing}
 use borrow.Author.Needs.{needs}
 use Rattle.sapwoodle.proofs.drivers.sapwoodle_driver_begin.Statement.{statement}
@@ -13,7 +13,7 @@ verdict-number-requires : tie.Need-verdict-number-requires
 verdict-number-requires c κs = search needs
 
 returns : tie.Need-returns
-unfolding beginVerdict
+unfolding beginVerdictIn
 returns c =
     let w = ne-eqb _ _ (c .before .before .if1 .taken) in
     let u = c .before .roomless .ensures in
@@ -35,7 +35,7 @@ same-length : tie.Need-same-length
 same-length c = search needs
 
 returns-2 : tie.Need-returns-2
-unfolding beginVerdict
+unfolding beginVerdictIn
 returns-2 c =
     let w = eq-eqb _ _ (c .before .before .before .before .before .before .before .before .if1 .left) in
     let b = c .before .before .before .before .before .before .begin .ensures in

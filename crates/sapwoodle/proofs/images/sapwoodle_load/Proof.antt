@@ -6,7 +6,7 @@ use denote.Ref.{now}
 use Rattle.chip.specs.Memory.{Mem, mem}
 use Rattle.image.specs.Layout.{partIn}
 use Rattle.sapwoodle.proofs.answers.Laws.{unheld-refused}
-use Rattle.sapwoodle.specs.Images.{verdictOf}
+use Rattle.sapwoodle.specs.Images.{loadVerdictIn}
 use Rattle.image.proofs.Kept.{load-verdict}
 use Rattle.sapwoodle.proofs.images.Laws.{loads-nothing}
 use borrow.Author.Needs.{needs}
@@ -32,7 +32,7 @@ same-length-2 : tie.Need-same-length-2
 same-length-2 c = search needs
 
 returns : tie.Need-returns
-unfolding verdictOf
+unfolding loadVerdictIn
 returns c =
     let a = c .before .before .before .before .before .before .before .before .before .before .before .args in
     let m = mem (now (a .array)) (now (a .id)) in
@@ -57,7 +57,7 @@ same-length-5 : tie.Need-same-length-5
 same-length-5 c = search needs
 
 returns-2 : tie.Need-returns-2
-unfolding verdictOf
+unfolding loadVerdictIn
 returns-2 c =
     let a = c .before .before .before .before .before .before .before .before .before .before .before .before .before .before .before .before .before .before .before .args in
     let w = sym (c .before .before .before .before .before .before .before .before .before .before .before .before .before .looks .ensures) ∙ not-false (c .before .before .before .before .before .before .before .before .before .before .before .before .before .looks .result) (c .before .before .before .before .before .before .before .before .before .before .before .before .if1 .left) in

@@ -1,0 +1,125 @@
+-- Demand 2, its second sentence: "On an idle chip of the named part and enable, power kept and no outside event but cycle ends,
+-- what our driver reports written is then stored, what it reads is what is there, and bytes it was not asked to write are as
+-- before." Each statement is a type over the function `run` that makes a run of choices, so that a run can break it; choices are
+-- any list: true asks the driver once, false ends the chip's cycle, if one runs. So each holds at every moment of every run.
+-- Proved of `togetherOf` of crate bench in proofs/.
+-- Assumes nothing.
+use Prim.Native.Nat.{ℕ, _+_, _<_, _≤_}
+use mathlib.Core.Path.{_≡_}
+use mathlib.Core.Bool.{Bool, true, false}
+use mathlib.Core.Logic.{_⊎_}
+use mathlib.Core.List.{List, [], _∷_}
+use lib.ListN.{length, getD}
+use Rattle.parts.specs.declared.Facts.{Facts}
+use Rattle.parts.specs.declared.Refusal.{Refusal}
+use Rattle.parts.specs.declared.Refusal.the-variants.{NoSelect}
+use Rattle.parts.specs.Table.{factsOf}
+use Rattle.parts.specs.Bytes.{AllBelow}
+use Rattle.line.specs.declared.Target.{Target}
+use Rattle.line.specs.declared.Target.the-variants.{Array as TheArray, Ident as TheIdent}
+use Rattle.line.specs.declared.Phase.the-variants.{Idle}
+use Rattle.state.specs.declared.Chip.{Chip}
+use Rattle.state.specs.Range.{inRangeOf}
+use Rattle.chip.specs.Memory.{Mem, cellsOf}
+use Rattle.chip_laws.specs.Range.{Typed}
+use Rattle.driver.specs.declared.Request.{Request}
+use Rattle.driver.specs.declared.Answer.{Answer}
+use Rattle.driver.specs.declared.Answer.the-variants.{Send, Done, Refused}
+use Rattle.driver.specs.Request.{fromOf}
+use Rattle.driver.specs.Step.{driverNextOf}
+use Rattle.driver_promises.specs.Run.{boundOf}
+use Rattle.driver_promises.specs.Promises.{Accepted}
+use Rattle.bench.specs.Together.{System, startOf}
+use Rattle.bench_promises.specs.Ground.{targetOf, OnIdle}
+
+-- a run of choices, from a system
+abbrev pub Runs : Type 0
+Runs = Facts → ℕ → List Bool → System → System
+
+-- an accepted request and its buffer, on an idle chip
+pub record Begins (r : Request) (xs : List ℕ) (c : Chip) (m : Mem) : Type 0 where
+  pub accepted : Accepted r xs
+  pub bytes : AllBelow 256 xs
+  pub idle : OnIdle r c m
+
+-- what the driver answers when it is asked next
+abbrev pub answerOf : System → Answer
+answerOf s = driverNextOf (s .driver) (s .level) (s .buffer) .answer
+
+-- the leading bytes that an answer reports
+abbrev pub reportedOf : Answer → ℕ
+reportedOf (Send e) = 0
+reportedOf (Done polls bytes) = bytes
+reportedOf (Refused f polls bytes) = bytes
+
+-- how often the driver was asked
+abbrev pub askings : List Bool → ℕ
+askings [] = 0
+askings (true ∷ bs) = askings bs + 1
+askings (false ∷ bs) = askings bs
+
+-- the memory that a request does not speak of
+abbrev pub otherOf : Target → Target
+otherOf TheArray = TheIdent
+otherOf TheIdent = TheArray
+
+module _ (r : Request) (xs : List ℕ) (c : Chip) (m : Mem) (s : System) where
+  -- the byte at place i of the memory that the request speaks of: now, and at first
+  abbrev pub now : ℕ → ℕ
+  now i = getD (cellsOf (targetOf (r .place)) (s .mem)) i 0
+
+  abbrev pub before : ℕ → ℕ
+  before i = getD (cellsOf (targetOf (r .place)) m) i 0
+
+  -- a write, at any moment, refused or not
+  pub record Safe : Type 0 where
+    -- "what our driver reports written is then stored"; so it is as soon as the driver has seen the cycle's end
+    pub reported : (i : ℕ) → i < reportedOf (answerOf s) → now (fromOf (r .place) + i) ≡ getD xs i 0
+    pub seen : (i : ℕ) → i < s .driver .counts .seen → now (fromOf (r .place) + i) ≡ getD xs i 0
+    -- done is all of it
+    pub done : (q n : ℕ) → answerOf s ≡ Done q n → n ≡ r .length
+    -- and the chip is idle again, for the next request
+    pub idle : (q n : ℕ) → answerOf s ≡ Done q n → s .chip .line .phase ≡ Idle
+    -- a chip of the named part and enable acknowledges its select and address: refusal 9 is never met
+    pub selected : (q n : ℕ) → answerOf s ≡ Refused NoSelect q n → ⊥
+    -- "bytes it was not asked to write are as before": outside what was asked, in the other memory, and the lock
+    pub outside : (i : ℕ) → (i < fromOf (r .place)) ⊎ (fromOf (r .place) + r .length ≤ i) → now i ≡ before i
+    pub other : cellsOf (otherOf (targetOf (r .place))) (s .mem) ≡ cellsOf (otherOf (targetOf (r .place))) m
+    pub sizes : length (cellsOf (targetOf (r .place)) (s .mem)) ≡ length (cellsOf (targetOf (r .place)) m)
+    pub lock : s .chip .line .core .locked ≡ c .line .core .locked
+    -- and a byte that was asked for is as before or as asked
+    pub inside : (i : ℕ) → i < r .length → (now (fromOf (r .place) + i) ≡ before (fromOf (r .place) + i)) ⊎ (now (fromOf (r .place) + i) ≡ getD xs i 0)
+
+  -- a read, at any moment: nothing stored changes, it is never refused, and done it has the bytes that are there
+  pub record ReadRight : Type 0 where
+    pub mem : s .mem ≡ m
+    pub lock : s .chip .line .core .locked ≡ c .line .core .locked
+    pub cycles : s .cycles ≡ 0
+    pub refused : (f : Refusal) (q n : ℕ) → answerOf s ≡ Refused f q n → ⊥
+    pub done : (q n : ℕ) → answerOf s ≡ Done q n → n ≡ r .length
+    pub read : (q n : ℕ) → answerOf s ≡ Done q n → (i : ℕ) → i < r .length → getD (s .buffer) i 0 ≡ before (fromOf (r .place) + i)
+    pub size : length (s .buffer) ≡ r .length
+    pub idle : (q n : ℕ) → answerOf s ≡ Done q n → s .chip .line .phase ≡ Idle
+
+-- the statements
+module _ (run : Runs) where
+  abbrev pub systemAfter : Request → List ℕ → Chip → Mem → List Bool → System
+  systemAfter r xs c m bs = run (factsOf (r .part)) (r .enable) bs (startOf r xs c m)
+
+  -- writes, of the array and of the identification page
+  abbrev pub WritesSafe : Type 0
+  WritesSafe = (r : Request) (xs : List ℕ) (c : Chip) (m : Mem) (bs : List Bool) → r .reads ≡ false → Begins r xs c m → Safe r xs c m (systemAfter r xs c m bs)
+
+  -- "what it reads is what is there"
+  abbrev pub ReadsRight : Type 0
+  ReadsRight = (r : Request) (xs : List ℕ) (c : Chip) (m : Mem) (bs : List Bool) → r .reads ≡ true → Begins r xs c m → ReadRight r xs c m (systemAfter r xs c m bs)
+
+  -- and when it has been asked more often than a formula of the request, it is done
+  abbrev pub ReadsEnd : Type 0
+  ReadsEnd = (r : Request) (xs : List ℕ) (c : Chip) (m : Mem) (bs : List Bool) → r .reads ≡ true → Begins r xs c m → boundOf r < askings bs
+      → answerOf (systemAfter r xs c m bs) ≡ Done 0 (r .length)
+
+  -- a chip in range stays in range, so that a next request is not refused for the state
+  abbrev pub StaysInRange : Type 0
+  StaysInRange = (r : Request) (xs : List ℕ) (c : Chip) (m : Mem) (bs : List Bool) → Begins r xs c m → Typed c → inRangeOf (factsOf (r .part)) c ≡ true
+      → (inRangeOf (factsOf (r .part)) (systemAfter r xs c m bs .chip) ≡ true) × Typed (systemAfter r xs c m bs .chip)

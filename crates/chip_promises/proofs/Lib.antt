@@ -1,0 +1,12 @@
+pub mod Runs
+pub mod Steps
+pub mod Refused
+pub mod Pages
+pub mod Lock
+pub mod Pin
+pub mod Stops
+pub mod Histories
+pub mod Invented
+pub mod Idle
+pub mod Reached
+pub mod Cut

@@ -1,0 +1,12 @@
+pub mod States
+pub mod Calls
+pub mod Pages
+pub mod Lock
+pub mod Pin
+pub mod Stops
+pub mod Refused
+pub mod Histories
+pub mod Invented
+pub mod Idle
+pub mod Reached
+pub mod Cut

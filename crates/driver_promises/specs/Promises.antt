@@ -1,0 +1,110 @@
+-- The promises of the driver: each a type over any machine, for every request that is accepted and ANY list of line levels.
+-- Proved of `ours` in proofs/Promises.antt.
+-- Assumes nothing.
+use Prim.Native.Nat.{ℕ, _+_, _-_, _*_, _/_, _%_, _<_, _≤_}
+use mathlib.Core.Path.{_≡_}
+use mathlib.Core.Bool.{Bool, true, false}
+use mathlib.Core.List.{List, []}
+use lib.ListN.{length, getD}
+use Rattle.parts.specs.declared.Refusal.{Refusal}
+use Rattle.parts.specs.declared.Verdict.the-variants.{Fine}
+use Rattle.driver.specs.declared.Request.{Request}
+use Rattle.driver.specs.declared.Failed.{Failed}
+use Rattle.driver.specs.declared.Answer.{Answer}
+use Rattle.driver.specs.declared.Answer.the-variants.{Send, Done, Refused}
+use Rattle.driver.specs.Split.{sum, partsOf, pagesMetOf}
+use Rattle.driver.specs.Request.{judgeOf, allowedOf, kOf}
+use Rattle.driver.specs.Step.{refusalOf}
+use Rattle.driver_promises.specs.Run.{Machine, DriverHeld, begun, answerTo, told, afterAll, eventsSent, Finished, clocksIn, pollsIn, addressBytes, boundOf, clockOfByte, toldByte}
+use Rattle.driver_promises.specs.Plan.{selectOf, writePlan, readPlan}
+use Rattle.driver_promises.specs.Where.{Within, Stopped}
+
+-- The splitter, over any page size P: the parts add up to the length, and are as many as the pages met, of which there are as many as
+-- from the page of the first byte to the page of the last
+pub record Splits (P a n : ℕ) : Type 0 where
+  pub whole : sum (partsOf P n a n) ≡ n
+  pub count : length (partsOf P n a n) ≡ pagesMetOf P a n
+  pub formula : 0 < n → pagesMetOf P a n ≡ (a + (n - 1)) / P - a / P + 1
+
+-- `begin` does not refuse, and the buffer is as long as asked
+pub record Accepted (r : Request) (xs : List ℕ) : Type 0 where
+  pub fine : judgeOf r ≡ Fine
+  pub size : length xs ≡ r .length
+
+-- one asking after a run of a machine
+module _ (M : Machine) (r : Request) (xs : List ℕ) (ls : List ℕ) (l : ℕ) where
+  abbrev pub after : DriverHeld
+  after = afterAll M (begun r xs) ls
+
+  abbrev pub sent : List ℕ
+  sent = eventsSent M (begun r xs) ls
+
+  abbrev pub answers : Answer
+  answers = answerTo M after l
+
+  -- 1. One event a step, until finished: who still sends has sent one for each asking; who is finished answers the same again, and
+  -- nothing changes; and it is finished when the askings are more than a formula of the request
+  pub record OneEach : Type 0 where
+    pub each : (e : ℕ) → answers ≡ Send e → length sent ≡ length ls
+    pub again : Finished answers → (told M after l ≡ after) × ((k : ℕ) → answerTo M after k ≡ answers)
+    pub bound : boundOf r < length ls → Finished answers
+
+  -- 2. The polls reported are the polls in the events sent, and at most k times the budget
+  pub record PollsSent : Type 0 where
+    pub done : (q m : ℕ) → answers ≡ Done q m → q ≡ pollsIn false sent
+    pub refused : (f : Refusal) (q m : ℕ) → answers ≡ Refused f q m → q ≡ pollsIn false sent
+    pub most : pollsIn false sent ≤ kOf r * allowedOf r
+
+  -- 3. Done: all bytes are reported, and the events are the written-out list. A write: for some number of polls a page
+  pub record WriteDone (q : ℕ) : Type 0 where
+    pub polls : List ℕ
+    pub pages : length polls ≡ kOf r
+    pub sum : sum polls ≡ q
+    pub within : Within (allowedOf r) polls
+    pub events : sent ≡ writePlan r xs polls
+    pub clocks : clocksIn sent ≡ 9 * (kOf r * (1 + addressBytes r) + r .length + q)
+    pub buffer : after .buffer ≡ xs
+
+  -- a read
+  pub record ReadDone (q : ℕ) : Type 0 where
+    pub none : q ≡ 0
+    pub events : 0 < r .length → sent ≡ readPlan r
+    pub clocks : 0 < r .length → clocksIn sent ≡ 9 * (2 + addressBytes r + r .length)
+    -- each byte got is the levels told for its eight clocks
+    pub bytes : (i : ℕ) → i < r .length → getD (after .buffer) i 0 ≡ toldByte ls (clockOfByte r i) 8
+    pub size : length (after .buffer) ≡ r .length
+
+  abbrev pub DoneOf : Bool → ℕ → Type 0
+  DoneOf false q = WriteDone q
+  DoneOf true q = ReadDone q
+
+  pub record DoneAll (q m : ℕ) : Type 0 where
+    pub bytes : m ≡ r .length
+    pub plan : DoneOf (r .reads) q
+    pub nothing : r .length ≡ 0 → sent ≡ []
+
+  -- 4. Refused: which byte was not acknowledged; the last event is a Stop; the buffer is as before
+  pub record RefusedAt (f : Refusal) (q m : ℕ) : Type 0 where
+    pub why : Failed
+    pub refusal : f ≡ refusalOf why
+    pub stopped : Stopped r xs why m q sent ls
+    -- a read answers 0 bytes and 0 polls
+    pub none : r .reads ≡ true → (m ≡ 0) × (q ≡ 0)
+    pub buffer : after .buffer ≡ xs
+
+-- the four, together
+pub record Promises (M : Machine) : Type 0 where
+  pub one-each : (r : Request) (xs : List ℕ) → Accepted r xs → (ls : List ℕ) (l : ℕ) → OneEach M r xs ls l
+  pub polls-sent : (r : Request) (xs : List ℕ) → Accepted r xs → (ls : List ℕ) (l : ℕ) → PollsSent M r xs ls l
+  pub done-all : (r : Request) (xs : List ℕ) → Accepted r xs → (ls : List ℕ) (l q m : ℕ) → answers M r xs ls l ≡ Done q m → DoneAll M r xs ls l q m
+  pub refused-at : (r : Request) (xs : List ℕ) → Accepted r xs → (ls : List ℕ) (l q m : ℕ) (f : Refusal) → answers M r xs ls l ≡ Refused f q m → RefusedAt M r xs ls l f q m
+
+-- An identification write is one part, and a write of one page too
+abbrev pub OnePart : Request → Type 0
+OnePart r = kOf r ≡ 1
+
+-- "Every select of one such part, or of a read, has the same seven high bits": the select code with write ends in 0, and that with
+-- read is one more
+pub record SevenBits (r : Request) (o : ℕ) : Type 0 where
+  pub even : selectOf r o % 2 ≡ 0
+  pub same : (selectOf r o + 1) / 2 ≡ selectOf r o / 2
