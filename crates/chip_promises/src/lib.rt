@@ -1,1 +1,1 @@
-// The promises of documents 00 and 01: no code, only statements (specs/) and their proofs (proofs/).
+// The promises of the chip: no code, only statements (specs/) and their proofs (proofs/).

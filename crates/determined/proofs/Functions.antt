@@ -37,6 +37,12 @@ use Rattle.determined.specs.Functions.{
   SoonerDetermined,
   LentVerdictDetermined,
   HeldVerdictDetermined,
+  TextWideDetermined,
+  TextNarrowDetermined,
+  TextHexDetermined,
+  TextSmallHexDetermined,
+  TextWordDetermined,
+  TextValueDetermined,
   IsHighDetermined,
   SendDetermined,
   AdvanceDetermined,
@@ -117,6 +123,24 @@ lent-verdict-determined = plainly (λ κs a u v. refl)
 
 pub held-verdict-determined : HeldVerdictDetermined
 held-verdict-determined = plainly (λ κs a u v. refl)
+
+pub text-wide-determined : TextWideDetermined
+text-wide-determined = plainly (λ κs a u v. refl)
+
+pub text-narrow-determined : TextNarrowDetermined
+text-narrow-determined = plainly (λ κs a u v. refl)
+
+pub text-hex-determined : TextHexDetermined
+text-hex-determined = plainly (λ κs a u v. refl)
+
+pub text-small-hex-determined : TextSmallHexDetermined
+text-small-hex-determined = plainly (λ κs a u v. refl)
+
+pub text-word-determined : TextWordDetermined
+text-word-determined = plainly (λ κs a u v. refl)
+
+pub text-value-determined : TextValueDetermined
+text-value-determined = plainly (λ κs a u v. refl)
 
 pub is-high-determined : IsHighDetermined
 is-high-determined = plainly (λ κs a u v. refl)

@@ -18,6 +18,12 @@ use Rattle.parts.proofs.verdict_place as verdict-place
 use Rattle.parts.proofs.claim as claim
 use Rattle.parts.proofs.sooner as sooner
 use Rattle.parts.proofs.lent_verdict as lent-verdict
+use Rattle.text.proofs.wide as text-wide
+use Rattle.text.proofs.narrow as text-narrow
+use Rattle.text.proofs.hex as text-hex
+use Rattle.text.proofs.small_hex as text-small-hex
+use Rattle.text.proofs.word as text-word
+use Rattle.text.proofs.value as text-value
 use Rattle.line.proofs.is_high as is-high
 use Rattle.line.proofs.send as send
 use Rattle.line.proofs.advance as advance
@@ -113,6 +119,26 @@ SoonerDetermined = Determined sooner.ended sooner.Reads.Asked sooner.Reads.Learn
 
 abbrev pub LentVerdictDetermined : Type 0
 LentVerdictDetermined = Determined lent-verdict.ended lent-verdict.Reads.Asked lent-verdict.Reads.Learnt
+
+-- ---- text
+
+abbrev pub TextWideDetermined : Type 0
+TextWideDetermined = Determined text-wide.ended text-wide.Reads.Asked text-wide.Reads.Learnt
+
+abbrev pub TextNarrowDetermined : Type 0
+TextNarrowDetermined = Determined text-narrow.ended text-narrow.Reads.Asked text-narrow.Reads.Learnt
+
+abbrev pub TextHexDetermined : Type 0
+TextHexDetermined = Determined text-hex.ended text-hex.Reads.Asked text-hex.Reads.Learnt
+
+abbrev pub TextSmallHexDetermined : Type 0
+TextSmallHexDetermined = Determined text-small-hex.ended text-small-hex.Reads.Asked text-small-hex.Reads.Learnt
+
+abbrev pub TextWordDetermined : Type 0
+TextWordDetermined = Determined text-word.ended text-word.Reads.Asked text-word.Reads.Learnt
+
+abbrev pub TextValueDetermined : Type 0
+TextValueDetermined = Determined text-value.ended text-value.Reads.Asked text-value.Reads.Learnt
 
 -- ---- line
 

@@ -25,6 +25,7 @@ use Rattle.driver.specs.Request.{judgeOf, kOf}
 use Rattle.driver.specs.Step.{refusalOf, bufferOf}
 use Rattle.driver_promises.specs.Run.{ourDriver, DriverHeld, answerTo, told, Finished, clocksIn, addressBytes, boundOf}
 use Rattle.driver_promises.specs.Plan.{writePlan, readPlan}
+use Rattle.driver_promises.specs.Heard.{ReadTold}
 use Rattle.driver_promises.specs.Where.{leftOf, Parts, Before, Stopped}
 use Rattle.driver_promises.specs.Promises.{Accepted, after, sent, answers, OneEach, PollsSent, DoneAll, DoneOf, RefusedAt, Promises}
 use Rattle.driver_promises.proofs.View.{at, Way, w-done, w-open, w-bit, w-ninth, w-got, w-nack, w-high, w-only, w-low, w-turn, w-data, w-more, w-close, w-drop, w-poll, w-again, w-give, w-page, w-take, w-next, w-end, w-over, Steps}
@@ -203,20 +204,21 @@ module _ (r : Request) (xs : List ℕ) (c : Counts) (ys es ls : List ℕ) (v : S
   left-zero : leftOf r (c .seen) ≡ 0
   left-zero = ap (leftOf r) all-seen ∙ left-none r
 
-  write-plan : r .reads ≡ false → Parts r xs (c .seen) (c .polls) es
+  write-plan : r .reads ≡ false → Parts r xs ls (c .seen) (c .polls) es
   write-plan w =
       let t = v .told .0 in
       let n = v .inv .here .none in
       let z : t .spent ≡ c .polls = omega (arith, t .sum) in
-      let q = subst (λ (b : Bool). Before b r ys (c .seen) (t .spent) (t .past)) w (t .parts) in
-      let q1 = subst (λ (y : List ℕ). Parts r y (c .seen) (t .spent) (t .past)) (v .kept .0 w) q in
-      let q2 = subst (λ (i : ℕ). Parts r xs (c .seen) i (t .past)) z q1 in
-      subst (Parts r xs (c .seen) (c .polls)) (sym (t .events)) q2
+      let q = subst (λ (b : Bool). Before b r ys ls (c .seen) (t .spent) (t .past)) w (t .parts) in
+      let q1 = subst (λ (y : List ℕ). Parts r y ls (c .seen) (t .spent) (t .past)) (v .kept .0 w) q in
+      let q2 = subst (λ (i : ℕ). Parts r xs ls (c .seen) i (t .past)) z q1 in
+      subst (Parts r xs ls (c .seen) (c .polls)) (sym (t .events)) q2
 
-  read-plan : r .reads ≡ true → es ≡ cond (eqb (c .seen) 0) [] (readPlan r)
+  read-plan : r .reads ≡ true → (es ≡ cond (eqb (c .seen) 0) [] (readPlan r)) × (0 < c .seen → ReadTold ls r)
   read-plan w =
       let t = v .told .0 in
-      t .events ∙ subst (λ (b : Bool). Before b r ys (c .seen) (t .spent) (t .past)) w (t .parts)
+      let q = subst (λ (b : Bool). Before b r ys ls (c .seen) (t .spent) (t .past)) w (t .parts) in
+      (t .events ∙ q .0, q .1)
 
   write-clocks : r .reads ≡ false → clocksIn es ≡ 9 * (kOf r * (1 + addressBytes r) + r .length + c .polls)
   write-clocks w =
@@ -238,7 +240,7 @@ module _ (r : Request) (xs : List ℕ) (c : Counts) (ys es ls : List ℕ) (v : S
       empty (q ∷ qs) k = absurd (omega arith)
 
       go : (b : Bool) → r .reads ≡ b → es ≡ []
-      go true w = read-plan w ∙ simp (eq-eqb (c .seen) 0 (all-seen ∙ z))
+      go true w = read-plan w .0 ∙ simp (eq-eqb (c .seen) 0 (all-seen ∙ z))
       go false w =
           let q = write-plan w in
           let k : kOf r ≡ 0 = sym (left-all r) ∙ (ap (leftOf r) (sym z) ∙ left-none r) in
@@ -298,7 +300,8 @@ module _ (r : Request) (xs : List ℕ) (a : Accepted r xs) (ls : List ℕ) (l : 
           plan true f w =
               record {
                 none = eq ∙ no-polls r (c .polls) f (w .inv .common .most);
-                events = λ o. read-plan r xs c ys _ ls w k f ∙ simp (ne-eqb (c .seen) 0 (λ y. omega (arith, all-seen r xs c ys _ ls w k)));
+                events = λ o. read-plan r xs c ys _ ls w k f .0 ∙ simp (ne-eqb (c .seen) 0 (λ y. omega (arith, all-seen r xs c ys _ ls w k)));
+                levels = λ o. read-plan r xs c ys _ ls w k f .1 (omega (arith, all-seen r xs c ys _ ls w k));
                 clocks = read-clocks r xs c ys _ ls w k f;
                 bytes = λ j h. ap (λ (t : DriverHeld). getD (t .buffer) j 0) i ∙ w .got f j (omega arith) .1;
                 size = ap (λ (t : DriverHeld). length (t .buffer)) i ∙ w .size;
@@ -311,6 +314,7 @@ module _ (r : Request) (xs : List ℕ) (a : Accepted r xs) (ls : List ℕ) (l : 
                 sum = t .polled ∙ sym eq;
                 within = t .within;
                 events = t .events;
+                levels = t .levels;
                 clocks = write-clocks r xs c ys _ ls w k f ∙ ap (λ (i : ℕ). 9 * (kOf r * (1 + addressBytes r) + r .length + i)) (sym eq);
                 buffer = ap (λ (h : DriverHeld). h .buffer) i ∙ w .kept .0 f;
               }

@@ -221,7 +221,7 @@ module _ (r : Request) (xs : List ℕ) where
   long Rest c ys es ls v = tt
   long (Over f) c ys es ls v = tt
 
-  story-step : {p : Phase} {c : Counts} {l : ℕ} {ys zs es ls : List ℕ} {m : Move} → Story r xs p c ys es ls → Way r c l ys p m zs → Story r xs (m .phase) (m .counts) zs (es ++ sentBy (m .answer)) (ls ++ (l ∷ []))
+  pub story-step : {p : Phase} {c : Counts} {l : ℕ} {ys zs es ls : List ℕ} {m : Move} → Story r xs p c ys es ls → Way r c l ys p m zs → Story r xs (m .phase) (m .counts) zs (es ++ sentBy (m .answer)) (ls ++ (l ∷ []))
   story-step {p} {c} {l} {ys} {zs} {es} {ls} {m} v w =
       let k = counted p c m (m .answer) es (over-back w) (record { polls = v .polls; odd = v .odd; clocks = v .clocks; ends = v .ends }) (grow r (v .inv) w) in
       record {
@@ -284,13 +284,13 @@ module _ (r : Request) (xs : List ℕ) where
         here = record { same = refl; none = refl; whole = λ a b. refl };
       }
 
-  start : isFine (judgeOf r) ≡ true → length xs ≡ r .length → Story r xs Ready (fresh r .counts) xs [] []
+  pub start : isFine (judgeOf r) ≡ true → length xs ≡ r .length → Story r xs Ready (fresh r .counts) xs [] []
   start e n =
       record {
         inv = start-inv e;
         size = n;
         kept = (λ _. refl, λ _. refl);
-        told = (record { past = []; spent = 0; sum = refl; parts = before-all (r .reads); events = refl }, λ _. refl);
+        told = (record { past = []; spent = 0; sum = refl; parts = before-all (r .reads); events = refl; levels = tt }, λ _. refl);
         got = λ w i h. absurd (omega arith);
         polls = refl;
         odd = even (r .reads);
@@ -319,9 +319,9 @@ module _ (r : Request) (xs : List ℕ) where
       even true = refl
       even false = refl
 
-      before-all : (b : Bool) → Before b r xs 0 0 []
-      before-all true = refl
-      before-all false = record { each = []; ends = refl; pages = omega (arith, left-all r); polled = refl; within = tt; events = refl }
+      before-all : (b : Bool) → Before b r xs [] 0 0 []
+      before-all true = (refl, λ o. absurd (omega arith))
+      before-all false = record { each = []; ends = refl; pages = omega (arith, left-all r); polled = refl; within = tt; events = refl; levels = tt }
 
   pub ran : isFine (judgeOf r) ≡ true → length xs ≡ r .length → (ls : List ℕ) → Ran (afterAll ourDriver (begun r xs) ls) (eventsSent ourDriver (begun r xs) ls) ls
   ran e n ls = run Ready (fresh r .counts) xs [] [] (start e n) ls

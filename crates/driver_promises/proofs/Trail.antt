@@ -1,11 +1,10 @@
--- The events so far as a list written out from the state: each way adds its event at the end.
+-- The events so far as a list written out from the state, each way adds its event at the end; and the levels told for them.
 -- Assumes nothing.
 use Prim.Native.Nat.{ℕ, zero, suc, _+_, _-_, _≤_, _<_}
 use mathlib.Core.Path.{_≡_, refl, sym, _∙_, ap, subst}
 use mathlib.Core.Bool.{Bool, true, false, cond, false≢true}
 use mathlib.Core.List.{List, [], _∷_, _++_, append-nil}
-use lib.ListN.{length, getD, length-append, List·getD-append}
-use lib.Seq.{getD-append-seam}
+use lib.ListN.{length, getD, length-append}
 use lib.Dec.{eqb}
 use native.Mathlib.Omega.{arith}
 use native.Mathlib.Numerals.{add-one}
@@ -24,9 +23,11 @@ use Rattle.driver.specs.Request.{allowedOf}
 use Rattle.driver.specs.Step.{wireOf, slotByteOf, bitOf, withByte, withNext}
 use Rattle.driver_promises.specs.Run.{sentBy}
 use Rattle.driver_promises.specs.Plan.{thenStart, thenStop, thenBits, thenByte, thenPolls, thenData, thenTaken, selectOf, thenSelect, thenHigh, thenHead, lengthOf, thenPart, thenParts, partsEndOf, readPlan}
+use Rattle.driver_promises.specs.Heard.{PollsMissed, HighAcked, HeadAcked, FilledAcked, PartTold, ReadTold, TurnAcked}
 use Rattle.driver_promises.specs.Where.{leftOf, Within, Parts, Before, RefusedByte, the-select, the-high, the-low, the-turn, the-data, the-poll, Stopped}
 use Rattle.driver_promises.proofs.View.{at, clockOf, leads, Way, w-done, w-open, w-bit, w-ninth, w-got, w-nack, w-high, w-only, w-low, w-turn, w-data, w-more, w-close, w-drop, w-poll, w-again, w-give, w-page, w-take, w-next, w-end, w-over}
-use Rattle.driver_promises.proofs.Inv.{wide, stop, left-cut, Closed, Inv, taken-elim}
+use Rattle.driver_promises.proofs.Inv.{wide, stop, left-cut, Closed, After, Inv, taken-elim}
+use Rattle.driver_promises.proofs.Levels.{longer, missed-more, acked-now, missed-now, before-more, byte-more, ToldFar, in-more, filled-next, missed-next, told-more}
 use Rattle.parts.proofs.Tests.{not-yes}
 
 -- ---- the events before the byte of a slot, after it, and at a phase; past: those before the part
@@ -63,19 +64,20 @@ soFar (Heard s) r xs past c = after r xs past (c .at) (c .seen) (c .tries) s
 soFar Rest r xs past c = thenStop (filled r xs past (c .at) (c .seen) (c .tries))
 soFar (Over f) r xs past c = []
 
-pub record Trail (r : Request) (p : Phase) (c : Counts) (xs es : List ℕ) : Type 0 where
+pub record Trail (r : Request) (p : Phase) (c : Counts) (xs es ls : List ℕ) : Type 0 where
   pub past : List ℕ
   pub spent : ℕ
   pub sum : spent + c .tries ≡ c .polls
-  pub parts : Before (r .reads) r xs (c .seen) spent past
+  pub parts : Before (r .reads) r xs ls (c .seen) spent past
   pub events : es ≡ soFar p r xs past c
+  pub levels : ToldFar p ls r xs past c
 
 -- by phase: the list, or where it was refused; and, until it is finished, one event for each level
 abbrev pub Told : Phase → Request → Counts → List ℕ → List ℕ → List ℕ → Type 0
-Told Ready r c xs es ls = Trail r Ready c xs es × ((c .at ≡ r .length → ⊥) → length es ≡ length ls)
-Told (Bits s b) r c xs es ls = Trail r (Bits s b) c xs es × (length es ≡ length ls)
-Told (Heard s) r c xs es ls = Trail r (Heard s) c xs es × (length es ≡ length ls)
-Told Rest r c xs es ls = Trail r Rest c xs es × (length es ≡ length ls)
+Told Ready r c xs es ls = Trail r Ready c xs es ls × ((c .at ≡ r .length → ⊥) → length es ≡ length ls)
+Told (Bits s b) r c xs es ls = Trail r (Bits s b) c xs es ls × (length es ≡ length ls)
+Told (Heard s) r c xs es ls = Trail r (Heard s) c xs es ls × (length es ≡ length ls)
+Told Rest r c xs es ls = Trail r Rest c xs es ls × (length es ≡ length ls)
 Told (Over f) r c xs es ls = Stopped r xs f (c .seen) (c .polls) es ls
 
 -- ---- one part more
@@ -95,9 +97,9 @@ within-more : (most q : ℕ) (qs : List ℕ) → Within most qs → 1 ≤ q → 
 within-more most q [] v h l = (h, l, tt)
 within-more most q (x ∷ qs) v h l = (v .0, v .1, within-more most q qs (v .2) h l)
 
-module _ (r : Request) (xs past : List ℕ) (a s t q : ℕ) (some : 1 ≤ t) (most : t ≤ allowedOf r) where
-  one-part : a ≤ r .length → Closed r a s → Parts r xs s q past → Parts r xs a (q + t) (thenPart r past xs s t)
-  one-part l e v =
+module _ (r : Request) (xs ls past : List ℕ) (a s t q : ℕ) (some : 1 ≤ t) (most : t ≤ allowedOf r) where
+  one-part : a ≤ r .length → Closed r a s → PartTold ls r past xs s t → Parts r xs ls s q past → Parts r xs ls a (q + t) (thenPart r past xs s t)
+  one-part l e h v =
       let x = e .some in
       let y = e .end in
       let j = left-cut r s (omega arith) ∙ ap (λ (i : ℕ). suc (leftOf r i)) (sym y) in
@@ -111,24 +113,27 @@ module _ (r : Request) (xs past : List ℕ) (a s t q : ℕ) (some : 1 ≤ t) (mo
         polled = omega (arith, sum-more t (v .each));
         within = within-more (allowedOf r) t (v .each) (v .within) some most;
         events = ap (λ (z : List ℕ). thenPart r z xs s t) (v .events) ∙ (ap (λ (o : ℕ). thenPart r (thenParts r [] xs 0 (v .each)) xs o t) (sym (v .ends)) ∙ sym (parts-more r xs [] 0 t (v .each)));
+        levels =
+            told-more ls r xs [] 0 t (v .each) (v .levels)
+            (subst (λ (z : List ℕ). PartTold ls r z xs (partsEndOf r 0 (v .each)) t) (v .events) (subst (λ (o : ℕ). PartTold ls r past xs o t) (sym (v .ends)) h));
       }
 
-  part-before : (b : Bool) → b ≡ false → a ≤ r .length → Closed r a s → Before b r xs s q past → Before b r xs a (q + t) (thenPart r past xs s t)
-  part-before true e l k v = absurd (false≢true (sym e))
-  part-before false e l k v = one-part l k v
+  part-before : (b : Bool) → b ≡ false → a ≤ r .length → Closed r a s → PartTold ls r past xs s t → Before b r xs ls s q past → Before b r xs ls a (q + t) (thenPart r past xs s t)
+  part-before true e l k h v = absurd (false≢true (sym e))
+  part-before false e l k h v = one-part l k h v
 
 -- a read does not look at the buffer
-buffer-free : (b : Bool) (r : Request) (xs ys past : List ℕ) (s q : ℕ) → b ≡ true → Before b r xs s q past → Before b r ys s q past
-buffer-free true r xs ys past s q e v = v
-buffer-free false r xs ys past s q e v = absurd (false≢true e)
+buffer-free : (b : Bool) (r : Request) (xs ys ls past : List ℕ) (s q : ℕ) → b ≡ true → Before b r xs ls s q past → Before b r ys ls s q past
+buffer-free true r xs ys ls past s q e v = v
+buffer-free false r xs ys ls past s q e v = absurd (false≢true e)
 
-read-before : (b : Bool) (r : Request) (xs past : List ℕ) (s q : ℕ) → b ≡ true → s ≡ 0 → Before b r xs s q past → past ≡ []
-read-before true r xs past s q e z v = v ∙ simp (eq-eqb s 0 z)
-read-before false r xs past s q e z v = absurd (false≢true e)
+read-before : (b : Bool) (r : Request) (xs ls past : List ℕ) (s q : ℕ) → b ≡ true → s ≡ 0 → Before b r xs ls s q past → past ≡ []
+read-before true r xs ls past s q e z v = v .0 ∙ simp (eq-eqb s 0 z)
+read-before false r xs ls past s q e z v = absurd (false≢true e)
 
-read-after : (b : Bool) (r : Request) (xs past : List ℕ) (a q : ℕ) → b ≡ true → 0 < a → past ≡ readPlan r → Before b r xs a q past
-read-after true r xs past a q e z v = v ∙ sym (simp (ne-eqb a 0 (λ k. omega arith)))
-read-after false r xs past a q e z v = absurd (false≢true e)
+read-after : (b : Bool) (r : Request) (xs ls : List ℕ) (a q : ℕ) → b ≡ true → 0 < a → ReadTold ls r → Before b r xs ls a q (readPlan r)
+read-after true r xs ls a q e z h = (sym (simp (ne-eqb a 0 (λ k. omega arith))), λ _. h)
+read-after false r xs ls a q e z h = absurd (false≢true e)
 
 -- ---- lists
 len-more : (es ls : List ℕ) (e l : ℕ) → length es ≡ length ls → length (es ++ (e ∷ [])) ≡ length (ls ++ (l ∷ []))
@@ -152,131 +157,174 @@ polls-more es v t h = let e : t ≡ suc (t - 1) = omega arith in ap (thenPolls e
 -- ---- a step
 module _ (r : Request) where
   -- what is the same before and after
-  module _ (c : Counts) (xs es : List ℕ) where
-    moves : (p p' : Phase) (c' : Counts) (e : ℕ) (v : Trail r p c xs es) → c' .seen ≡ c .seen → v .spent + c' .tries ≡ c' .polls → soFar p' r xs (v .past) c' ≡ soFar p r xs (v .past) c ++ (e ∷ []) → Trail r p' c' xs (es ++ (e ∷ []))
-    moves p p' c' e v z w h =
+  module _ (c : Counts) (l : ℕ) (xs es ls : List ℕ) where
+    moves : (p p' : Phase) (c' : Counts) (e : ℕ) (v : Trail r p c xs es ls) → c' .seen ≡ c .seen → v .spent + c' .tries ≡ c' .polls → soFar p' r xs (v .past) c' ≡ soFar p r xs (v .past) c ++ (e ∷ []) → ToldFar p' (longer ls l) r xs (v .past) c' → Trail r p' c' xs (es ++ (e ∷ [])) (longer ls l)
+    moves p p' c' e v z w h k =
         record {
           past = v .past;
           spent = v .spent;
           sum = w;
-          parts = subst (λ (i : ℕ). Before (r .reads) r xs i (v .spent) (v .past)) (sym z) (v .parts);
+          parts = before-more ls l r (r .reads) xs (c' .seen) (v .spent) (v .past) (subst (λ (i : ℕ). Before (r .reads) r xs ls i (v .spent) (v .past)) (sym z) (v .parts));
           events = ap (λ (y : List ℕ). y ++ (e ∷ [])) (v .events) ∙ sym h;
+          levels = k;
         }
 
   -- refused at a byte
-  refuse : (c : Counts) (xs es ls : List ℕ) (l byte : ℕ) (f : Failed) (p : Phase) (bef : List ℕ) → (v : Trail r p c xs es) → length es ≡ length ls → 0 < l → RefusedByte r xs (v .past) (c .seen) f byte bef → soFar p r xs (v .past) c ≡ thenByte bef byte 1 → Stopped r xs f (c .seen) (c .polls) (es ++ (3 ∷ [])) (ls ++ (l ∷ []))
-  refuse c xs es ls l byte f p bef v n o w h =
-      let g = length-append es (3 ∷ []) in
+  refuse : (c : Counts) (xs es ls : List ℕ) (l byte : ℕ) (f : Failed) (p : Phase) (bef : List ℕ) → (v : Trail r p c xs es ls) → length es ≡ length ls → 0 < l → c .seen < r .length → RefusedByte r xs ls (v .past) (c .seen) f byte bef → soFar p r xs (v .past) c ≡ thenByte bef byte 1 → Stopped r xs f (c .seen) (c .polls) (es ++ (3 ∷ [])) (longer ls l)
+  refuse c xs es ls l byte f p bef v n o m w h =
       let k = len-more es ls 3 l n in
-      let i : length (es ++ (3 ∷ [])) - 1 ≡ length ls = omega arith in
-      let u : getD (ls ++ (l ∷ [])) (length (es ++ (3 ∷ [])) - 1) 0 ≡ l = ap (λ (j : ℕ). getD (ls ++ (l ∷ [])) j 0) i ∙ getD-append-seam ls l [] 0 in
       record {
+        short = m;
         past = v .past;
         tries = c .tries;
         spent = v .spent;
         sum = v .sum;
-        parts = v .parts;
+        parts = before-more ls l r (r .reads) xs (c .seen) (v .spent) (v .past) (v .parts);
         byte = byte;
         before = bef;
-        which = w;
+        which = byte-more ls l r w;
         events = ap thenStop (v .events ∙ h);
         within = omega arith;
-        level = omega arith;
+        level = missed-now ls l es (thenByte bef byte 1) (v .events ∙ h) n o;
       }
 
   -- refused, and told more levels
-  stays : (f : Failed) (c : Counts) (xs es ls : List ℕ) (l : ℕ) → Stopped r xs f (c .seen) (c .polls) es ls → Stopped r xs f (c .seen) (c .polls) es (ls ++ (l ∷ []))
+  stays : (f : Failed) (c : Counts) (xs es ls : List ℕ) (l : ℕ) → Stopped r xs f (c .seen) (c .polls) es ls → Stopped r xs f (c .seen) (c .polls) es (longer ls l)
   stays f c xs es ls l v =
       let n = length-append ls (l ∷ []) in
       let w = v .within in
-      let o : 0 < length es = subst (λ (y : List ℕ). 0 < length y) (sym (v .events)) (omega (arith, length-append (thenByte (v .before) (v .byte) 1) (3 ∷ []))) in
       record {
+        short = v .short;
         past = v .past;
         tries = v .tries;
         spent = v .spent;
         sum = v .sum;
-        parts = v .parts;
+        parts = before-more ls l r (r .reads) xs (c .seen) (v .spent) (v .past) (v .parts);
         byte = v .byte;
         before = v .before;
-        which = v .which;
+        which = byte-more ls l r (v .which);
         events = v .events;
         within = omega arith;
-        level = subst (λ (j : ℕ). 0 < j) (sym (List·getD-append ls (l ∷ []) 0 (length es - 1) (omega arith))) (v .level);
+        level = missed-more ls l (thenByte (v .before) (v .byte) 1) (v .level);
       }
 
   -- the events and the levels after a step
   abbrev Next : Move → List ℕ → List ℕ → List ℕ → ℕ → Type 0
   Next m ys es ls l = Told (m .phase) r (m .counts) ys (es ++ sentBy (m .answer)) (ls ++ (l ∷ []))
 
-  lead-byte : (s : Slot) (c : Counts) (xs past : List ℕ) → leads s ≡ true → Inv r (Heard s) c → (v : ℕ) × (bef : List ℕ) × RefusedByte r xs past (c .seen) AtSelect v bef × (after r xs past (c .at) (c .seen) (c .tries) s ≡ thenByte bef v 1)
-  lead-byte Select c xs past e v = (_, _, the-select, refl)
-  lead-byte High c xs past e v = (_, _, the-high (v .here .1), refl)
-  lead-byte Low c xs past e v = (_, _, the-low, refl)
-  lead-byte Data c xs past e v = absurd (false≢true e)
-  lead-byte Poll c xs past e v = absurd (false≢true e)
-  lead-byte Turn c xs past e v = (_, _, the-turn (v .right), refl)
-  lead-byte Take c xs past e v = absurd (false≢true e)
+  lead-short : (s : Slot) (c : Counts) → leads s ≡ true → After s r c → c .seen < r .length
+  lead-short Select c e h = let m = h .more in omega (arith, h .same)
+  lead-short High c e h = let m = h .0 .more in omega (arith, h .0 .same)
+  lead-short Low c e h = let m = h .more in omega (arith, h .same)
+  lead-short Data c e h = absurd (false≢true e)
+  lead-short Poll c e h = absurd (false≢true e)
+  lead-short Turn c e h = let m = h .more in omega (arith, h .same)
+  lead-short Take c e h = absurd (false≢true e)
+
+  lead-byte : (s : Slot) (c : Counts) (xs ls past : List ℕ) → leads s ≡ true → Inv r (Heard s) c → ToldFar (Heard s) ls r xs past c → (v : ℕ) × (bef : List ℕ) × RefusedByte r xs ls past (c .seen) AtSelect v bef × (after r xs past (c .at) (c .seen) (c .tries) s ≡ thenByte bef v 1)
+  lead-byte Select c xs ls past e v h = (_, _, the-select, refl)
+  lead-byte High c xs ls past e v h = (_, _, the-high (v .here .1) h, refl)
+  lead-byte Low c xs ls past e v h = (_, _, the-low h, refl)
+  lead-byte Data c xs ls past e v h = absurd (false≢true e)
+  lead-byte Poll c xs ls past e v h = absurd (false≢true e)
+  lead-byte Turn c xs ls past e v h = (_, _, the-turn (v .right) h, refl)
+  lead-byte Take c xs ls past e v h = absurd (false≢true e)
 
   module _ (c : Counts) (l : ℕ) (xs es ls : List ℕ) where
     got-more : (a n : ℕ) (X : List ℕ) → thenTaken X n (a + 1) ≡ thenByte (thenTaken X n a) 255 (cond (eqb (a + 1) n) 1 0)
     got-more a n X = ap (thenTaken X n) (add-one a)
 
+    -- what was told before the byte was told
+    abbrev Went : Counts → List ℕ → Slot → Type 0
+    Went c' past s = ToldFar (Bits s 0) (longer ls l) r xs past c'
+
+    went : (t : Slot) (past : List ℕ) → ToldFar (Bits t 0) ls r xs past c → Went c past t
+    went t past h = in-more ls l r xs past (c .at) (c .seen) (c .tries) t h
+
+    -- a data byte is acknowledged
+    byte-acked : Inv r (Heard Data) c → (t : Told (Heard Data) r c xs es ls) → l ≡ 0 → FilledAcked (longer ls l) r (t .0 .past) xs (c .seen) (c .at - c .seen)
+    byte-acked v t z =
+        let h = v .here .some in
+        let e : c .at - c .seen ≡ suc (c .at - 1 - c .seen) = omega arith in
+        filled-next ls l r xs (t .0 .past) (c .at) (c .seen) (c .tries) (c .at - 1 - c .seen) e (t .0 .levels) (acked-now ls l es _ (t .0 .events) (t .1) z)
+
     pub trail-step : {ys : List ℕ} {p : Phase} {m : Move} → Inv r p c → Told p r c xs es ls → Way r c l xs p m ys → Next m ys es ls l
     unfolding wireOf
-    trail-step v t (w-open n) = (moves c xs es Ready (Bits Select 0) c 2 (t .0) refl (t .0 .sum) refl, len-more es ls 2 l (t .1 n))
+    trail-step v t (w-open n) = (moves c l xs es ls Ready (Bits Select 0) c 2 (t .0) refl (t .0 .sum) refl tt, len-more es ls 2 l (t .1 n))
     trail-step v t (w-bit s b h) =
-        let e = clockOf r c xs s b in (
-          taken-elim (λ (c' : Counts). Trail r (Bits s (b + 1)) c' xs (es ++ (e ∷ []))) s c l
-              (λ x. moves c xs es (Bits s b) (Bits s (b + 1)) (withByte c x) e (t .0) refl (t .0 .sum) (bits-more (before r xs (t .0 .past) (c .at) (c .seen) (c .tries) s) (sends r xs c s) b)),
+        let e = clockOf r c xs s b in
+        let k = went s (t .0 .past) (t .0 .levels) in (
+          taken-elim (λ (c' : Counts). Trail r (Bits s (b + 1)) c' xs (es ++ (e ∷ [])) (longer ls l)) s c l
+              (λ x. moves c l xs es ls (Bits s b) (Bits s (b + 1)) (withByte c x) e (t .0) refl (t .0 .sum) (bits-more (before r xs (t .0 .past) (c .at) (c .seen) (c .tries) s) (sends r xs c s) b) k),
           len-more es ls e l (t .1),
         )
-    trail-step v t (w-ninth Select b e h) = (moves c xs es (Bits Select b) (Heard Select) c 1 (t .0) refl (t .0 .sum) (bits-all _ _ b 1 h), len-more es ls 1 l (t .1))
-    trail-step v t (w-ninth High b e h) = (moves c xs es (Bits High b) (Heard High) c 1 (t .0) refl (t .0 .sum) (bits-all _ _ b 1 h), len-more es ls 1 l (t .1))
-    trail-step v t (w-ninth Low b e h) = (moves c xs es (Bits Low b) (Heard Low) c 1 (t .0) refl (t .0 .sum) (bits-all _ _ b 1 h), len-more es ls 1 l (t .1))
+    trail-step v t (w-ninth Select b e h) = (moves c l xs es ls (Bits Select b) (Heard Select) c 1 (t .0) refl (t .0 .sum) (bits-all _ _ b 1 h) tt, len-more es ls 1 l (t .1))
+    trail-step v t (w-ninth High b e h) = (moves c l xs es ls (Bits High b) (Heard High) c 1 (t .0) refl (t .0 .sum) (bits-all _ _ b 1 h) (went High (t .0 .past) (t .0 .levels)), len-more es ls 1 l (t .1))
+    trail-step v t (w-ninth Low b e h) = (moves c l xs es ls (Bits Low b) (Heard Low) c 1 (t .0) refl (t .0 .sum) (bits-all _ _ b 1 h) (went Low (t .0 .past) (t .0 .levels)), len-more es ls 1 l (t .1))
     trail-step v t (w-ninth Data b e h) =
-        (moves c xs es (Bits Data b) (Heard Data) _ 1 (t .0) refl (t .0 .sum) (data-more _ xs (c .seen) (c .at) (v .common .seen) ∙ bits-all _ _ b 1 h), len-more es ls 1 l (t .1))
+        let z : c .at - c .seen ≡ c .at + 1 - 1 - c .seen = omega arith in (
+          moves c l xs es ls (Bits Data b) (Heard Data) _ 1 (t .0) refl (t .0 .sum) (data-more _ xs (c .seen) (c .at) (v .common .seen) ∙ bits-all _ _ b 1 h)
+              (subst (FilledAcked (longer ls l) r (t .0 .past) xs (c .seen)) z (went Data (t .0 .past) (t .0 .levels))),
+          len-more es ls 1 l (t .1),
+        )
     trail-step v t (w-ninth Poll b e h) =
-        (moves c xs es (Bits Poll b) (Heard Poll) c 1 (t .0) refl (t .0 .sum) (polls-more _ _ (c .tries) (v .here .1) ∙ bits-all _ _ b 1 h), len-more es ls 1 l (t .1))
-    trail-step v t (w-ninth Turn b e h) = (moves c xs es (Bits Turn b) (Heard Turn) c 1 (t .0) refl (t .0 .sum) (bits-all _ _ b 1 h), len-more es ls 1 l (t .1))
+        (moves c l xs es ls (Bits Poll b) (Heard Poll) c 1 (t .0) refl (t .0 .sum) (polls-more _ _ (c .tries) (v .here .1) ∙ bits-all _ _ b 1 h) (went Poll (t .0 .past) (t .0 .levels)), len-more es ls 1 l (t .1))
+    trail-step v t (w-ninth Turn b e h) = (moves c l xs es ls (Bits Turn b) (Heard Turn) c 1 (t .0) refl (t .0 .sum) (bits-all _ _ b 1 h) (went Turn (t .0 .past) (t .0 .levels)), len-more es ls 1 l (t .1))
     trail-step v t (w-ninth Take b e h) = absurd (false≢true (sym e))
     trail-step v t (w-got b e h) =
         let n = cond {A = ℕ} (eqb (c .at + 1) (r .length)) 1 0 in
-        let w = moves c xs es (Bits Take b) (Heard Take) (withNext c) n (t .0) refl (t .0 .sum) (got-more (c .at) (r .length) _ ∙ bits-all _ _ b n e) in
-        (record { past = w .past; spent = w .spent; sum = w .sum; parts = buffer-free (r .reads) r xs _ (w .past) (c .seen) (w .spent) (v .right) (w .parts); events = w .events }, len-more es ls n l (t .1))
+        let w = moves c l xs es ls (Bits Take b) (Heard Take) (withNext c) n (t .0) refl (t .0 .sum) (got-more (c .at) (r .length) _ ∙ bits-all _ _ b n e) (went Take (t .0 .past) (t .0 .levels)) in
+        (record { past = w .past; spent = w .spent; sum = w .sum; parts = buffer-free (r .reads) r xs _ (longer ls l) (w .past) (c .seen) (w .spent) (v .right) (w .parts); events = w .events; levels = w .levels }, len-more es ls n l (t .1))
     trail-step v t (w-nack s e h) =
-        let (byte, bef, w, k) = lead-byte s c xs (t .0 .past) e v in
-        refuse c xs es ls l byte AtSelect (Heard s) bef (t .0) (t .1) h w k
-    trail-step v t (w-high z e) = (moves c xs es (Heard Select) (Bits High 1) _ _ (t .0) refl (t .0 .sum) refl, len-more es ls _ l (t .1))
-    trail-step v t (w-only z e) =
-        (moves c xs es (Heard Select) (Bits Low 1) _ _ (t .0) refl (t .0 .sum) (ap (λ (w : Bool). thenHigh r w (t .0 .past) (c .seen) ++ (clockOf r c xs Low 0 ∷ [])) e), len-more es ls _ l (t .1))
-    trail-step v t (w-low z) =
-        (moves c xs es (Heard High) (Bits Low 1) _ _ (t .0) refl (t .0 .sum) (ap (λ (w : Bool). thenHigh r w (t .0 .past) (c .seen) ++ (clockOf r c xs Low 0 ∷ [])) (v .here .1)), len-more es ls _ l (t .1))
-    trail-step v t (w-turn z e) = (moves c xs es (Heard Low) (Bits Turn 0) c 2 (t .0) refl (t .0 .sum) refl, len-more es ls 2 l (t .1))
+        let (byte, bef, w, k) = lead-byte s c xs ls (t .0 .past) e v (t .0 .levels) in
+        refuse c xs es ls l byte AtSelect (Heard s) bef (t .0) (t .1) h (lead-short s c e (v .here)) w k
+    trail-step v t (w-high z e) = (moves c l xs es ls (Heard Select) (Bits High 1) _ _ (t .0) refl (t .0 .sum) refl (acked-now ls l es _ (t .0 .events) (t .1) z), len-more es ls _ l (t .1))
+    trail-step v t (w-only z e) = (
+      moves c l xs es ls (Heard Select) (Bits Low 1) _ _ (t .0) refl (t .0 .sum) (ap (λ (w : Bool). thenHigh r w (t .0 .past) (c .seen) ++ (clockOf r c xs Low 0 ∷ [])) e)
+          (subst (λ (w : Bool). HighAcked (longer ls l) r w (t .0 .past) (c .seen)) (sym e) (acked-now ls l es _ (t .0 .events) (t .1) z)),
+      len-more es ls _ l (t .1),
+    )
+    trail-step v t (w-low z) = (
+      moves c l xs es ls (Heard High) (Bits Low 1) _ _ (t .0) refl (t .0 .sum) (ap (λ (w : Bool). thenHigh r w (t .0 .past) (c .seen) ++ (clockOf r c xs Low 0 ∷ [])) (v .here .1))
+          (subst (λ (w : Bool). HighAcked (longer ls l) r w (t .0 .past) (c .seen)) (sym (v .here .1)) (went High (t .0 .past) (t .0 .levels), acked-now ls l es _ (t .0 .events) (t .1) z)),
+      len-more es ls _ l (t .1),
+    )
+    trail-step v t (w-turn z e) = (moves c l xs es ls (Heard Low) (Bits Turn 0) c 2 (t .0) refl (t .0 .sum) refl (went Low (t .0 .past) (t .0 .levels), acked-now ls l es _ (t .0 .events) (t .1) z), len-more es ls 2 l (t .1))
     trail-step v t (w-data z e) =
         let h = v .here .same in
-        let k : c .at - c .seen ≡ 0 = omega arith in
-        (moves c xs es (Heard Low) (Bits Data 1) _ _ (t .0) refl (t .0 .sum) (ap (λ (i : ℕ). thenData (thenHead r (t .0 .past) (c .seen)) xs (c .seen) i ++ (clockOf r c xs Data 0 ∷ [])) k), len-more es ls _ l (t .1))
-    trail-step v t (w-more z n) = (moves c xs es (Heard Data) (Bits Data 1) _ _ (t .0) refl (t .0 .sum) refl, len-more es ls _ l (t .1))
-    trail-step v t (w-close z e) = (moves c xs es (Heard Data) Rest c 3 (t .0) refl (t .0 .sum) refl, len-more es ls 3 l (t .1))
+        let k : c .at - c .seen ≡ 0 = omega arith in (
+          moves c l xs es ls (Heard Low) (Bits Data 1) _ _ (t .0) refl (t .0 .sum) (ap (λ (i : ℕ). thenData (thenHead r (t .0 .past) (c .seen)) xs (c .seen) i ++ (clockOf r c xs Data 0 ∷ [])) k)
+              (subst (FilledAcked (longer ls l) r (t .0 .past) xs (c .seen)) (sym k) ((went Low (t .0 .past) (t .0 .levels), acked-now ls l es _ (t .0 .events) (t .1) z), tt)),
+          len-more es ls _ l (t .1),
+        )
+    trail-step v t (w-more z n) = (moves c l xs es ls (Heard Data) (Bits Data 1) _ _ (t .0) refl (t .0 .sum) refl (byte-acked v t z), len-more es ls _ l (t .1))
+    trail-step v t (w-close z e) = (moves c l xs es ls (Heard Data) Rest c 3 (t .0) refl (t .0 .sum) refl (byte-acked v t z), len-more es ls 3 l (t .1))
     trail-step v t (w-drop o) =
         let h = v .here .some in
         let k = v .here .most in
-        let i = c .at - c .seen - 1 in
+        let i = c .at - 1 - c .seen in
         let e : c .at - c .seen ≡ suc i = omega arith in
         let X = thenHead r (t .0 .past) (c .seen) in
-        refuse c xs es ls l (getD xs (c .seen + i) 0) AtData (Heard Data) (thenData X xs (c .seen) i) (t .0) (t .1) o
-        (the-data i (not-yes (r .reads) (v .right)) (omega arith)) (ap (thenData X xs (c .seen)) e)
+        refuse c xs es ls l (getD xs (c .seen + i) 0) AtData (Heard Data) (thenData X xs (c .seen) i) (t .0) (t .1) o (omega (arith, v .common .low))
+        (the-data i (not-yes (r .reads) (v .right)) (omega arith) (t .0 .levels)) (ap (thenData X xs (c .seen)) e)
     trail-step v t w-poll =
         let z = v .here .1 in
         let k : c .tries + 1 - 1 ≡ 0 = omega arith in
         let u = t .0 .sum in
-        let X = thenStop (thenData (thenHead r (t .0 .past) (c .seen)) xs (c .seen) (c .at - c .seen)) in
-        (moves c xs es Rest (Bits Poll 0) _ 2 (t .0) refl (omega arith) (ap (λ (i : ℕ). thenStart (thenPolls X (selectOf r (c .seen)) i)) k), len-more es ls 2 l (t .1))
+        let X = thenStop (thenData (thenHead r (t .0 .past) (c .seen)) xs (c .seen) (c .at - c .seen)) in (
+          moves c l xs es ls Rest (Bits Poll 0) _ 2 (t .0) refl (omega arith) (ap (λ (i : ℕ). thenStart (thenPolls X (selectOf r (c .seen)) i)) k)
+              (went Data (t .0 .past) (t .0 .levels), subst (PollsMissed (longer ls l) X (selectOf r (c .seen))) (sym k) tt),
+          len-more es ls 2 l (t .1),
+        )
     trail-step v t (w-again z o) =
         let k : c .tries + 1 - 1 ≡ c .tries = omega arith in
         let u = t .0 .sum in
         let X = thenStop (thenData (thenHead r (t .0 .past) (c .seen)) xs (c .seen) (c .at - c .seen)) in
-        (moves c xs es (Heard Poll) (Bits Poll 0) _ 2 (t .0) refl (omega arith) (ap (λ (i : ℕ). thenStart (thenPolls X (selectOf r (c .seen)) i)) k), len-more es ls 2 l (t .1))
+        let n = missed-next ls l r xs (t .0 .past) (c .at) (c .seen) (c .tries) X (selectOf r (c .seen)) (v .here .1) (t .0 .levels .1) (missed-now ls l es _ (t .0 .events) (t .1) z) in (
+          moves c l xs es ls (Heard Poll) (Bits Poll 0) _ 2 (t .0) refl (omega arith) (ap (λ (i : ℕ). thenStart (thenPolls X (selectOf r (c .seen)) i)) k)
+              (went Poll (t .0 .past) (t .0 .levels) .0, subst (PollsMissed (longer ls l) X (selectOf r (c .seen))) (sym k) n),
+          len-more es ls 2 l (t .1),
+        )
     trail-step v t (w-give z o) =
         let h = v .common .tries in
         let i = v .here .1 in
@@ -286,45 +334,65 @@ module _ (r : Request) where
         let D : ℕ → List ℕ = λ n. thenStop (thenData (thenHead r (t .0 .past) (c .seen)) xs (c .seen) n) in
         let X = D (lengthOf r (c .seen)) in
         let sel = selectOf r (c .seen) in
-        refuse c xs es ls l sel AtPolls (Heard Poll) (thenStart (thenPolls X sel (allowedOf r - 1))) (t .0) (t .1) z
-        (the-poll (not-yes (r .reads) (v .right)))
+        let w = t .0 .levels in
+        refuse c xs es ls l sel AtPolls (Heard Poll) (thenStart (thenPolls X sel (allowedOf r - 1))) (t .0) (t .1) z (omega (arith, v .common .low, v .here .0 .some))
+        (the-poll (not-yes (r .reads) (v .right)) (subst (FilledAcked ls r (t .0 .past) xs (c .seen)) m (w .0))
+        (subst (λ (n : ℕ). PollsMissed ls X sel (n - 1)) k (subst (λ (n : ℕ). PollsMissed ls (D n) sel (c .tries - 1)) m (w .1))))
         (ap (λ (n : ℕ). thenPolls (D n) sel (c .tries)) m ∙ (ap (thenPolls X sel) k ∙ polls-more X sel (allowedOf r) (omega arith)))
     trail-step v t (w-page z) =
         let y = v .here .0 .end in
         let u = t .0 .sum in
         let m : c .at - c .seen ≡ lengthOf r (c .seen) = omega arith in
         let sel = selectOf r (c .seen) in
-        let Y = thenPart r (t .0 .past) xs (c .seen) (c .tries) in (
+        let D : ℕ → List ℕ = λ n. thenStop (thenData (thenHead r (t .0 .past) (c .seen)) xs (c .seen) n) in
+        let Y = thenPart r (t .0 .past) xs (c .seen) (c .tries) in
+        let w = went Poll (t .0 .past) (t .0 .levels) in
+        let e = t .0 .events ∙ ap (λ (n : ℕ). thenPolls (D n) sel (c .tries)) m in
+        let b = before-more ls l r (r .reads) xs (c .seen) (t .0 .spent) (t .0 .past) (t .0 .parts) in
+        let h : PartTold (longer ls l) r (t .0 .past) xs (c .seen) (c .tries) =
+        (subst (FilledAcked (longer ls l) r (t .0 .past) xs (c .seen)) m (w .0), subst (λ (n : ℕ). PollsMissed (longer ls l) (D n) sel (c .tries - 1)) m (w .1), acked-now ls l es _ e (t .1) z) in (
           record {
             past = Y;
             spent = c .polls;
             sum = omega arith;
             parts =
-                subst (λ (q : ℕ). Before (r .reads) r xs (c .at) q Y) u
-                (part-before r xs (t .0 .past) (c .at) (c .seen) (c .tries) (t .0 .spent) (v .here .1) (v .common .tries) (r .reads) (not-yes (r .reads) (v .right)) (v .common .low) (v .here .0) (t .0 .parts));
-            events = ap thenStop (t .0 .events ∙ ap (λ (n : ℕ). thenPolls (thenStop (thenData (thenHead r (t .0 .past) (c .seen)) xs (c .seen) n)) sel (c .tries)) m);
+                subst (λ (q : ℕ). Before (r .reads) r xs (longer ls l) (c .at) q Y) u
+                (part-before r xs (longer ls l) (t .0 .past) (c .at) (c .seen) (c .tries) (t .0 .spent) (v .here .1) (v .common .tries) (r .reads) (not-yes (r .reads) (v .right)) (v .common .low) (v .here .0) h b);
+            events = ap thenStop e;
+            levels = tt;
           },
           λ n. len-more es ls 3 l (t .1),
         )
     trail-step v t (w-take z) =
         let k = v .here .first (v .right) in
-        let X = thenByte (thenStart (thenHead r (t .0 .past) (c .seen))) (selectOf r (c .seen) + 1) 1 in
-        (moves c xs es (Heard Turn) (Bits Take 1) _ _ (t .0) refl (t .0 .sum) (ap (λ (i : ℕ). thenTaken X (r .length) i ++ (clockOf r c xs Take 0 ∷ [])) k), len-more es ls _ l (t .1))
-    trail-step v t (w-next n) = (moves c xs es (Heard Take) (Bits Take 1) _ _ (t .0) refl (t .0 .sum) refl, len-more es ls _ l (t .1))
+        let X = thenByte (thenStart (thenHead r (t .0 .past) (c .seen))) (selectOf r (c .seen) + 1) 1 in (
+          moves c l xs es ls (Heard Turn) (Bits Take 1) _ _ (t .0) refl (t .0 .sum) (ap (λ (i : ℕ). thenTaken X (r .length) i ++ (clockOf r c xs Take 0 ∷ [])) k)
+              (went Turn (t .0 .past) (t .0 .levels), acked-now ls l es _ (t .0 .events) (t .1) z),
+          len-more es ls _ l (t .1),
+        )
+    trail-step v t (w-next n) = (moves c l xs es ls (Heard Take) (Bits Take 1) _ _ (t .0) refl (t .0 .sum) refl (went Take (t .0 .past) (t .0 .levels)), len-more es ls _ l (t .1))
     trail-step v t (w-end e) =
         let z = v .here .0 .zero in
         let n = v .here .0 .none in
-        let b = read-before (r .reads) r xs (t .0 .past) (c .seen) (t .0 .spent) (v .right) z (t .0 .parts) in
+        let b = read-before (r .reads) r xs ls (t .0 .past) (c .seen) (t .0 .spent) (v .right) z (t .0 .parts) in
+        let w = went Take (t .0 .past) (t .0 .levels) in
+        let R : List ℕ → ℕ → Type 0 = λ y s. HeadAcked (longer ls l) r y s × TurnAcked (longer ls l) r y s in
+        let k : ReadTold (longer ls l) r = subst (λ (s : ℕ). R [] s) z (subst (λ (y : List ℕ). R y (c .seen)) b w) in
         let X : List ℕ → ℕ → ℕ → List ℕ = λ y s a. thenStop (thenTaken (thenByte (thenStart (thenHead r y s)) (selectOf r s + 1) 1) (r .length) a) in (
           record {
             past = readPlan r;
             spent = c .polls;
             sum = omega arith;
-            parts = read-after (r .reads) r xs (readPlan r) (c .at) (c .polls) (v .right) (v .here .1) refl;
+            parts = read-after (r .reads) r xs (longer ls l) (c .at) (c .polls) (v .right) (v .here .1) k;
             events = ap thenStop (t .0 .events) ∙ (ap (λ (y : List ℕ). X y (c .seen) (c .at)) b ∙ (ap (λ (s : ℕ). X [] s (c .at)) z ∙ ap (X [] 0) e));
+            levels = tt;
           },
           λ f. len-more es ls 3 l (t .1),
         )
-    trail-step v t (w-done e) = (subst (λ (y : List ℕ). Trail r Ready c xs y) (sym (append-nil es)) (t .0), λ n. absurd (n e))
+    trail-step v t (w-done e) =
+        let w = t .0 in (
+          record { past = w .past; spent = w .spent; sum = w .sum; parts = before-more ls l r (r .reads) xs (c .seen) (w .spent) (w .past) (w .parts); events = append-nil es ∙ w .events; levels = tt },
+          λ n. absurd (n e),
+        )
     trail-step v t (w-over f) =
-        subst (λ (y : List ℕ). Stopped r xs f (c .seen) (c .polls) y (ls ++ (l ∷ []))) (sym (append-nil es)) (stays f c xs es ls l t)
+        subst (λ (y : List ℕ). Stopped r xs f (c .seen) (c .polls) y (longer ls l)) (sym (append-nil es)) (stays f c xs es ls l t)

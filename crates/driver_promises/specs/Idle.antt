@@ -1,12 +1,21 @@
 -- Drivers that only seem to work (document 01, 'Strength of the promises'): each breaks the promises.
 -- Assumes nothing.
-use Prim.Native.Nat.{_+_}
+use Prim.Native.Nat.{ℕ, _+_, _<_}
+use mathlib.Core.Bool.{Bool, false, cond, _&&_}
+use lib.Dec.{eqb, ltb}
 use Rattle.parts.specs.declared.Refusal.{Refusal}
+use Rattle.driver.specs.declared.Slot.{Slot}
+use Rattle.driver.specs.declared.Slot.the-variants.{Select, High, Low, Data, Poll, Turn, Take}
+use Rattle.driver.specs.declared.Phase.{Phase}
+use Rattle.driver.specs.declared.Phase.the-variants.{Ready, Bits, Heard, Rest, Over}
+use Rattle.driver.specs.declared.Driver.{Driver}
 use Rattle.driver.specs.declared.Answer.{Answer}
 use Rattle.driver.specs.declared.Answer.the-variants.{Send, Done, Refused}
-use Rattle.driver.specs.Step.{driverNextOf}
+use Rattle.driver.specs.Request.{allowedOf}
+use Rattle.driver.specs.Step.{withByte, withPoll, driverNextOf, bufferOf}
 use Rattle.driver_promises.specs.Run.{Machine}
 use Rattle.driver_promises.specs.Promises.{Promises}
+use Rattle.driver_promises.specs.Listens.{OnlyThoseLevels}
 
 -- it gives one refusal to everything
 abbrev pub refusingDriver : Refusal → Machine
@@ -29,9 +38,79 @@ onePollMore (Refused f q n) = Refused f (q + 1) n
 abbrev pub inventingDriver : Machine
 inventingDriver = record { next = λ d l xs. record { answer = onePollMore (driverNextOf d l xs .answer); driver = driverNextOf d l xs .driver }; leaves = λ d l xs. xs }
 
--- the promise that breaks: refused says at which byte; done is the written-out list; an end within a formula; polls are sent
+-- ours, but it hears the acknowledge of a slot through `ear`
+abbrev pub heardBy : (Slot → ℕ → ℕ) → Phase → ℕ → ℕ
+heardBy ear Ready l = l
+heardBy ear (Bits s b) l = l
+heardBy ear (Heard s) l = ear s l
+heardBy ear Rest l = l
+heardBy ear (Over f) l = l
+
+abbrev pub hearing : (Slot → ℕ → ℕ) → Machine
+hearing ear = record { next = λ d l xs. driverNextOf d (heardBy ear (d .phase) l) xs; leaves = λ d l xs. bufferOf d (heardBy ear (d .phase) l) xs }
+
+-- it takes every acknowledge as given
+abbrev pub deaf : Machine
+deaf = hearing (λ s l. 0)
+
+-- it takes the acknowledges of select and address as given, and hears those of data and polls
+abbrev pub headless : Slot → ℕ → ℕ
+headless Select l = 0
+headless High l = 0
+headless Low l = 0
+headless Data l = l
+headless Poll l = l
+headless Turn l = 0
+headless Take l = l
+
+abbrev pub halfDeaf : Machine
+halfDeaf = hearing headless
+
+-- the slots by number: all but the last, a byte that is read, wait for an acknowledge
+abbrev pub kindOf : Slot → ℕ
+kindOf Select = 0
+kindOf High = 1
+kindOf Low = 2
+kindOf Data = 3
+kindOf Poll = 4
+kindOf Turn = 5
+kindOf Take = 6
+
+-- it takes the acknowledge of one kind of byte as given
+abbrev pub deafTo : Slot → Machine
+deafTo slot = hearing (λ s l. cond (eqb (kindOf s) (kindOf slot)) 0 l)
+
+-- ours, but after an answered poll it polls once more when the budget allows; the count `byte`, which no poll uses, says that it has
+abbrev pub lingersIn : Phase → Driver → ℕ → Bool
+lingersIn Ready d l = false
+lingersIn (Bits s b) d l = false
+lingersIn (Heard s) d l = eqb (kindOf s) 4 && (eqb l 0 && (eqb (d .counts .byte) 0 && ltb (d .counts .tries) (allowedOf (d .request))))
+lingersIn Rest d l = false
+lingersIn (Over f) d l = false
+
+abbrev pub lingering : Machine
+lingering =
+    record {
+      next = λ d l xs.
+          cond (lingersIn (d .phase) d l)
+          (record { answer = Send 2; driver = record { request = d .request; phase = Bits Poll 0; counts = withByte (withPoll (d .counts)) 1 } })
+          (driverNextOf d l xs);
+      leaves = bufferOf;
+    }
+
+-- ours, but it sends nothing while the line is high, whatever the clock
+abbrev pub nosy : Machine
+nosy = record { next = λ d l xs. cond (eqb l 0) (driverNextOf d l xs) (record { answer = Done 0 0; driver = d }); leaves = bufferOf }
+
+-- the promise that breaks: refused says at which byte; done is the written-out list; an end within a formula; polls are sent; the
+-- levels told for the list's acknowledges are low, but for the polls before the last of a page
 pub record IdleDriversBreak : Type 0 where
   pub refusing : (f : Refusal) → Promises (refusingDriver f) → ⊥
   pub atOnce : Promises atOnce → ⊥
   pub endless : Promises endless → ⊥
   pub inventing : Promises inventingDriver → ⊥
+  pub deaf : Promises deaf → ⊥
+  pub halfDeaf : Promises halfDeaf → ⊥
+  pub deafTo : (s : Slot) → kindOf s < 6 → Promises (deafTo s) → ⊥
+  pub lingering : Promises lingering → ⊥
+  pub nosy : OnlyThoseLevels nosy → ⊥

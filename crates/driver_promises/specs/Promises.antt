@@ -17,6 +17,7 @@ use Rattle.driver.specs.Request.{judgeOf, allowedOf, kOf}
 use Rattle.driver.specs.Step.{refusalOf}
 use Rattle.driver_promises.specs.Run.{Machine, DriverHeld, begun, answerTo, told, afterAll, eventsSent, Finished, clocksIn, pollsIn, addressBytes, boundOf, clockOfByte, toldByte}
 use Rattle.driver_promises.specs.Plan.{selectOf, writePlan, readPlan}
+use Rattle.driver_promises.specs.Heard.{PartsTold, ReadTold}
 use Rattle.driver_promises.specs.Where.{Within, Stopped}
 
 -- The splitter, over any page size P: the parts add up to the length, and are as many as the pages met, of which there are as many as
@@ -55,13 +56,15 @@ module _ (M : Machine) (r : Request) (xs : List ℕ) (ls : List ℕ) (l : ℕ) w
     pub refused : (f : Refusal) (q m : ℕ) → answers ≡ Refused f q m → q ≡ pollsIn false sent
     pub most : pollsIn false sent ≤ kOf r * allowedOf r
 
-  -- 3. Done: all bytes are reported, and the events are the written-out list. A write: for some number of polls a page
+  -- 3. Done: all bytes are reported, the events are the written-out list, and the levels told for its acknowledges are those that
+  -- the list asks for. A write: for some number of polls a page
   pub record WriteDone (q : ℕ) : Type 0 where
     pub polls : List ℕ
     pub pages : length polls ≡ kOf r
     pub sum : sum polls ≡ q
     pub within : Within (allowedOf r) polls
     pub events : sent ≡ writePlan r xs polls
+    pub levels : PartsTold ls r [] xs 0 polls
     pub clocks : clocksIn sent ≡ 9 * (kOf r * (1 + addressBytes r) + r .length + q)
     pub buffer : after .buffer ≡ xs
 
@@ -69,6 +72,7 @@ module _ (M : Machine) (r : Request) (xs : List ℕ) (ls : List ℕ) (l : ℕ) w
   pub record ReadDone (q : ℕ) : Type 0 where
     pub none : q ≡ 0
     pub events : 0 < r .length → sent ≡ readPlan r
+    pub levels : 0 < r .length → ReadTold ls r
     pub clocks : 0 < r .length → clocksIn sent ≡ 9 * (2 + addressBytes r + r .length)
     -- each byte got is the levels told for its eight clocks
     pub bytes : (i : ℕ) → i < r .length → getD (after .buffer) i 0 ≡ toldByte ls (clockOfByte r i) 8
@@ -83,7 +87,7 @@ module _ (M : Machine) (r : Request) (xs : List ℕ) (ls : List ℕ) (l : ℕ) w
     pub plan : DoneOf (r .reads) q
     pub nothing : r .length ≡ 0 → sent ≡ []
 
-  -- 4. Refused: which byte was not acknowledged; the last event is a Stop; the buffer is as before
+  -- 4. Refused: which byte was not acknowledged, everything before it was; the last event is a Stop; the buffer is as before
   pub record RefusedAt (f : Refusal) (q m : ℕ) : Type 0 where
     pub why : Failed
     pub refusal : f ≡ refusalOf why

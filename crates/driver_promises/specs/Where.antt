@@ -13,6 +13,7 @@ use Rattle.driver.specs.declared.Failed.the-variants.{AtSelect, AtData, AtPolls
 use Rattle.driver.specs.Split.{sum, pagesMetOf}
 use Rattle.driver.specs.Request.{allowedOf, kOf}
 use Rattle.driver_promises.specs.Plan.{thenStart, thenStop, thenByte, thenPolls, thenData, addressAt, selectOf, thenSelect, thenHigh, thenHead, lengthOf, thenParts, partsEndOf, readPlan}
+use Rattle.driver_promises.specs.Heard.{Acked, Missed, PollsMissed, HighAcked, HeadAcked, FilledAcked, PartsTold, ReadTold}
 
 -- the pages that the bytes from number o on meet
 abbrev pub leftOf : Request → ℕ → ℕ
@@ -24,43 +25,46 @@ Within most [] = Unit {0}
 Within most (q ∷ qs) = (1 ≤ q) × (q ≤ most) × Within most qs
 
 -- whole parts of a write: they hold the first `bytes` bytes of xs, in as many pages, and polls are the polls of them all
-pub record Parts (r : Request) (xs : List ℕ) (bytes polls : ℕ) (es : List ℕ) : Type 0 where
+pub record Parts (r : Request) (xs ls : List ℕ) (bytes polls : ℕ) (es : List ℕ) : Type 0 where
   pub each : List ℕ
   pub ends : partsEndOf r 0 each ≡ bytes
   pub pages : length each + leftOf r bytes ≡ kOf r
   pub polled : sum each ≡ polls
   pub within : Within (allowedOf r) each
   pub events : es ≡ thenParts r [] xs 0 each
+  pub levels : PartsTold ls r [] xs 0 each
 
 -- what went before the part that was refused: whole parts of a write, and of a read nothing
-abbrev pub Before : Bool → Request → List ℕ → ℕ → ℕ → List ℕ → Type 0
-Before true r xs bytes polls es = es ≡ cond (eqb bytes 0) [] (readPlan r)
-Before false r xs bytes polls es = Parts r xs bytes polls es
+abbrev pub Before : Bool → Request → List ℕ → List ℕ → ℕ → ℕ → List ℕ → Type 0
+Before true r xs ls bytes polls es = (es ≡ cond (eqb bytes 0) [] (readPlan r)) × (0 < bytes → ReadTold ls r)
+Before false r xs ls bytes polls es = Parts r xs ls bytes polls es
 
--- a byte that a refusal can stand at, and the events before it; `past` went before the part that begins with byte m
-pub data RefusedByte (r : Request) (xs : List ℕ) (past : List ℕ) (m : ℕ) : Failed → ℕ → List ℕ → Type 0 where
-  the-select : RefusedByte r xs past m AtSelect (selectOf r m) (thenStart past)
-  the-high : factsOf (r .part) .wide ≡ true → RefusedByte r xs past m AtSelect (addressAt r m / 256 % 256) (thenSelect r past m)
-  the-low : RefusedByte r xs past m AtSelect (addressAt r m % 256) (thenHigh r (factsOf (r .part) .wide) past m)
+-- a byte that a refusal can stand at, the events before it, and that of the part everything before it was acknowledged; `past` went
+-- before the part that begins with byte m
+pub data RefusedByte (r : Request) (xs ls : List ℕ) (past : List ℕ) (m : ℕ) : Failed → ℕ → List ℕ → Type 0 where
+  the-select : RefusedByte r xs ls past m AtSelect (selectOf r m) (thenStart past)
+  the-high : factsOf (r .part) .wide ≡ true → Acked ls (thenSelect r past m) → RefusedByte r xs ls past m AtSelect (addressAt r m / 256 % 256) (thenSelect r past m)
+  the-low : HighAcked ls r (factsOf (r .part) .wide) past m → RefusedByte r xs ls past m AtSelect (addressAt r m % 256) (thenHigh r (factsOf (r .part) .wide) past m)
   -- the second select of a read
-  the-turn : r .reads ≡ true → RefusedByte r xs past m AtSelect (selectOf r m + 1) (thenStart (thenHead r past m))
+  the-turn : r .reads ≡ true → HeadAcked ls r past m → RefusedByte r xs ls past m AtSelect (selectOf r m + 1) (thenStart (thenHead r past m))
   -- data byte number m + i
-  the-data : (i : ℕ) → r .reads ≡ false → i < lengthOf r m → RefusedByte r xs past m AtData (getD xs (m + i) 0) (thenData (thenHead r past m) xs m i)
-  -- the select of the last poll allowed
-  the-poll : r .reads ≡ false → RefusedByte r xs past m AtPolls (selectOf r m) (thenStart (thenPolls (thenStop (thenData (thenHead r past m) xs m (lengthOf r m))) (selectOf r m) (allowedOf r - 1)))
+  the-data : (i : ℕ) → r .reads ≡ false → i < lengthOf r m → FilledAcked ls r past xs m i → RefusedByte r xs ls past m AtData (getD xs (m + i) 0) (thenData (thenHead r past m) xs m i)
+  -- the select of the last poll allowed: the polls before it were missed
+  the-poll : r .reads ≡ false → FilledAcked ls r past xs m (lengthOf r m) → PollsMissed ls (thenStop (thenData (thenHead r past m) xs m (lengthOf r m))) (selectOf r m) (allowedOf r - 1) → RefusedByte r xs ls past m AtPolls (selectOf r m) (thenStart (thenPolls (thenStop (thenData (thenHead r past m) xs m (lengthOf r m))) (selectOf r m) (allowedOf r - 1)))
 
--- refused after `bytes` bytes and `polls` polls: the byte's ninth clock was the last event but one, its level was told as not
+-- refused after `bytes` bytes, not all, and `polls` polls: the byte's ninth clock was the last event but one, its level was told as not
 -- pulled low, and the last event is a Stop
 pub record Stopped (r : Request) (xs : List ℕ) (f : Failed) (bytes polls : ℕ) (es ls : List ℕ) : Type 0 where
+  pub short : bytes < r .length
   pub past : List ℕ
   -- polls for the part under way
   pub tries : ℕ
   pub spent : ℕ
   pub sum : spent + tries ≡ polls
-  pub parts : Before (r .reads) r xs bytes spent past
+  pub parts : Before (r .reads) r xs ls bytes spent past
   pub byte : ℕ
   pub before : List ℕ
-  pub which : RefusedByte r xs past bytes f byte before
+  pub which : RefusedByte r xs ls past bytes f byte before
   pub events : es ≡ thenStop (thenByte before byte 1)
   pub within : length es ≤ length ls
-  pub level : 0 < getD ls (length es - 1) 0
+  pub level : Missed ls (thenByte before byte 1)

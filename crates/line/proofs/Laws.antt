@@ -61,7 +61,7 @@ send-past b (suc k) small h =
     let none : b / 2 ^ k ≡ 0 = div-eq-of-lt (omega (arith, big)) in
     rw none
 
--- the place before the counter lies in the same page
+-- the place before a 16-bit counter is below 65,536 too
 pub before-lt : (P c : ℕ) → 0 < P → 65536 ≡ 65536 / P * P → c < 65536 → beforeOf P c < 65536
 unfolding beforeOf
 before-lt P c pos even h = omega (arith, page-room 65536 P c pos even h, mod-lt (c + (P - 1)) pos)

@@ -1,10 +1,9 @@
 // Stored chips: an image read from a file, and one written into a file that is there whole or not at all. A chip is held as its bytes.
 use libc::STDERR_FILENO;
+use parts::Refusal;
 
 // In place of a refusal's number: standard error has the reason.
 pub const TOLD: u8 = 255;
-
-const BAD_IMAGE: u8 = 12;
 
 // ---- reading
 
@@ -31,7 +30,7 @@ fn other(part: u8, bytes: &[u8]) -> u8 {
         );
         return TOLD;
     }
-    BAD_IMAGE
+    parts::number(Refusal::BadImage)
 }
 
 fn load(

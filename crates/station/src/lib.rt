@@ -10,6 +10,7 @@ use driver::Request;
 use files::TOLD;
 use parts::ArrayAddress;
 use parts::IdLocation;
+use parts::Refusal;
 use words::Job;
 
 // The events of a run that are kept: more than writing or reading the whole of the largest array takes, where no page is polled
@@ -207,14 +208,14 @@ fn begin(job: Job, held: &mut [u8], array: &mut [u8], id: &mut [u8], data: &mut 
 fn refusal(job: Job) -> u8 {
     let f = parts::facts_of(job.part);
     if !f.known {
-        return 1;
+        return parts::number(Refusal::NoPart);
     }
     if parts::enable_right(f, job.enable) {
         if parts::enable_right(f, job.own) {
             return 0;
         }
     }
-    2
+    parts::number(Refusal::WrongEnable)
 }
 
 // False where nothing, or not all, could be answered: standard error has the reason.
