@@ -1,6 +1,7 @@
 pub mod Runs
 pub mod Steps
 pub mod Refused
+pub mod Numbers
 pub mod Pages
 pub mod Lock
 pub mod Pin

@@ -5,6 +5,7 @@ pub mod Lock
 pub mod Pin
 pub mod Stops
 pub mod Refused
+pub mod Numbers
 pub mod Histories
 pub mod Invented
 pub mod Idle

@@ -6,19 +6,17 @@ use mathlib.Core.List.{List, []}
 use Prim.Native.Nat.{ℕ, _+_, _*_, _/_, _%_, _<_, _≤_}
 use native.Mathlib.Nat.{mod-lt, div-add-mod', le-of-eq}
 use native.Mathlib.Omega.{arith}
-use lib.Dec.{eqb}
 use lib.ListN.{length, take, drop, getD, length-take, length-drop}
 use lib.Seq.{getD-take, getD-drop, take-all}
-use borrow.Author.Tests.{le-leb, lt-leb, ne-eqb, eqb-true}
+use borrow.Author.Tests.{le-leb, lt-leb}
 use Rattle.parts.specs.declared.ArrayAddress.{ArrayAddress}
-use Rattle.parts.specs.declared.Facts.{Facts}
 use Rattle.parts.specs.declared.Refusal.{Refusal}
 use Rattle.parts.specs.declared.Refusal.the-variants.{NoPart, WrongBuffer, Beyond}
 use Rattle.parts.specs.declared.Verdict.{Verdict}
 use Rattle.parts.specs.declared.Verdict.the-variants.{Fine, Refused}
-use Rattle.parts.specs.Table.{factsOf, idSizeOf, buffersRightOf}
+use Rattle.parts.specs.Table.{factsOf}
 use Rattle.parts.specs.Refusals.{rankOf, verdictNumberOf, claimOf, soonerOf, lentVerdictOf}
-use Rattle.parts.proofs.Laws.{known, unknown, branch, fine, buffers-right}
+use Rattle.parts.proofs.Laws.{known, unknown, fine, buffers-right, buffers-wrong}
 use Rattle.parts.proofs.Claims.{fine-lent, lent-unknown, lent-wrong, later-claim, given-first}
 use Rattle.page.specs.declared.Place.{Place}
 use Rattle.page.specs.declared.Place.the-variants.{Array, Ident}
@@ -27,11 +25,6 @@ use Rattle.page.specs.Promise.{Lengths, RefusesRightly, IsPage, ShowsPag
 use Rattle.page.proofs.Laws.{room, accepted}
 
 -- ---- the refusals
-
-wrong : (f : Facts) (array id : ℕ) → ((array ≡ f .size) × (id ≡ idSizeOf f) → ⊥) → buffersRightOf f array id ≡ false
-unfolding buffersRightOf
-wrong f array id n =
-    branch (λ b. b ≡ false) (eqb array (f .size)) (λ h. ne-eqb id (idSizeOf f) (λ e. n (eqb-true array (f .size) h, e))) (λ _. refl)
 
 -- the buffers are the part's, so the place decides
 lent : (part array id : ℕ) (place : Place) → factsOf part .known ≡ true → Lengths part array id → lookRefusalOf part array id place ≡ claimOf (outsideOf (factsOf part) place) Beyond
@@ -53,7 +46,7 @@ before-7 part array id place r low h = rw h (given-first r _ (later-claim _ (out
 pub refuses-rightly : RefusesRightly lookRefusalOf
 refuses-rightly = record {
   noPart = λ part array id place h. ap verdictNumberOf (before-7 part array id place NoPart (omega arith) (lent-unknown (factsOf part) array id (unknown part h)));
-  wrongBuffer = λ part array id place h n. ap verdictNumberOf (before-7 part array id place WrongBuffer (omega arith) (lent-wrong (factsOf part) array id (known part h) (wrong (factsOf part) array id n)));
+  wrongBuffer = λ part array id place h n. ap verdictNumberOf (before-7 part array id place WrongBuffer (omega arith) (lent-wrong (factsOf part) array id (known part h) (buffers-wrong (factsOf part) array id n)));
   beyond = λ part array id a h l far. rw (lent part array id (Array a) (known part h) l, le-leb (factsOf part .size) (a .0) far);
   noPage = λ part array id h l i. rw (lent part array id Ident (known part h) l, i);
   inArray = λ part array id a h l low. ap verdictNumberOf (in-array part array id a (known part h) l low);

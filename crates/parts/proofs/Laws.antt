@@ -6,7 +6,7 @@ use mathlib.Core.Bool.{Bool, true, false, cond}
 use native.Mathlib.Omega.{arith}
 use lib.Dec.{eqb}
 use lib.ListN.{length}
-use borrow.Author.Tests.{eq-eqb, ne-eqb, eqb-false}
+use borrow.Author.Tests.{eq-eqb, ne-eqb, eqb-true, eqb-false}
 use Rattle.parts.specs.declared.Facts.{Facts}
 use Rattle.parts.specs.declared.Part.{Part}
 use Rattle.parts.specs.declared.Event.the-variants.{Clock}
@@ -106,3 +106,8 @@ clock-code (suc (suc e)) h = absurd (omega arith)
 pub buffers-right : (f : Facts) (n d : ℕ) → n ≡ f .size → d ≡ idSizeOf f → buffersRightOf f n d ≡ true
 unfolding buffersRightOf
 buffers-right f n d a b = rw (eq-eqb n (f .size) a, eq-eqb d (idSizeOf f) b)
+
+pub buffers-wrong : (f : Facts) (n d : ℕ) → ((n ≡ f .size) × (d ≡ idSizeOf f) → ⊥) → buffersRightOf f n d ≡ false
+unfolding buffersRightOf
+buffers-wrong f n d w =
+    branch (λ b. b ≡ false) (eqb n (f .size)) (λ h. ne-eqb d (idSizeOf f) (λ e. w (eqb-true n (f .size) h, e))) (λ _. refl)
