@@ -13,5 +13,6 @@ pub mod Range
 pub mod Shut
 pub mod Replay
 pub mod Calls
+pub mod Numbers
 pub mod Idle
 pub mod Trials

@@ -53,7 +53,7 @@ module _ (part en : ℕ) (c : Chip) (n d : ℕ) where
       later-sooner (rankOf r) enable state (later-claim (rankOf r) (not (enableRightOf (factsOf part) en)) WrongEnable h)
       (later-claim (rankOf r) (not (inRangeOf (factsOf part) c)) BadState (omega arith))
 
-  held-1 : 5 < part → heldVerdictOf part en c n d ≡ Refused NoPart
+  pub held-1 : 5 < part → heldVerdictOf part en c n d ≡ Refused NoPart
   unfolding heldVerdictOf
   held-1 h =
       ap (λ (v : Verdict). soonerOf v (soonerOf enable state)) (lent-unknown (factsOf part) n d (unknown part h))
@@ -65,7 +65,7 @@ module _ (part en : ℕ) (c : Chip) (n d : ℕ) where
   before-3 true = refl
   before-3 false = refl
 
-  held-2 : part ≤ 5 → factsOf part .enables ≤ en → heldVerdictOf part en c n d ≡ Refused WrongEnable
+  pub held-2 : part ≤ 5 → factsOf part .enables ≤ en → heldVerdictOf part en c n d ≡ Refused WrongEnable
   unfolding heldVerdictOf lentVerdictOf enableRightOf
   held-2 k h =
       let e : ltb en (factsOf part .enables) ≡ false = le-ltb en (factsOf part .enables) h in
@@ -76,11 +76,11 @@ module _ (part en : ℕ) (c : Chip) (n d : ℕ) where
       ∙ ap (λ (b : Bool). soonerOf (soonerOf (claimOf (not b) NoPart) (claimOf (not (buffersRightOf (factsOf part) n d)) WrongBuffer)) (Refused WrongEnable)) (known part k)
       ∙ before-3 (buffersRightOf (factsOf part) n d)
 
-  enabled : en < factsOf part .enables → enableRightOf (factsOf part) en ≡ true
+  pub enabled : en < factsOf part .enables → enableRightOf (factsOf part) en ≡ true
   unfolding enableRightOf
   enabled h = lt-ltb en (factsOf part .enables) h
 
-  held-3 : part ≤ 5 → en < factsOf part .enables → ((n ≡ factsOf part .size) × (d ≡ idSizeOf (factsOf part)) → ⊥) → heldVerdictOf part en c n d ≡ Refused WrongBuffer
+  pub held-3 : part ≤ 5 → en < factsOf part .enables → ((n ≡ factsOf part .size) × (d ≡ idSizeOf (factsOf part)) → ⊥) → heldVerdictOf part en c n d ≡ Refused WrongBuffer
   unfolding heldVerdictOf
   held-3 k e w =
       ap (λ (v : Verdict). soonerOf v (soonerOf enable state)) (lent-wrong (factsOf part) n d (known part k) (buffers-wrong (factsOf part) n d w))
@@ -96,12 +96,12 @@ module _ (part en : ℕ) (c : Chip) (m : Mem) where
   abbrev held : Verdict
   held = heldVerdictOf part en c (length (m .cells)) (length (m .ident))
 
-  held-4 : Named part en m → inRangeOf (factsOf part) c ≡ false → held ≡ Refused BadState
+  pub held-4 : Named part en m → inRangeOf (factsOf part) c ≡ false → held ≡ Refused BadState
   held-4 a o =
       held-out part en c (length (m .cells)) (length (m .ident)) (known part (a .known)) (enabled part en c (length (m .cells)) (length (m .ident)) (a .enabled))
       (buffers-right (factsOf part) (length (m .cells)) (length (m .ident)) (a .lent .0) (a .lent .1)) o
 
-  held-0 : Ready part en c m → held ≡ Fine
+  pub held-0 : Ready part en c m → held ≡ Fine
   held-0 r =
       let a = r .named in
       fine-held part en c (length (m .cells)) (length (m .ident))
