@@ -39,7 +39,7 @@ use Rattle.bench_promises.specs.Ground.{targetOf}
 use Rattle.bench_promises.specs.Together.{Begins, answerOf, reportedOf, otherOf, Safe, ReadRight}
 use Rattle.bench_promises.specs.Ends.{Writable, Shut, Complete}
 use Rattle.bench_promises.specs.Calls.{ourBench, Called, Written, ReadThere, Ended, UsedUp, Protected, Untouched, readOf, BenchPromises}
-use Rattle.bench_promises.proofs.Wrote.{less-or-more}
+use Rattle.driver_promises.proofs.Numbers.{less-or-more}
 use Rattle.bench_promises.proofs.Stored.{room-is, all-done, write-safe, read-right, read-ends, finished}
 use Rattle.bench_promises.proofs.Rel.{Buffer}
 use Rattle.bench_promises.proofs.Whole.{G, sane, holds}
@@ -292,6 +292,12 @@ untouched r en d c m ys x e =
       chip = ap (λ (y : BenchLeft). y .report .chip) p;
       memory = ap (λ (y : BenchLeft). y .mem) p;
       buffer = ap (λ (y : BenchLeft). y .buffer) p;
+      polls = ap (λ (y : BenchLeft). y .report .polls) p;
+      bytes = ap (λ (y : BenchLeft). y .report .bytes) p;
+      cycles = ap (λ (y : BenchLeft). y .report .cycles) p;
+      clocks = ap (λ (y : BenchLeft). y .report .clocks) p;
+      events = ap (λ (y : BenchLeft). y .events) p;
+      levels = ap (λ (y : BenchLeft). y .levels) p;
     }
 
 -- the memories keep their lengths

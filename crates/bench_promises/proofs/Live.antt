@@ -38,7 +38,8 @@ use Rattle.driver_promises.specs.Where.{leftOf}
 use Rattle.driver_promises.proofs.View.{at, Way, w-done, w-open, w-bit, w-ninth, w-got, w-nack, w-high, w-only, w-low, w-turn, w-data, w-more, w-close, w-drop, w-poll, w-again, w-give, w-page, w-take, w-next, w-end, w-over}
 use Rattle.driver_promises.proofs.Inv.{Inv, left-none}
 use Rattle.driver_promises.proofs.Grow.{bit-lt}
-use Rattle.driver_promises.proofs.Extra.{Named, ident-one}
+use Rattle.driver_promises.specs.Promises.{OnIdent}
+use Rattle.driver_promises.proofs.Extra.{ident-one}
 use Rattle.bench.specs.Together.{System, startOf, answeredBy, askedOf, cycleEndedOf, togetherOf, pollNext}
 use Rattle.bench_promises.specs.Ground.{targetOf}
 use Rattle.bench_promises.specs.Together.{Begins, answerOf, askings}
@@ -252,14 +253,14 @@ writes-end r xs c m bs w b u f h = write-ends r xs c m b bs w u f h
 pub writes-cycles : DoneCycles (λ f en. togetherOf (ours f en))
 writes-cycles r xs c m bs w b q n e = done-cycles r xs c m b bs w q n e
 
-ident-named : (p : Place) → targetOf p ≡ TheIdent → Named p
+ident-named : (p : Place) → targetOf p ≡ TheIdent → OnIdent p
 ident-named (Array a) e = go e
   where
     kind : Target → Bool
     kind TheArray = false
     kind TheIdent = true
 
-    go : TheArray ≡ TheIdent → Named (Array a)
+    go : TheArray ≡ TheIdent → OnIdent (Array a)
     go e = absurd (false≢true (ap kind e))
 ident-named (Ident i) e = tt
 

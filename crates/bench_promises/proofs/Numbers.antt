@@ -1,19 +1,20 @@
 -- The numbers of a run of driver and chip are given in document 01's order.
 -- Assumes nothing.
-use Prim.Native.Nat.{ℕ, _/_, _<_, _≤_}
+use Prim.Native.Nat.{ℕ, _+_, _/_, _<_, _≤_}
 use mathlib.Core.Path.{_≡_, refl, sym, ap, _∙_}
 use mathlib.Core.Bool.{Bool, true, false, not, cond}
-use mathlib.Core.Logic.{_⊎_, inl, inr}
+use mathlib.Core.Logic.{_⊎_, inl, inr, ⊎-elim}
 use mathlib.Core.List.{List, []}
 use lib.ListN.{length}
 use lib.Dec.{eqb, ltb}
 use native.Mathlib.Omega.{arith}
+use native.Mathlib.Decide.{ℕ-discrete}
 use borrow.Author.Tests.{lt-ltb, le-ltb, eq-eqb, ne-eqb, ltb-true, ltb-false}
 use Rattle.parts.specs.declared.Refusal.{Refusal}
 use Rattle.parts.specs.declared.Refusal.the-variants.{NoPart, WrongEnable, WrongBuffer, BadState, BadEvent, ShortBuffer, Beyond, BadLimit, NoSelect, NoData, PollsUsed, BadImage, TooMany}
 use Rattle.parts.specs.declared.Verdict.{Verdict}
 use Rattle.parts.specs.declared.Verdict.the-variants.{Fine, Refused}
-use Rattle.parts.specs.Table.{factsOf, enableRightOf, buffersRightOf}
+use Rattle.parts.specs.Table.{factsOf, idSizeOf, enableRightOf, buffersRightOf}
 use Rattle.parts.specs.Refusals.{numberOf, rankOf, verdictNumberOf, claimOf, soonerOf, lentVerdictOf}
 use Rattle.parts.proofs.Laws.{branch, known}
 use Rattle.parts.proofs.Claims.{Later, later-claim, later-sooner}
@@ -22,14 +23,15 @@ use Rattle.state.specs.Range.{inRangeOf}
 use Rattle.chip.specs.Memory.{Mem, mem}
 use Rattle.chip.specs.Delivery.{standbyOf}
 use Rattle.chip.specs.Calls.{heldVerdictOf}
+use Rattle.chip_promises.specs.Numbers.{Lent, Named, Ready}
 use Rattle.chip_promises.proofs.Numbers.{held-1, held-2, held-3, held-4, held-0}
 use Rattle.driver.specs.declared.Place.the-variants.{Array}
 use Rattle.driver.specs.declared.Request.{Request}
-use Rattle.driver.specs.Request.{beyondAt, limitOf, judgeOf}
+use Rattle.driver.specs.Request.{fromOf, roomOf, thereOf, beyondAt, limitOf, judgeOf}
 use Rattle.driver_promises.specs.Numbers.{Enabled, Inside}
-use Rattle.driver_promises.proofs.Numbers.{off, enable, far, limit, judged-1, from-2, judged-2, from-7, judged-7, none-there, too-far, judged-8, low, large}
+use Rattle.driver_promises.proofs.Numbers.{off, enable, far, limit, judged-1, from-2, judged-2, from-7, judged-7, none-there, too-far, judged-8, low, large, less-or-more}
 use Rattle.bench.specs.Calls.{otherLengthOf, shortOf, lateOf, benchVerdictOf, benchVerdict}
-use Rattle.bench_promises.specs.Numbers.{Placed, Filled, BenchNumbers, forward, ForwardBreaks}
+use Rattle.bench_promises.specs.Numbers.{Judge, Placed, Filled, BenchNumber, BenchNumbers, OneBenchNumber, forward, ForwardBreaks}
 
 -- ---- a refusal is given where one of its rank applies and none of a lower one does
 
@@ -321,6 +323,94 @@ bench-numbers r en d c m ys =
       bad-delay = λ p f i h. number-8 r en d c m ys p f i (delayed r en d c m ys h);
       none = λ p f i b l h. number-0 r en d c m ys p f i (allowed (r .reads) (r .budget) b) (late-false d l h);
     }
+
+-- ---- one of the conditions holds of every call
+
+clash : {A : Type 0} {b : Bool} → b ≡ true → b ≡ false → A
+clash t f = let z : _≡_ {A = ℕ} 0 1 = cc in absurd (omega arith)
+
+module _ (judge other : Judge) (p : BenchNumbers judge) (q : BenchNumbers other) (r : Request) (en d : ℕ) (c : Chip) (m : Mem) (ys : List ℕ) where
+  abbrev Same : Type 0
+  Same = verdictNumberOf (judge r en d c m ys) ≡ verdictNumberOf (other r en d c m ys)
+
+  abbrev P : BenchNumber judge r en d c m ys
+  P = p r en d c m ys
+
+  abbrev Q : BenchNumber other r en d c m ys
+  Q = q r en d c m ys
+
+  -- of d
+  same-delay : Placed r en c m → Filled r ys → Inside r → (r .reads ≡ false → (1 ≤ r .budget) × (r .budget ≤ 1000)) → Same
+  same-delay a f i b =
+      ⊎-elim (λ h. P .bad-delay a f i (inl h) ∙ sym (Q .bad-delay a f i (inl h)))
+      (λ l. ⊎-elim (λ h. P .bad-delay a f i (inr h) ∙ sym (Q .bad-delay a f i (inr h))) (λ h. P .none a f i b l h ∙ sym (Q .none a f i b l h)) (less-or-more 65535 d))
+      (less-or-more d 1)
+
+  -- of the budget
+  same-budget : Placed r en c m → Filled r ys → Inside r → Same
+  same-budget a f i = go (r .reads) refl
+    where
+      go : (b : Bool) → r .reads ≡ b → Same
+      go true w = same-delay a f i (λ e. clash w e)
+      go false w =
+          ⊎-elim (λ h. P .bad-budget a f i w (inl h) ∙ sym (Q .bad-budget a f i w (inl h)))
+          (λ l. ⊎-elim (λ h. P .bad-budget a f i w (inr h) ∙ sym (Q .bad-budget a f i w (inr h))) (λ h. same-delay a f i (λ _. (l, h))) (less-or-more 1000 (r .budget)))
+          (less-or-more (r .budget) 1)
+
+  -- of the place
+  same-place : Placed r en c m → Filled r ys → Same
+  same-place a f = go (thereOf (factsOf (r .part)) (r .place)) refl
+    where
+      go : (b : Bool) → thereOf (factsOf (r .part)) (r .place) ≡ b → Same
+      go false h = P .no-page a f h ∙ sym (Q .no-page a f h)
+      go true h =
+          ⊎-elim (λ g. P .beyond a f h g ∙ sym (Q .beyond a f h g)) (λ g. same-budget a f record { enabled = a .enabled; there = h; fits = g })
+          (less-or-more (roomOf (factsOf (r .part)) (r .place)) (fromOf (r .place) + r .length))
+
+  -- of the driver's buffer
+  same-buffer : Placed r en c m → Same
+  same-buffer a = go (r .reads) refl
+    where
+      data-of : r .reads ≡ false → Dec (length ys ≡ r .length) → Same
+      data-of w (yes e) = same-place a record { full = λ _. e; room = λ z. clash z w }
+      data-of w (no e) = P .other-length a w e ∙ sym (Q .other-length a w e)
+
+      go : (b : Bool) → r .reads ≡ b → Same
+      go false w = data-of w (ℕ-discrete (length ys) (r .length))
+      go true w =
+          ⊎-elim (λ h. P .short-buffer a w h ∙ sym (Q .short-buffer a w h))
+          (λ h. same-place a record { full = λ z. clash w z; room = λ _. h }) (less-or-more (length ys) (r .length))
+
+  -- of the chip
+  same-chip : Enabled r → en < factsOf (r .part) .enables → Same
+  same-chip e k = go (ℕ-discrete (length (m .cells)) (factsOf (r .part) .size)) (ℕ-discrete (length (m .ident)) (idSizeOf (factsOf (r .part))))
+    where
+      state : Named (r .part) en m → (b : Bool) → inRangeOf (factsOf (r .part)) c ≡ b → Same
+      state n false h = P .bad-state e n h ∙ sym (Q .bad-state e n h)
+      state n true h = same-buffer record { enabled = e; ready = record { named = n; ranged = h } }
+
+      lent : (Lent (r .part) m → ⊥) → Same
+      lent w = P .wrong-buffer e k w ∙ sym (Q .wrong-buffer e k w)
+
+      go : Dec (length (m .cells) ≡ factsOf (r .part) .size) → Dec (length (m .ident) ≡ idSizeOf (factsOf (r .part))) → Same
+      go (yes x) (yes y) = state record { known = e .known; enabled = k; lent = (x, y) } (inRangeOf (factsOf (r .part)) c) refl
+      go (yes x) (no y) = lent (λ z. y (z .1))
+      go (no x) y = lent (λ z. x (z .0))
+
+  -- of the two enables
+  same-enable : r .part ≤ 5 → Same
+  same-enable k =
+      ⊎-elim (λ e. ⊎-elim (λ h. same-chip record { known = k; enable = e } h) (λ h. wrong (inr h)) (less-or-more en (factsOf (r .part) .enables))) (λ h. wrong (inl h))
+      (less-or-more (r .enable) (factsOf (r .part) .enables))
+    where
+      wrong : (factsOf (r .part) .enables ≤ r .enable) ⊎ (factsOf (r .part) .enables ≤ en) → Same
+      wrong h = P .wrong-enable k h ∙ sym (Q .wrong-enable k h)
+
+  same : Same
+  same = ⊎-elim (λ h. P .no-part h ∙ sym (Q .no-part h)) same-enable (less-or-more 5 (r .part))
+
+pub one-bench-number : OneBenchNumber
+one-bench-number = same
 
 -- a read of one byte beyond part 2, with nothing lent for the chip
 abbrev astray : Request

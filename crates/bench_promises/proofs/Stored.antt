@@ -40,7 +40,8 @@ use Rattle.driver_promises.proofs.Promises.{promises}
 use Rattle.bench.specs.Together.{System, startOf, togetherOf}
 use Rattle.bench_promises.specs.Ground.{targetOf, OnIdle}
 use Rattle.bench_promises.specs.Together.{Begins, answerOf, reportedOf, askings, otherOf, Safe, ReadRight, WritesSafe, ReadsRight, ReadsEnd}
-use Rattle.bench_promises.proofs.Wrote.{less-or-more, wrote, wrote-long, wrote-out, wrote-in, cells-with}
+use Rattle.driver_promises.proofs.Numbers.{less-or-more}
+use Rattle.bench_promises.proofs.Wrote.{wrote, wrote-long, wrote-out, wrote-in, cells-with}
 use Rattle.bench_promises.proofs.Rel.{Given, W, Pending, InOver, At, Buffer}
 use Rattle.bench_promises.proofs.Keep.{Sane, W-read, W-write}
 use Rattle.bench_promises.proofs.Whole.{Holds, stepped, G, sane, start-holds, holds, tolds}

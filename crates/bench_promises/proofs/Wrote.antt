@@ -31,13 +31,6 @@ less-or-same i n h = go (ltb i n) refl
     go true e = inl (ltb-true i n e)
     go false e = inr (omega (arith, ltb-false i n e))
 
-pub less-or-more : (i n : ℕ) → (i < n) ⊎ (n ≤ i)
-less-or-more i n = go (ltb i n) refl
-  where
-    go : (t : Bool) → ltb i n ≡ t → (i < n) ⊎ (n ≤ i)
-    go true e = inl (ltb-true i n e)
-    go false e = inr (ltb-false i n e)
-
 pub wrote-long : (s : List ℕ) (x : ℕ) (xs : List ℕ) (i : ℕ) → length (wrote s x xs i) ≡ length s
 wrote-long s x xs zero = refl
 wrote-long s x xs (suc i) = length-set (wrote s x xs i) (x + i) (getD xs i 0) ∙ wrote-long s x xs i

@@ -5,7 +5,7 @@ use Prim.Native.Nat.{ℕ, _+_, _<_, _≤_}
 use mathlib.Core.Path.{_≡_}
 use mathlib.Core.Bool.{true, false}
 use mathlib.Core.Logic.{_⊎_}
-use mathlib.Core.List.{List, _++_}
+use mathlib.Core.List.{List, [], _++_}
 use lib.ListN.{length, getD, take, drop}
 use Rattle.parts.specs.declared.Refusal.{Refusal}
 use Rattle.parts.specs.declared.Refusal.the-variants.{NoData, PollsUsed}
@@ -117,6 +117,13 @@ module _ (B : Bench) (r : Request) (en d : ℕ) (c : Chip) (m : Mem) (ys : List 
     pub chip : report .chip ≡ c
     pub memory : B .memory r en d c m ys ≡ m
     pub buffer : B .buffer r en d c m ys ≡ ys
+    -- nothing was sent, so nothing is counted
+    pub polls : report .polls ≡ 0
+    pub bytes : report .bytes ≡ 0
+    pub cycles : report .cycles ≡ 0
+    pub clocks : report .clocks ≡ 0
+    pub events : B .events r en d c m ys ≡ []
+    pub levels : B .levels r en d c m ys ≡ []
 
   -- the tape is the run: its events, given to the same chip one after the other by the chip's own definitions, answer its levels
   -- and leave what the run leaves

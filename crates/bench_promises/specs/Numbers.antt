@@ -56,6 +56,12 @@ module _ (judge : Judge) (r : Request) (en d : ℕ) (c : Chip) (m : Mem) (ys : L
 abbrev pub BenchNumbers : Judge → Type 0
 BenchNumbers judge = (r : Request) (en d : ℕ) (c : Chip) (m : Mem) (ys : List ℕ) → BenchNumber judge r en d c m ys
 
+-- nothing is left open: two that keep it give one number, for every call
+abbrev pub OneBenchNumber : Type 0
+OneBenchNumber =
+    (judge other : Judge) → BenchNumbers judge → BenchNumbers other → (r : Request) (en d : ℕ) (c : Chip) (m : Mem) (ys : List ℕ)
+    → verdictNumberOf (judge r en d c m ys) ≡ verdictNumberOf (other r en d c m ys)
+
 -- ---- another order: all that the driver refuses goes before all that the chip refuses
 
 abbrev pub forward : Judge

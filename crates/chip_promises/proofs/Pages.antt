@@ -35,6 +35,7 @@ use Rattle.line.specs.declared.Line.{Line}
 use Rattle.line.specs.declared.CycleAsked.{CycleAsked}
 use Rattle.line.specs.declared.CycleAsked.the-variants.{NoCycle, For}
 use Rattle.line.specs.Rules.{receivedOf, sentOf, clockedOf, startedOf, stoppedBy, begunBy, dueOf, placedOf, asksOf, stoppedOf, stopBegunOf, endedByOf, endedOf, pinnedOf, resetOf, nextOf, begunOf, takenOf}
+use Rattle.parts.specs.Sound.{Sound}
 use Rattle.state.specs.declared.Chip.{Chip}
 use Rattle.chip.specs.Memory.{Mem, mem, oneOf, enteredOf, counterPageOf, committedOf, cycleStoredOf, storedOf, storeOf, stateOf}
 use Rattle.chip.specs.Delivery.{standbyOf, deliveredOf}
@@ -42,7 +43,7 @@ use Rattle.chip_promises.specs.States.{NotBusy}
 use Rattle.chip.specs.Model.{ours}
 use Rattle.chip.specs.Calls.{deliverLeftOf, deliverOf, stepOf, runOf}
 use Rattle.chip_promises.specs.Calls.{many, beforeCalls, afterRun, callBy, callsBy}
-use Rattle.chip_promises.specs.Pages.{pageOf, countOf, differingOf, PagesAtMostCycles, PagesFromDelivery, RunPages, CallsPages, CallsPagesFromDelivery, CountsEveryPage}
+use Rattle.chip_promises.specs.Pages.{pageOf, countOf, differingOf, PagesAtMostCycles, PagesFromDelivery, RunPages, CallsPages, CallsPagesFromDelivery, CountsEveryPage, coarse, CoarseBreaks}
 use Rattle.chip_promises.proofs.Runs.{Invariant, Keeps, keeps, calls-keep, Any, every, every-call}
 use Rattle.chip_promises.proofs.Steps.{taken-free}
 
@@ -296,9 +297,9 @@ pages-all n P s t e w h pos =
     in-page : (x : List ℕ) (k j : ℕ) → j < P → getD (pageOf P k x) j 0 ≡ getD x (k * P + j) 0
     in-page x k j l = rw (getD-take, getD-drop)
 
-pub counts-every-page : CountsEveryPage
+differing-all : (f : Facts) → Sound f → (m m₀ : Mem) → length (m .cells) ≡ f .size → length (m₀ .cells) ≡ f .size → differingOf f m m₀ ≡ 0 → m ≡ m₀
 unfolding differingOf pagesOf
-counts-every-page f sound m m₀ a b e =
+differing-all f sound m m₀ a b e =
     let none : countOf (λ k. not (sameOf (pageOf (f .page) k (m .cells)) (pageOf (f .page) k (m₀ .cells)))) (f .size / f .page) ≡ 0 = omega arith in
     let cells : m .cells ≡ m₀ .cells =
     pages-all (f .size / f .page) (f .page) (m .cells) (m₀ .cells) (a ∙ sym b) (omega (arith, sound .whole))
@@ -307,3 +308,59 @@ counts-every-page f sound m m₀ a b e =
     (sound .pagePos) in
     let ident : m .ident ≡ m₀ .ident = same-eq (m .ident) (m₀ .ident) (bit-zero (sameOf (m .ident) (m₀ .ident)) (omega arith)) in
     ap (λ (s : List ℕ). mem s (m .ident)) cells ∙ ap (mem (m₀ .cells)) ident
+
+-- one number more has the property
+count-more : (p q : ℕ → Bool) (x n : ℕ) → x < n → p x ≡ true → q x ≡ false → ((k : ℕ) → k ≢ x → p k ≡ q k) → countOf p n ≡ countOf q n + 1
+unfolding countOf
+count-more p q x zero l a b h = absurd (omega arith)
+count-more p q x (suc n) l a b h = go (ℕ-discrete n x) (λ i. count-more p q x n i a b h)
+  where
+    go : Dec (n ≡ x) → (x < n → countOf p n ≡ countOf q n + 1) → countOf p n + flagOf (p n) ≡ countOf q n + flagOf (q n) + 1
+    go (yes e) ih =
+        omega (arith, count-same p q n (λ k i. h k (omega arith)), ap (λ (k : ℕ). flagOf (p k)) e, ap (λ (k : ℕ). flagOf (q k)) e, ap flagOf a, ap flagOf b)
+    go (no e) ih = omega (arith, ih (omega arith), ap flagOf (h n e))
+
+differ : (xs ys : List ℕ) → (xs ≡ ys → ⊥) → not (sameOf xs ys) ≡ true
+differ xs ys h = go (sameOf xs ys) (same-eq xs ys)
+  where
+    go : (b : Bool) → (b ≡ true → xs ≡ ys) → not b ≡ true
+    go true f = absurd (h (f refl))
+    go false f = refl
+
+alike : (xs ys : List ℕ) → xs ≡ ys → not (sameOf xs ys) ≡ false
+alike xs ys e = ap (λ (z : List ℕ). not (sameOf z ys)) e ∙ ap not (same-refl ys)
+
+differing-one : (f : Facts) (m n m₀ : Mem) (k : ℕ) → k < pagesOf f
+    → pageOf (f .page) k (m .cells) ≡ pageOf (f .page) k (m₀ .cells) → (pageOf (f .page) k (n .cells) ≡ pageOf (f .page) k (m₀ .cells) → ⊥)
+    → ((j : ℕ) → (j ≡ k → ⊥) → pageOf (f .page) j (n .cells) ≡ pageOf (f .page) j (m .cells)) → n .ident ≡ m .ident
+    → differingOf f n m₀ ≡ differingOf f m m₀ + 1
+unfolding differingOf
+differing-one f m n m₀ k l a b h i =
+    omega (
+      arith,
+      count-more (λ j. not (sameOf (pageOf (f .page) j (n .cells)) (pageOf (f .page) j (m₀ .cells))))
+          (λ j. not (sameOf (pageOf (f .page) j (m .cells)) (pageOf (f .page) j (m₀ .cells)))) k (pagesOf f) l
+          (differ (pageOf (f .page) k (n .cells)) (pageOf (f .page) k (m₀ .cells)) b) (alike (pageOf (f .page) k (m .cells)) (pageOf (f .page) k (m₀ .cells)) a)
+          (λ j e. ap (λ (x : List ℕ). not (sameOf x (pageOf (f .page) j (m₀ .cells)))) (h j e)),
+      ap (λ (x : List ℕ). flagOf (not (sameOf x (m₀ .ident)))) i,
+    )
+
+differing-ident : (f : Facts) (m n m₀ : Mem) → n .cells ≡ m .cells → m .ident ≡ m₀ .ident → (n .ident ≡ m₀ .ident → ⊥) → differingOf f n m₀ ≡ differingOf f m m₀ + 1
+unfolding differingOf
+differing-ident f m n m₀ c a b =
+    omega (
+      arith,
+      ap (λ (s : List ℕ). countOf (λ k. not (sameOf (pageOf (f .page) k s) (pageOf (f .page) k (m₀ .cells)))) (pagesOf f)) c,
+      ap flagOf (alike (m .ident) (m₀ .ident) a),
+      ap flagOf (differ (n .ident) (m₀ .ident) b),
+    )
+
+pub counts-every-page : CountsEveryPage differingOf
+counts-every-page = record { none = differing-none; one = differing-one; ident = differing-ident; all = differing-all }
+
+-- a byte of the array differs, and then one of the identification page too
+pub coarse-breaks : CoarseBreaks
+unfolding sameOf
+coarse-breaks p =
+    let z : _≡_ {A = ℕ} 1 2 = p .ident (factsOf 0) (mem (1 ∷ []) []) (mem (1 ∷ []) (1 ∷ [])) (mem (0 ∷ []) []) refl refl (λ e. let l = ap (λ (x : List ℕ). length x) e in absurd (omega (arith, l))) in
+    omega arith

@@ -1,8 +1,8 @@
 -- Promise 1. "Over any events from delivery, the pages whose contents differ from delivery, the identification page counted as
 -- one, are never more than the write cycles begun."
 -- Assumes nothing.
-use Prim.Native.Nat.{ℕ, zero, suc, _+_, _*_, _≤_}
-use mathlib.Core.Bool.{Bool, false, not}
+use Prim.Native.Nat.{ℕ, zero, suc, _+_, _*_, _<_, _≤_}
+use mathlib.Core.Bool.{Bool, false, not, _&&_}
 use mathlib.Core.List.{List}
 use mathlib.Core.Path.{_≡_}
 use lib.ListN.{length, take, drop}
@@ -76,8 +76,21 @@ CallsPagesFromDelivery D S R =
 
 -- ---- the count says what it is meant to say
 
--- With buffers of the part's lengths no page is left out: where no page differs, nothing differs.
-abbrev pub CountsEveryPage : Type 0
-CountsEveryPage =
-    (f : Facts) → Sound f → (m m₀ : Mem) → length (m .cells) ≡ f .size → length (m₀ .cells) ≡ f .size
-    → differingOf f m m₀ ≡ 0 → m ≡ m₀
+-- Said of any count of the pages in which the first memory differs from the second: equal memories count 0, each page that comes to
+-- differ adds 1, the identification page too, and with buffers of the part's lengths no page is left out. A page adds no more than 1
+-- whatever changes in it.
+pub record CountsEveryPage (count : Facts → Mem → Mem → ℕ) : Type 0 where
+  pub none : (f : Facts) (m : Mem) → count f m m ≡ 0
+  pub one : (f : Facts) (m n m₀ : Mem) (k : ℕ) → k < pagesOf f
+      → pageOf (f .page) k (m .cells) ≡ pageOf (f .page) k (m₀ .cells) → (pageOf (f .page) k (n .cells) ≡ pageOf (f .page) k (m₀ .cells) → ⊥)
+      → ((j : ℕ) → (j ≡ k → ⊥) → pageOf (f .page) j (n .cells) ≡ pageOf (f .page) j (m .cells)) → n .ident ≡ m .ident
+      → count f n m₀ ≡ count f m m₀ + 1
+  pub ident : (f : Facts) (m n m₀ : Mem) → n .cells ≡ m .cells → m .ident ≡ m₀ .ident → (n .ident ≡ m₀ .ident → ⊥) → count f n m₀ ≡ count f m m₀ + 1
+  pub all : (f : Facts) → Sound f → (m m₀ : Mem) → length (m .cells) ≡ f .size → length (m₀ .cells) ≡ f .size → count f m m₀ ≡ 0 → m ≡ m₀
+
+-- a count that is 1 however many pages differ
+abbrev pub coarse : Facts → Mem → Mem → ℕ
+coarse f m m₀ = flagOf (not (sameOf (m .cells) (m₀ .cells) && sameOf (m .ident) (m₀ .ident)))
+
+abbrev pub CoarseBreaks : Type 0
+CoarseBreaks = CountsEveryPage coarse → ⊥

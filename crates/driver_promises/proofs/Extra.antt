@@ -21,16 +21,11 @@ use Rattle.driver.specs.declared.Driver.{Driver}
 use Rattle.driver.specs.Request.{fromOf, roomOf, judgeOf, kOf}
 use Rattle.driver.specs.Step.{selectNameOf, selectAt, rangeOf, slotRight, phaseRight, slotWhole, wholeOf, byteKeptOf, badStateOf, driverNextOf, bufferOf, fresh}
 use Rattle.driver.proofs.Facts.{good-request, good-counts}
-use Rattle.driver_promises.specs.Promises.{Accepted, OnePart, SevenBits}
+use Rattle.driver_promises.specs.Promises.{Accepted, OnIdent, OnePart, SevenBits}
 use Rattle.driver_promises.proofs.Split.{one-page}
 
--- what stands in an identification page
-abbrev pub Named : Place → Type 0
-Named (Array a) = ⊥
-Named (Ident i) = Unit {0}
-
 -- an identification write is one part
-pub ident-one : (r : Request) (xs : List ℕ) → Accepted r xs → Named (r .place) → 0 < r .length → OnePart r
+pub ident-one : OnePart
 unfolding kOf idSizeOf
 ident-one r xs a n o =
     let g = good-request r (ap isFine (a .fine)) in
@@ -39,7 +34,7 @@ ident-one r xs a n o =
     most : (f : Facts) → cond (f .ident) (f .page) 0 ≤ f .page
     most f = branch (λ (x : ℕ). x ≤ f .page) (f .ident) (λ e. omega arith) (λ e. omega arith)
 
-    go : (p : Place) → Named p → fromOf p + r .length ≤ roomOf (factsOf (r .part)) p → fromOf p + r .length ≤ factsOf (r .part) .page
+    go : (p : Place) → OnIdent p → fromOf p + r .length ≤ roomOf (factsOf (r .part)) p → fromOf p + r .length ≤ factsOf (r .part) .page
     go (Array a) n l = absurd n
     go (Ident i) n l = omega (arith, most (factsOf (r .part)))
 

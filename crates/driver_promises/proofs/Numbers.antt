@@ -1,11 +1,12 @@
 -- The numbers of a request are given in document 01's order.
 -- Assumes nothing.
-use Prim.Native.Nat.{_+_, _<_, _≤_}
-use mathlib.Core.Path.{_≡_, refl, ap, _∙_}
+use Prim.Native.Nat.{ℕ, _+_, _<_, _≤_}
+use mathlib.Core.Path.{_≡_, refl, sym, ap, _∙_}
 use mathlib.Core.Bool.{Bool, true, false, not, cond}
+use mathlib.Core.Logic.{_⊎_, inl, inr, ⊎-elim}
 use lib.Dec.{ltb}
 use native.Mathlib.Omega.{arith}
-use borrow.Author.Tests.{lt-ltb, le-ltb}
+use borrow.Author.Tests.{lt-ltb, le-ltb, ltb-true, ltb-false}
 use Rattle.parts.specs.declared.Refusal.{Refusal}
 use Rattle.parts.specs.declared.Refusal.the-variants.{NoPart, WrongEnable, Beyond, BadLimit}
 use Rattle.parts.specs.declared.Verdict.{Verdict}
@@ -17,7 +18,7 @@ use Rattle.parts.proofs.Claims.{Later, later-claim, later-sooner, given-first}
 use Rattle.driver.specs.declared.Place.the-variants.{Array}
 use Rattle.driver.specs.declared.Request.{Request}
 use Rattle.driver.specs.Request.{fromOf, roomOf, thereOf, beyondAt, limitOf, judgeOf}
-use Rattle.driver_promises.specs.Numbers.{Enabled, Inside, RequestNumbers, hasty, HastyBreaks}
+use Rattle.driver_promises.specs.Numbers.{Enabled, Inside, RequestNumbers, OneNumber, hasty, HastyBreaks}
 
 module _ (r : Request) where
   abbrev pub off : Bool
@@ -121,6 +122,47 @@ request-numbers r =
       writes = λ i w l h. ap verdictNumberOf (judged-8 r false i (fair r w l h));
       reads = λ i w. ap verdictNumberOf (judged-8 r false i (unheeded r w));
     }
+
+-- ---- one condition of the eight holds of every request
+
+pub less-or-more : (i n : ℕ) → (i < n) ⊎ (n ≤ i)
+less-or-more i n = go (ltb i n) refl
+  where
+    go : (t : Bool) → ltb i n ≡ t → (i < n) ⊎ (n ≤ i)
+    go true e = inl (ltb-true i n e)
+    go false e = inr (ltb-false i n e)
+
+module _ (judge other : Request → Verdict) (p : RequestNumbers judge) (q : RequestNumbers other) (r : Request) where
+  abbrev Same : Type 0
+  Same = verdictNumberOf (judge r) ≡ verdictNumberOf (other r)
+
+  same-inside : Inside r → Same
+  same-inside i = go (r .reads) refl
+    where
+      go : (b : Bool) → r .reads ≡ b → Same
+      go true w = p r .reads i w ∙ sym (q r .reads i w)
+      go false w =
+          ⊎-elim (λ h. p r .no-budget i w h ∙ sym (q r .no-budget i w h))
+          (λ l. ⊎-elim (λ h. p r .large-budget i w h ∙ sym (q r .large-budget i w h)) (λ h. p r .writes i w l h ∙ sym (q r .writes i w l h)) (less-or-more 1000 (r .budget)))
+          (less-or-more (r .budget) 1)
+
+  same-enabled : Enabled r → Same
+  same-enabled e = go (thereOf (factsOf (r .part)) (r .place)) refl
+    where
+      go : (b : Bool) → thereOf (factsOf (r .part)) (r .place) ≡ b → Same
+      go false h = p r .no-page e h ∙ sym (q r .no-page e h)
+      go true h =
+          ⊎-elim (λ f. p r .beyond e h f ∙ sym (q r .beyond e h f)) (λ f. same-inside record { enabled = e; there = h; fits = f })
+          (less-or-more (roomOf (factsOf (r .part)) (r .place)) (fromOf (r .place) + r .length))
+
+  same : Same
+  same =
+      ⊎-elim (λ h. p r .no-part h ∙ sym (q r .no-part h))
+      (λ k. ⊎-elim (λ h. same-enabled record { known = k; enable = h }) (λ h. p r .wrong-enable k h ∙ sym (q r .wrong-enable k h)) (less-or-more (r .enable) (factsOf (r .part) .enables)))
+      (less-or-more 5 (r .part))
+
+pub one-number : OneNumber
+one-number = same
 
 -- a write of one byte beyond part 2, with no budget
 abbrev both : Request

@@ -100,6 +100,6 @@ one-page P a zero h o l = absurd (omega arith)
 one-page P a (suc n) h o l =
     omega (arith, pages-suc P a n, div-eq-of-lt {n = a % P + n} {m = P} (omega (arith, mod-le a P)))
 
-pub splits : (P a n : ℕ) → 0 < P → Splits P a n
+pub splits : Splits
 splits P a n h =
     record { whole = parts-sum P n a n h (omega arith); count = parts-count P n a n h (omega arith); formula = pages-formula P a n h }

@@ -41,6 +41,11 @@ module _ (judge : Request → Verdict) (r : Request) where
 abbrev pub RequestNumbers : (Request → Verdict) → Type 0
 RequestNumbers judge = (r : Request) → RequestNumber judge r
 
+-- nothing is left open: two that keep it give one number, for every request
+abbrev pub OneNumber : Type 0
+OneNumber =
+    (judge other : Request → Verdict) → RequestNumbers judge → RequestNumbers other → (r : Request) → verdictNumberOf (judge r) ≡ verdictNumberOf (other r)
+
 -- ---- another order: the budget is asked about first, and then all is judged as it should be
 
 abbrev pub hasty : Request → Verdict

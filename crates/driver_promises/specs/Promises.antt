@@ -8,6 +8,8 @@ use mathlib.Core.List.{List, []}
 use lib.ListN.{length, getD}
 use Rattle.parts.specs.declared.Refusal.{Refusal}
 use Rattle.parts.specs.declared.Verdict.the-variants.{Fine}
+use Rattle.driver.specs.declared.Place.{Place}
+use Rattle.driver.specs.declared.Place.the-variants.{Array, Ident}
 use Rattle.driver.specs.declared.Request.{Request}
 use Rattle.driver.specs.declared.Failed.{Failed}
 use Rattle.driver.specs.declared.Answer.{Answer}
@@ -22,10 +24,13 @@ use Rattle.driver_promises.specs.Where.{Within, Stopped}
 
 -- The splitter, over any page size P: the parts add up to the length, and are as many as the pages met, of which there are as many as
 -- from the page of the first byte to the page of the last
-pub record Splits (P a n : ℕ) : Type 0 where
+pub record SplitRight (P a n : ℕ) : Type 0 where
   pub whole : sum (partsOf P n a n) ≡ n
   pub count : length (partsOf P n a n) ≡ pagesMetOf P a n
   pub formula : 0 < n → pagesMetOf P a n ≡ (a + (n - 1)) / P - a / P + 1
+
+abbrev pub Splits : Type 0
+Splits = (P a n : ℕ) → 0 < P → SplitRight P a n
 
 -- `begin` does not refuse, and the buffer is as long as asked
 pub record Accepted (r : Request) (xs : List ℕ) : Type 0 where
@@ -103,9 +108,14 @@ pub record Promises (M : Machine) : Type 0 where
   pub done-all : (r : Request) (xs : List ℕ) → Accepted r xs → (ls : List ℕ) (l q m : ℕ) → answers M r xs ls l ≡ Done q m → DoneAll M r xs ls l q m
   pub refused-at : (r : Request) (xs : List ℕ) → Accepted r xs → (ls : List ℕ) (l q m : ℕ) (f : Refusal) → answers M r xs ls l ≡ Refused f q m → RefusedAt M r xs ls l f q m
 
--- An identification write is one part, and a write of one page too
-abbrev pub OnePart : Request → Type 0
-OnePart r = kOf r ≡ 1
+-- what stands in the identification page
+abbrev pub OnIdent : Place → Type 0
+OnIdent (Array a) = ⊥
+OnIdent (Ident i) = Unit {0}
+
+-- "An identification write is one such part"
+abbrev pub OnePart : Type 0
+OnePart = (r : Request) (xs : List ℕ) → Accepted r xs → OnIdent (r .place) → 0 < r .length → kOf r ≡ 1
 
 -- "Every select of one such part, or of a read, has the same seven high bits": the select code with write ends in 0, and that with
 -- read is one more
