@@ -14,7 +14,7 @@ use Rattle.parts.specs.declared.Refusal.{Refusal}
 use Rattle.parts.specs.declared.Refusal.the-variants.{NoPart, WrongEnable, WrongBuffer, BadState, BadEvent, ShortBuffer, Beyond, BadLimit, NoSelect, NoData, PollsUsed, BadImage, TooMany}
 use Rattle.parts.specs.declared.Verdict.{Verdict}
 use Rattle.parts.specs.declared.Verdict.the-variants.{Fine, Refused}
-use Rattle.parts.specs.Table.{factsOf, idSizeOf, enableRightOf, buffersRightOf}
+use Rattle.parts.specs.Table.{factsOf, enableRightOf, buffersRightOf}
 use Rattle.parts.specs.Refusals.{numberOf, rankOf, verdictNumberOf, claimOf, soonerOf, lentVerdictOf}
 use Rattle.parts.proofs.Laws.{branch, known}
 use Rattle.parts.proofs.Claims.{Later, later-claim, later-sooner}
@@ -23,8 +23,7 @@ use Rattle.state.specs.Range.{inRangeOf}
 use Rattle.chip.specs.Memory.{Mem, mem}
 use Rattle.chip.specs.Delivery.{standbyOf}
 use Rattle.chip.specs.Calls.{heldVerdictOf}
-use Rattle.chip_promises.specs.Numbers.{Lent, Named, Ready}
-use Rattle.chip_promises.proofs.Numbers.{held-1, held-2, held-3, held-4, held-0}
+use Rattle.chip_promises.proofs.Numbers.{held-1, held-2, held-3, held-4, held-0, held-or-not}
 use Rattle.driver.specs.declared.Place.the-variants.{Array}
 use Rattle.driver.specs.declared.Request.{Request}
 use Rattle.driver.specs.Request.{fromOf, roomOf, thereOf, beyondAt, limitOf, judgeOf}
@@ -381,33 +380,18 @@ module _ (judge other : Judge) (p : BenchNumbers judge) (q : BenchNumbers other)
           ⊎-elim (λ h. P .short-buffer a w h ∙ sym (Q .short-buffer a w h))
           (λ h. same-place a record { full = λ z. clash w z; room = λ _. h }) (less-or-more (length ys) (r .length))
 
-  -- of the chip
-  same-chip : Enabled r → en < factsOf (r .part) .enables → Same
-  same-chip e k = go (ℕ-discrete (length (m .cells)) (factsOf (r .part) .size)) (ℕ-discrete (length (m .ident)) (idSizeOf (factsOf (r .part))))
-    where
-      state : Named (r .part) en m → (b : Bool) → inRangeOf (factsOf (r .part)) c ≡ b → Same
-      state n false h = P .bad-state e n h ∙ sym (Q .bad-state e n h)
-      state n true h = same-buffer record { enabled = e; ready = record { named = n; ranged = h } }
+  wrong : r .part ≤ 5 → (factsOf (r .part) .enables ≤ r .enable) ⊎ (factsOf (r .part) .enables ≤ en) → Same
+  wrong k h = P .wrong-enable k h ∙ sym (Q .wrong-enable k h)
 
-      lent : (Lent (r .part) m → ⊥) → Same
-      lent w = P .wrong-buffer e k w ∙ sym (Q .wrong-buffer e k w)
-
-      go : Dec (length (m .cells) ≡ factsOf (r .part) .size) → Dec (length (m .ident) ≡ idSizeOf (factsOf (r .part))) → Same
-      go (yes x) (yes y) = state record { known = e .known; enabled = k; lent = (x, y) } (inRangeOf (factsOf (r .part)) c) refl
-      go (yes x) (no y) = lent (λ z. y (z .1))
-      go (no x) y = lent (λ z. x (z .0))
-
-  -- of the two enables
-  same-enable : r .part ≤ 5 → Same
-  same-enable k =
-      ⊎-elim (λ e. ⊎-elim (λ h. same-chip record { known = k; enable = e } h) (λ h. wrong (inr h)) (less-or-more en (factsOf (r .part) .enables))) (λ h. wrong (inl h))
-      (less-or-more (r .enable) (factsOf (r .part) .enables))
-    where
-      wrong : (factsOf (r .part) .enables ≤ r .enable) ⊎ (factsOf (r .part) .enables ≤ en) → Same
-      wrong h = P .wrong-enable k h ∙ sym (Q .wrong-enable k h)
+  -- of the request's enable
+  driven : r .part ≤ 5 → (Enabled r → Same) → Same
+  driven k f = ⊎-elim (λ e. f record { known = k; enable = e }) (λ h. wrong k (inl h)) (less-or-more (r .enable) (factsOf (r .part) .enables))
 
   same : Same
-  same = ⊎-elim (λ h. P .no-part h ∙ sym (Q .no-part h)) same-enable (less-or-more 5 (r .part))
+  same =
+      held-or-not (r .part) en c m (λ h. P .no-part h ∙ sym (Q .no-part h)) (λ k h. wrong k (inr h))
+      (λ k h w. driven k (λ e. P .wrong-buffer e h w ∙ sym (Q .wrong-buffer e h w))) (λ n h. driven (n .known) (λ e. P .bad-state e n h ∙ sym (Q .bad-state e n h)))
+      (λ x. driven (x .named .known) (λ e. same-buffer record { enabled = e; ready = x }))
 
 pub one-bench-number : OneBenchNumber
 one-bench-number = same

@@ -4,6 +4,8 @@ use Prim.Native.Nat.{ℕ, zero, suc, _+_, _<_, _≤_}
 use mathlib.Core.Path.{_≡_, refl, sym, ap, _∙_}
 use mathlib.Core.Bool.{Bool, true, false, not, cond}
 use mathlib.Core.List.{List, [], _∷_}
+use native.Mathlib.Decide.{ℕ-discrete, decLt}
+use Rattle.chip_promises.specs.Calls.{Deliver, Step, Run}
 use lib.ListN.{length, getD, replicate, length-replicate}
 use lib.Dec.{ltb}
 use native.Mathlib.Omega.{arith}
@@ -24,7 +26,7 @@ use Rattle.chip.specs.Delivery.{pinAtFirstOf, standbyOf}
 use Rattle.chip.specs.Model.{ours}
 use Rattle.chip.specs.Calls.{deliverVerdictOf, deliverOf, heldVerdictOf, stepVerdictOf, stepBy, stepOf, scanOf, runVerdictOf, runBy, runOf}
 use Rattle.chip.proofs.Laws.{Usable, fine-held, held-out, scan-later, step-behind, run-behind}
-use Rattle.chip_promises.specs.Numbers.{Lent, Named, Ready, TakenTo, DeliverNumbers, StepNumber, StepNumbers, RunNumber, RunNumbers, eager, EagerBreaks}
+use Rattle.chip_promises.specs.Numbers.{Lent, Named, Ready, TakenTo, DeliverNumbers, StepNumber, StepNumbers, RunNumber, RunNumbers, OneChipNumber, stepNumber, runVerdictBy, runNumber, eager, EagerBreaks}
 
 -- ---- delivery: 1, 3
 
@@ -255,3 +257,108 @@ eager-breaks p =
     let q = p 0 0 chip₀ mem₀ events [] .too-many ready₀ (omega (arith, length-replicate {A = ℕ} 32769 9)) in
     let z : _≡_ {A = ℕ} 5 13 = sym eager-5 ∙ q in
     omega arith
+
+-- ---- one of the conditions holds of every call
+
+-- a part and its enable, the lent buffers, the state: what is said of the last is said of all
+module _ {G : Type 0} (part en : ℕ) (c : Chip) (m : Mem) where
+  lent-or-not : (Lent part m → G) → ((Lent part m → ⊥) → G) → G
+  lent-or-not f g = go (ℕ-discrete (length (m .cells)) (factsOf part .size)) (ℕ-discrete (length (m .ident)) (idSizeOf (factsOf part)))
+    where
+      go : Dec (length (m .cells) ≡ factsOf part .size) → Dec (length (m .ident) ≡ idSizeOf (factsOf part)) → G
+      go (yes x) (yes y) = f (x, y)
+      go (yes x) (no y) = g (λ z. y (z .1))
+      go (no x) y = g (λ z. x (z .0))
+
+  part-or-not : (5 < part → G) → (part ≤ 5 → G) → G
+  part-or-not f g = go (decLt 5 part)
+    where
+      go : Dec (5 < part) → G
+      go (yes h) = f h
+      go (no h) = g (omega (arith, h))
+
+  pub held-or-not : (5 < part → G) → (part ≤ 5 → factsOf part .enables ≤ en → G) → (part ≤ 5 → en < factsOf part .enables → (Lent part m → ⊥) → G)
+      → (Named part en m → inRangeOf (factsOf part) c ≡ false → G) → (Ready part en c m → G) → G
+  held-or-not f1 f2 f3 f4 f0 = part-or-not f1 (λ k. enables k (decLt en (factsOf part .enables)))
+    where
+      state : Named part en m → (b : Bool) → inRangeOf (factsOf part) c ≡ b → G
+      state n false h = f4 n h
+      state n true h = f0 record { named = n; ranged = h }
+
+      enables : part ≤ 5 → Dec (en < factsOf part .enables) → G
+      enables k (yes h) =
+          lent-or-not (λ l. state record { known = k; enabled = h; lent = l } (inRangeOf (factsOf part) c) refl) (λ w. f3 k h w)
+      enables k (no h) = f2 k (omega (arith, h))
+
+-- the first event below n that the part does not take, or none
+first-wrong : {G : Type 0} (part : ℕ) (es : List ℕ) (n : ℕ) → (TakenTo part n es → G)
+    → ((k : ℕ) → k < n → TakenTo part k es → eventRightOf (factsOf part .pin) (getD es k 0) ≡ false → G) → G
+first-wrong part es zero f g = f (λ j h. absurd (omega (arith, h)))
+first-wrong {G} part es (suc n) f g = first-wrong part es n (λ t. go t (eventRightOf (factsOf part .pin) (getD es n 0)) refl) (λ k h t e. g k (omega (arith, h)) t e)
+  where
+    further : TakenTo part n es → eventRightOf (factsOf part .pin) (getD es n 0) ≡ true → TakenTo part (suc n) es
+    further t e j h = at (ℕ-discrete j n)
+      where
+        at : Dec (j ≡ n) → eventRightOf (factsOf part .pin) (getD es j 0) ≡ true
+        at (yes i) = ap (λ (x : ℕ). eventRightOf (factsOf part .pin) (getD es x 0)) i ∙ e
+        at (no i) = t j (omega (arith, h, i))
+
+    go : TakenTo part n es → (b : Bool) → eventRightOf (factsOf part .pin) (getD es n 0) ≡ b → G
+    go t true e = f (further t e)
+    go t false e = g n (omega arith) t e
+
+one-deliver : (D E : Deliver) → DeliverNumbers D → DeliverNumbers E
+    → (part : ℕ) (m : Mem) → verdictNumberOf (D part m .answer .verdict) ≡ verdictNumberOf (E part m .answer .verdict)
+one-deliver D E p q part m =
+    part-or-not part 0 chip₀ m (λ h. p .no-part part m h ∙ sym (q .no-part part m h))
+    (λ k. lent-or-not part 0 chip₀ m (λ l. p .none part m k l ∙ sym (q .none part m k l)) (λ w. p .wrong-buffer part m k w ∙ sym (q .wrong-buffer part m k w)))
+
+one-step : (S T : Step) → StepNumbers S → StepNumbers T
+    → (part en : ℕ) (c : Chip) (m : Mem) (e : ℕ) → stepNumber S part en c m e ≡ stepNumber T part en c m e
+one-step S T p q part en c m e =
+    let a = p part en c m e in
+    let b = q part en c m e in
+    held-or-not part en c m (λ h. a .no-part h ∙ sym (b .no-part h)) (λ k h. a .wrong-enable k h ∙ sym (b .wrong-enable k h))
+    (λ k h w. a .wrong-buffer k h w ∙ sym (b .wrong-buffer k h w)) (λ n h. a .bad-state n h ∙ sym (b .bad-state n h))
+    (λ r. go r (eventRightOf (factsOf part .pin) e) refl)
+  where
+    go : Ready part en c m → (x : Bool) → eventRightOf (factsOf part .pin) e ≡ x → stepNumber S part en c m e ≡ stepNumber T part en c m e
+    go r true h = p part en c m e .none r h ∙ sym (q part en c m e .none r h)
+    go r false h = p part en c m e .bad-event r h ∙ sym (q part en c m e .bad-event r h)
+
+module _ (R Q : Run) (p : RunNumbers R) (q : RunNumbers Q) (part en : ℕ) (c : Chip) (m : Mem) (es a : List ℕ) where
+  abbrev Same : Type 0
+  Same =
+      (runNumber R part en c m es a ≡ runNumber Q part en c m es a)
+      × (runNumber R part en c m es a ≡ 5 → verdictPlaceOf (runVerdictBy R part en c m es a) ≡ verdictPlaceOf (runVerdictBy Q part en c m es a))
+
+  -- another number than 5
+  not-5 : (k : ℕ) → (k ≡ 5 → ⊥) → runNumber R part en c m es a ≡ k → runNumber Q part en c m es a ≡ k → Same
+  not-5 k n x y = (x ∙ sym y, λ z. absurd (n (sym x ∙ z)))
+
+  same-room : Ready part en c m → length es ≤ 32768 → TakenTo part (length es) es → Dec (length a < length es) → Same
+  same-room r l t (yes h) = not-5 6 (λ e. omega (arith, e)) (p part en c m es a .short-buffer r l t h) (q part en c m es a .short-buffer r l t h)
+  same-room r l t (no h) =
+      not-5 0 (λ e. omega (arith, e)) (p part en c m es a .none r l t (omega (arith, h))) (q part en c m es a .none r l t (omega (arith, h)))
+
+  same-events : Ready part en c m → Dec (32768 < length es) → Same
+  same-events r (yes h) = not-5 13 (λ e. omega (arith, e)) (p part en c m es a .too-many r h) (q part en c m es a .too-many r h)
+  same-events r (no h) =
+      let l : length es ≤ 32768 = omega (arith, h) in
+      first-wrong part es (length es) (λ t. same-room r l t (decLt (length a) (length es)))
+      (λ k i t e.
+      let x = p part en c m es a .bad-event k r l i t e in
+      let y = q part en c m es a .bad-event k r l i t e in
+      (x .0 ∙ sym (y .0), λ _. x .1 ∙ sym (y .1)))
+
+  one-run : Same
+  one-run =
+      let x = p part en c m es a in
+      let y = q part en c m es a in
+      held-or-not part en c m (λ h. not-5 1 (λ e. omega (arith, e)) (x .no-part h) (y .no-part h))
+      (λ k h. not-5 2 (λ e. omega (arith, e)) (x .wrong-enable k h) (y .wrong-enable k h))
+      (λ k h w. not-5 3 (λ e. omega (arith, e)) (x .wrong-buffer k h w) (y .wrong-buffer k h w))
+      (λ n h. not-5 4 (λ e. omega (arith, e)) (x .bad-state n h) (y .bad-state n h)) (λ r. same-events r (decLt 32768 (length es)))
+
+pub one-chip-number : OneChipNumber
+one-chip-number = record { deliver = one-deliver; step = one-step; run = one-run }

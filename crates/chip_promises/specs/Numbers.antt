@@ -44,7 +44,7 @@ pub record DeliverNumbers (D : Deliver) : Type 0 where
   pub none : (part : ℕ) (m : Mem) → part ≤ 5 → Lent part m → verdictNumberOf (D part m .answer .verdict) ≡ 0
 
 module _ (S : Step) (part enable : ℕ) (c : Chip) (m : Mem) (e : ℕ) where
-  abbrev stepNumber : ℕ
+  abbrev pub stepNumber : ℕ
   stepNumber = verdictNumberOf (S part enable c m e .answer .verdict)
 
   pub record StepNumber : Type 0 where
@@ -59,10 +59,10 @@ abbrev pub StepNumbers : Step → Type 0
 StepNumbers S = (part enable : ℕ) (c : Chip) (m : Mem) (e : ℕ) → StepNumber S part enable c m e
 
 module _ (R : Run) (part enable : ℕ) (c : Chip) (m : Mem) (es a : List ℕ) where
-  abbrev runVerdictBy : Verdict
+  abbrev pub runVerdictBy : Verdict
   runVerdictBy = R part enable c m es a .answer .verdict
 
-  abbrev runNumber : ℕ
+  abbrev pub runNumber : ℕ
   runNumber = verdictNumberOf runVerdictBy
 
   pub record RunNumber : Type 0 where
@@ -79,6 +79,18 @@ module _ (R : Run) (part enable : ℕ) (c : Chip) (m : Mem) (es a : List ℕ) wh
 
 abbrev pub RunNumbers : Run → Type 0
 RunNumbers R = (part enable : ℕ) (c : Chip) (m : Mem) (es a : List ℕ) → RunNumber R part enable c m es a
+
+-- ---- nothing is left open: two that keep them give one number for every call, and for 5 one place
+
+pub record OneChipNumber : Type 0 where
+  pub deliver : (D E : Deliver) → DeliverNumbers D → DeliverNumbers E
+      → (part : ℕ) (m : Mem) → verdictNumberOf (D part m .answer .verdict) ≡ verdictNumberOf (E part m .answer .verdict)
+  pub step : (S T : Step) → StepNumbers S → StepNumbers T
+      → (part enable : ℕ) (c : Chip) (m : Mem) (e : ℕ) → stepNumber S part enable c m e ≡ stepNumber T part enable c m e
+  pub run : (R Q : Run) → RunNumbers R → RunNumbers Q
+      → (part enable : ℕ) (c : Chip) (m : Mem) (es a : List ℕ)
+      → (runNumber R part enable c m es a ≡ runNumber Q part enable c m es a)
+      × (runNumber R part enable c m es a ≡ 5 → verdictPlaceOf (runVerdictBy R part enable c m es a) ≡ verdictPlaceOf (runVerdictBy Q part enable c m es a))
 
 -- ---- another order: 5 before 13
 
