@@ -16,6 +16,7 @@ use Rattle.driver.specs.declared.Request.{Request}
 use Rattle.driver.specs.declared.Begun.{Begun}
 use Rattle.driver.specs.declared.Answer.{Answer}
 use Rattle.driver.specs.Step.{driverNextOf, beginOf}
+use Rattle.driver.specs.Machine.{ourDriver}
 use Rattle.bench.specs.Together.{System, startOf, endDueOf, turnOf}
 use Rattle.bench.specs.Tape.{sendsOf, sentCodeOf, tapeBy, turnEvents, turnLevels, tapeEventsOf, tapeLevelsOf, laidOf}
 use Rattle.bench.specs.Held.{whole, goingOf}
@@ -84,18 +85,18 @@ told d s ended sends code a (due, said) hs hc = (due, hs ∙ ap sendsOf said, hc
 
 -- the rest of the tape, stored from `at` on, makes the two buffers `es` and `ls`, and the count n
 pub record Left (f : Facts) (en d k : ℕ) (s : System) (at : ℕ) (l v : List ℕ) (n : ℕ) (es ls : List ℕ) : Type 0 where
-  pub count : at + length (tapeEventsOf (ours f en) d k s) ≡ n
-  pub events : sets l at (tapeEventsOf (ours f en) d k s) ≡ es
-  pub levels : sets v at (tapeLevelsOf (ours f en) d k s) ≡ ls
+  pub count : at + length (tapeEventsOf ourDriver (ours f en) d k s) ≡ n
+  pub events : sets l at (tapeEventsOf ourDriver (ours f en) d k s) ≡ es
+  pub levels : sets v at (tapeLevelsOf ourDriver (ours f en) d k s) ≡ ls
 
 module _ (f : Facts) (en d : ℕ) where
   pub left-start : (k : ℕ) (s : System) (l v : List ℕ)
-      → Left f en d k s 0 l v (length (tapeEventsOf (ours f en) d k s)) (laidOf l (tapeEventsOf (ours f en) d k s)) (laidOf v (tapeLevelsOf (ours f en) d k s))
+      → Left f en d k s 0 l v (length (tapeEventsOf ourDriver (ours f en) d k s)) (laidOf l (tapeEventsOf ourDriver (ours f en) d k s)) (laidOf v (tapeLevelsOf ourDriver (ours f en) d k s))
   left-start k s l v =
       record {
         count = omega arith;
-        events = sets-over [] l (tapeEventsOf (ours f en) d k s) 0 refl;
-        levels = sets-over [] v (tapeLevelsOf (ours f en) d k s) 0 refl;
+        events = sets-over [] l (tapeEventsOf ourDriver (ours f en) d k s) 0 refl;
+        levels = sets-over [] v (tapeLevelsOf ourDriver (ours f en) d k s) 0 refl;
       }
 
   pub left-end : (k : ℕ) (s : System) (at : ℕ) (l v : List ℕ) (n : ℕ) (es ls : List ℕ) → k ≡ 0 → Left f en d k s at l v n es ls
@@ -104,28 +105,28 @@ module _ (f : Facts) (en d : ℕ) where
   left-end zero s at l v n es ls e t = (let c = t .count in omega arith, (t .events, t .levels))
   left-end (suc k) s at l v n es ls e t = absurd (omega arith)
 
-  rest-events : (k : ℕ) (s : System) → 0 < k → tapeEventsOf (ours f en) d k s ≡ turnEvents d s ++ tapeEventsOf (ours f en) d (k - 1) (turnOf (ours f en) d s)
+  rest-events : (k : ℕ) (s : System) → 0 < k → tapeEventsOf ourDriver (ours f en) d k s ≡ turnEvents ourDriver d s ++ tapeEventsOf ourDriver (ours f en) d (k - 1) (turnOf ourDriver (ours f en) d s)
   unfolding tapeEventsOf
   rest-events zero s h = absurd (omega arith)
   rest-events (suc k) s h =
       let e : k ≡ suc k - 1 = omega arith in
-      ap (λ (i : ℕ). turnEvents d s ++ tapeEventsOf (ours f en) d i (turnOf (ours f en) d s)) e
+      ap (λ (i : ℕ). turnEvents ourDriver d s ++ tapeEventsOf ourDriver (ours f en) d i (turnOf ourDriver (ours f en) d s)) e
 
-  rest-levels : (k : ℕ) (s : System) → 0 < k → tapeLevelsOf (ours f en) d k s ≡ turnLevels (ours f en) d s ++ tapeLevelsOf (ours f en) d (k - 1) (turnOf (ours f en) d s)
+  rest-levels : (k : ℕ) (s : System) → 0 < k → tapeLevelsOf ourDriver (ours f en) d k s ≡ turnLevels ourDriver (ours f en) d s ++ tapeLevelsOf ourDriver (ours f en) d (k - 1) (turnOf ourDriver (ours f en) d s)
   unfolding tapeLevelsOf
   rest-levels zero s h = absurd (omega arith)
   rest-levels (suc k) s h =
       let e : k ≡ suc k - 1 = omega arith in
-      ap (λ (i : ℕ). turnLevels (ours f en) d s ++ tapeLevelsOf (ours f en) d i (turnOf (ours f en) d s)) e
+      ap (λ (i : ℕ). turnLevels ourDriver (ours f en) d s ++ tapeLevelsOf ourDriver (ours f en) d i (turnOf ourDriver (ours f en) d s)) e
 
   -- one turn: what the code found in it, and stored of it
   module _ (s t : System) (ended sends : Bool) (code : ℕ) (at at′ : ℕ) (l l′ v v′ : List ℕ)
-      (ht : t ≡ turnOf (ours f en) d s)
+      (ht : t ≡ turnOf ourDriver (ours f en) d s)
       (found : (ended ≡ endDueOf d s) × (sends ≡ sendsOf (driverNextOf (s .driver) (s .level) (s .buffer) .answer)) × (code ≡ sentCodeOf (driverNextOf (s .driver) (s .level) (s .buffer) .answer)))
       (ha : at′ ≡ at + length (tapeBy ended sends 4 code))
       (hl : l′ ≡ sets l at (tapeBy ended sends 4 code))
       (hv : v′ ≡ sets v at (tapeBy ended sends 2 (t .level))) where
-    turn-tape : (tapeBy ended sends 4 code ≡ turnEvents d s) × (tapeBy ended sends 2 (t .level) ≡ turnLevels (ours f en) d s)
+    turn-tape : (tapeBy ended sends 4 code ≡ turnEvents ourDriver d s) × (tapeBy ended sends 2 (t .level) ≡ turnLevels ourDriver (ours f en) d s)
     unfolding turnEvents turnLevels
     turn-tape = (rw (found .0, found .1, found .2) refl, rw (found .0, found .1, ht) refl)
 
@@ -135,11 +136,11 @@ module _ (f : Facts) (en d : ℕ) where
     pub left-on : (k n : ℕ) (es ls : List ℕ) → 0 < k → Left f en d k s at l v n es ls → Left f en d (k - 1) t at′ l′ v′ n es ls
     left-on k n es ls h w =
         let e = turn-tape in
-        let after : (x : ℕ) → Left f en d (k - 1) (turnOf (ours f en) d s) at′ l′ v′ n es ls = λ x.
+        let after : (x : ℕ) → Left f en d (k - 1) (turnOf ourDriver (ours f en) d s) at′ l′ v′ n es ls = λ x.
         record {
-          count = omega (arith, w .count, ap length (rest-events k s h), length-append (turnEvents d s) (tapeEventsOf (ours f en) d (k - 1) (turnOf (ours f en) d s)), ap length (e .0));
-          events = on (turnEvents d s) (tapeEventsOf (ours f en) d (k - 1) (turnOf (ours f en) d s)) l l′ es (ap (sets l at) (sym (rest-events k s h)) ∙ w .events) (hl ∙ ap (sets l at) (e .0)) (omega (arith, ap length (e .0)));
-          levels = on (turnLevels (ours f en) d s) (tapeLevelsOf (ours f en) d (k - 1) (turnOf (ours f en) d s)) v v′ ls (ap (sets v at) (sym (rest-levels k s h)) ∙ w .levels) (hv ∙ ap (sets v at) (e .1)) (omega (arith, ap length (e .1), same-count ended sends 4 code 2 (t .level)));
+          count = omega (arith, w .count, ap length (rest-events k s h), length-append (turnEvents ourDriver d s) (tapeEventsOf ourDriver (ours f en) d (k - 1) (turnOf ourDriver (ours f en) d s)), ap length (e .0));
+          events = on (turnEvents ourDriver d s) (tapeEventsOf ourDriver (ours f en) d (k - 1) (turnOf ourDriver (ours f en) d s)) l l′ es (ap (sets l at) (sym (rest-events k s h)) ∙ w .events) (hl ∙ ap (sets l at) (e .0)) (omega (arith, ap length (e .0)));
+          levels = on (turnLevels ourDriver (ours f en) d s) (tapeLevelsOf ourDriver (ours f en) d (k - 1) (turnOf ourDriver (ours f en) d s)) v v′ ls (ap (sets v at) (sym (rest-levels k s h)) ∙ w .levels) (hv ∙ ap (sets v at) (e .1)) (omega (arith, ap length (e .1), same-count ended sends 4 code 2 (t .level)));
         }
         in
         subst (λ (z : System). Left f en d (k - 1) z at′ l′ v′ n es ls) (sym ht) (after 0)
@@ -148,7 +149,7 @@ module _ (f : Facts) (en d : ℕ) where
         on xs ys a a′ w p q r = ap (λ (z : List ℕ). sets z at′ ys) q ∙ ap (λ (i : ℕ). sets (sets a at xs) i ys) r ∙ sym (sets-append xs a ys at) ∙ p
 
     -- neither an end nor an event: nothing comes any more
-    none-now : cond ended true sends ≡ false → (turnEvents d s ≡ []) × (turnLevels (ours f en) d s ≡ [])
+    none-now : cond ended true sends ≡ false → (turnEvents ourDriver d s ≡ []) × (turnLevels ourDriver (ours f en) d s ≡ [])
     none-now h =
         let w = neither ended sends h in
         let e = turn-tape in
@@ -161,10 +162,10 @@ module _ (f : Facts) (en d : ℕ) where
     unfolding goingOf
     not-going h = rw (found .0, found .1) at h
 
-    stays : cond ended true sends ≡ false → turnOf (ours f en) d s ≡ s
+    stays : cond ended true sends ≡ false → turnOf ourDriver (ours f en) d s ≡ s
     stays h = still f en d s (not-going h)
 
-    none-ever : cond ended true sends ≡ false → (k : ℕ) → (tapeEventsOf (ours f en) d k s ≡ []) × (tapeLevelsOf (ours f en) d k s ≡ [])
+    none-ever : cond ended true sends ≡ false → (k : ℕ) → (tapeEventsOf ourDriver (ours f en) d k s ≡ []) × (tapeLevelsOf ourDriver (ours f en) d k s ≡ [])
     unfolding tapeEventsOf tapeLevelsOf
     none-ever h zero = (refl, refl)
     none-ever h (suc k) =
@@ -175,7 +176,7 @@ module _ (f : Facts) (en d : ℕ) where
     pub left-still : (k n : ℕ) (es ls : List ℕ) → 0 < k → cond ended true sends ≡ false → Left f en d k s at l v n es ls → (at′ ≡ n) × ((l′ ≡ es) × (v′ ≡ ls))
     left-still k n es ls p h w =
         let z = left-on k n es ls p w in
-        let i : (tapeEventsOf (ours f en) d (k - 1) t ≡ []) × (tapeLevelsOf (ours f en) d (k - 1) t ≡ []) = rw (ht, stays h) (none-ever h (k - 1)) in (
+        let i : (tapeEventsOf ourDriver (ours f en) d (k - 1) t ≡ []) × (tapeLevelsOf ourDriver (ours f en) d (k - 1) t ≡ []) = rw (ht, stays h) (none-ever h (k - 1)) in (
           let c = z .count in
               omega (arith, ap length (i .0)),
           (ap (sets l′ at′) (sym (i .0)) ∙ z .events, ap (sets v′ at′) (sym (i .1)) ∙ z .levels),
@@ -191,8 +192,8 @@ module _ (f : Facts) (en d k : ℕ) (r : Request) (c : Chip) (m : Mem) (b : List
   abbrev begun : System
   begun = whole record { driver = g .driver; level = 1; chip = c; cycles = 0; clocks = 0 } b m
 
-  pub taped : (n : ℕ) (l l′ v v′ : List ℕ) → n ≡ length (tapeEventsOf (ours f en) d k begun) → l′ ≡ laidOf l (tapeEventsOf (ours f en) d k begun) → v′ ≡ laidOf v (tapeLevelsOf (ours f en) d k begun)
-      → (n ≡ length (tapeEventsOf (ours f en) d k (startOf r b c m))) × ((l′ ≡ laidOf l (tapeEventsOf (ours f en) d k (startOf r b c m))) × (v′ ≡ laidOf v (tapeLevelsOf (ours f en) d k (startOf r b c m))))
+  pub taped : (n : ℕ) (l l′ v v′ : List ℕ) → n ≡ length (tapeEventsOf ourDriver (ours f en) d k begun) → l′ ≡ laidOf l (tapeEventsOf ourDriver (ours f en) d k begun) → v′ ≡ laidOf v (tapeLevelsOf ourDriver (ours f en) d k begun)
+      → (n ≡ length (tapeEventsOf ourDriver (ours f en) d k (startOf r b c m))) × ((l′ ≡ laidOf l (tapeEventsOf ourDriver (ours f en) d k (startOf r b c m))) × (v′ ≡ laidOf v (tapeLevelsOf ourDriver (ours f en) d k (startOf r b c m))))
   taped n l l′ v v′ hn hl hv =
       let e : begun ≡ startOf r b c m = rw hg refl in
-      (hn ∙ ap (λ (s : System). length (tapeEventsOf (ours f en) d k s)) e, (hl ∙ ap (λ (s : System). laidOf l (tapeEventsOf (ours f en) d k s)) e, hv ∙ ap (λ (s : System). laidOf v (tapeLevelsOf (ours f en) d k s)) e))
+      (hn ∙ ap (λ (s : System). length (tapeEventsOf ourDriver (ours f en) d k s)) e, (hl ∙ ap (λ (s : System). laidOf l (tapeEventsOf ourDriver (ours f en) d k s)) e, hv ∙ ap (λ (s : System). laidOf v (tapeLevelsOf ourDriver (ours f en) d k s)) e))

@@ -5,6 +5,7 @@ use mathlib.Core.Bool.{Bool, true, false, cond, not}
 use mathlib.Core.List.{List, [], _++_}
 use lib.ListN.{length, take, drop}
 use lib.Dec.{eqb, ltb}
+use Rattle.parts.specs.declared.Facts.{Facts}
 use Rattle.parts.specs.declared.Refusal.{Refusal}
 use Rattle.parts.specs.declared.Refusal.the-variants.{BadState, ShortBuffer, BadLimit}
 use Rattle.parts.specs.declared.Verdict.{Verdict}
@@ -19,6 +20,7 @@ use Rattle.driver.specs.declared.Request.{Request}
 use Rattle.driver.specs.declared.Answer.{Answer}
 use Rattle.driver.specs.declared.Answer.the-variants.{Send, Done, Refused}
 use Rattle.driver.specs.Request.{judgeOf}
+use Rattle.driver.specs.Machine.{Machine, ourDriver}
 use Rattle.bench.specs.declared.Report.{Report}
 use Rattle.bench.specs.Together.{System, startOf, turnsOf, lastOf, enough}
 use Rattle.bench.specs.Tape.{tapeEventsOf, tapeLevelsOf}
@@ -46,19 +48,15 @@ benchVerdictOf r enable d c n i b =
     (soonerOf (claimOf (shortOf (r .reads) (r .length) b) ShortBuffer)
     (claimOf (lateOf d) BadLimit))))
 
--- ---- the run
-
--- ours, at the chip's own enable
-abbrev pub modelOf : Request → ℕ → Model
-modelOf r enable = ours (factsOf (r .part)) enable
+-- ---- the run, of any driver on any chip
 
 -- the driver has what it was asked to write or read, and no more; a read's buffer may be longer
 abbrev pub outsetOf : Request → Chip → Mem → List ℕ → System
 outsetOf r c m buffer = startOf r (take (r .length) buffer) c m
 
--- the system when the driver has finished: it selects by the request's enable, the chip answers at its own
-unfoldable pub finalOf : Request → ℕ → ℕ → Chip → Mem → List ℕ → System
-finalOf r enable d c m buffer = turnsOf (modelOf r enable) d enough (outsetOf r c m buffer)
+-- the system when the driver has finished
+unfoldable pub finalOf : Machine → Model → Request → ℕ → Chip → Mem → List ℕ → System
+finalOf D M r d c m buffer = turnsOf D M d enough (outsetOf r c m buffer)
 
 -- of the system and the driver's last answer; one that would still send cannot be (proved with the promises)
 abbrev pub reportBy : System → Answer → Report
@@ -78,20 +76,25 @@ pub record BenchLeft : Type 0 where
   pub levels : List ℕ
 
 -- bytes past the answer keep their values; a refused call changes nothing and sends nothing
-abbrev pub benchBy : Request → ℕ → ℕ → Chip → Mem → List ℕ → Verdict → BenchLeft
-benchBy r enable d c m buffer Fine =
+abbrev pub benchBy : Machine → Model → Request → ℕ → Chip → Mem → List ℕ → Verdict → BenchLeft
+benchBy D M r d c m buffer Fine =
     record {
-      report = reportBy (finalOf r enable d c m buffer) (lastOf (modelOf r enable) d enough (Done 0 0) (outsetOf r c m buffer));
-      mem = finalOf r enable d c m buffer .mem;
-      buffer = finalOf r enable d c m buffer .buffer ++ drop (r .length) buffer;
-      events = tapeEventsOf (modelOf r enable) d enough (outsetOf r c m buffer);
-      levels = tapeLevelsOf (modelOf r enable) d enough (outsetOf r c m buffer);
+      report = reportBy (finalOf D M r d c m buffer) (lastOf D M d enough (Done 0 0) (outsetOf r c m buffer));
+      mem = finalOf D M r d c m buffer .mem;
+      buffer = finalOf D M r d c m buffer .buffer ++ drop (r .length) buffer;
+      events = tapeEventsOf D M d enough (outsetOf r c m buffer);
+      levels = tapeLevelsOf D M d enough (outsetOf r c m buffer);
     }
-benchBy r enable d c m buffer (Judged x) = record { report = refusedBy x c; mem = m; buffer = buffer; events = []; levels = [] }
+benchBy D M r d c m buffer (Judged x) = record { report = refusedBy x c; mem = m; buffer = buffer; events = []; levels = [] }
 
 abbrev pub benchVerdict : Request → ℕ → ℕ → Chip → Mem → List ℕ → Verdict
 benchVerdict r enable d c m buffer = benchVerdictOf r enable d c (length (m .cells)) (length (m .ident)) (length buffer)
 
--- of the request, the chip's enable, d, the chip, its two lent buffers, and the driver's buffer
+-- of the request, the chip's enable, d, the chip, its two lent buffers, and the driver's buffer. The driver selects by the request's
+-- enable, the chip, which is made for a row of the part table and an enable, answers at its own
+abbrev pub benchOver : Machine → (Facts → ℕ → Model) → Request → ℕ → ℕ → Chip → Mem → List ℕ → BenchLeft
+benchOver D M r enable d c m buffer = benchBy D (M (factsOf (r .part)) enable) r d c m buffer (benchVerdict r enable d c m buffer)
+
+-- ours
 abbrev pub benchOf : Request → ℕ → ℕ → Chip → Mem → List ℕ → BenchLeft
-benchOf r enable d c m buffer = benchBy r enable d c m buffer (benchVerdict r enable d c m buffer)
+benchOf = benchOver ourDriver ours

@@ -7,7 +7,7 @@ use lib.ListN.{length, take, drop}
 use Rattle.chip.specs.Model.{Model}
 use Rattle.driver.specs.declared.Answer.{Answer}
 use Rattle.driver.specs.declared.Answer.the-variants.{Send, Done, Refused}
-use Rattle.driver.specs.Step.{driverNextOf}
+use Rattle.driver.specs.Machine.{Machine}
 use Rattle.bench.specs.Together.{System, endDueOf, turnOf}
 
 abbrev pub sendsOf : Answer → Bool
@@ -26,21 +26,21 @@ abbrev pub tapeBy : Bool → Bool → ℕ → ℕ → List ℕ
 tapeBy ended sends e x = cond ended (e ∷ []) [] ++ cond sends (x ∷ []) []
 
 -- the events of a turn: 4 is the end of a cycle
-unfoldable pub turnEvents : ℕ → System → List ℕ
-turnEvents d s =
-    tapeBy (endDueOf d s) (sendsOf (driverNextOf (s .driver) (s .level) (s .buffer) .answer)) 4 (sentCodeOf (driverNextOf (s .driver) (s .level) (s .buffer) .answer))
+unfoldable pub turnEvents : Machine → ℕ → System → List ℕ
+turnEvents D d s =
+    tapeBy (endDueOf d s) (sendsOf (D .next (s .driver) (s .level) (s .buffer) .answer)) 4 (sentCodeOf (D .next (s .driver) (s .level) (s .buffer) .answer))
 
 -- the levels of a turn: an end answers none; the driver is told its event's level next
-unfoldable pub turnLevels : Model → ℕ → System → List ℕ
-turnLevels M d s = tapeBy (endDueOf d s) (sendsOf (driverNextOf (s .driver) (s .level) (s .buffer) .answer)) 2 (turnOf M d s .level)
+unfoldable pub turnLevels : Machine → Model → ℕ → System → List ℕ
+turnLevels D M d s = tapeBy (endDueOf d s) (sendsOf (D .next (s .driver) (s .level) (s .buffer) .answer)) 2 (turnOf D M d s .level)
 
-unfoldable pub tapeEventsOf : Model → ℕ → ℕ → System → List ℕ
-tapeEventsOf M d zero s = []
-tapeEventsOf M d (suc n) s = turnEvents d s ++ tapeEventsOf M d n (turnOf M d s)
+unfoldable pub tapeEventsOf : Machine → Model → ℕ → ℕ → System → List ℕ
+tapeEventsOf D M d zero s = []
+tapeEventsOf D M d (suc n) s = turnEvents D d s ++ tapeEventsOf D M d n (turnOf D M d s)
 
-unfoldable pub tapeLevelsOf : Model → ℕ → ℕ → System → List ℕ
-tapeLevelsOf M d zero s = []
-tapeLevelsOf M d (suc n) s = turnLevels M d s ++ tapeLevelsOf M d n (turnOf M d s)
+unfoldable pub tapeLevelsOf : Machine → Model → ℕ → ℕ → System → List ℕ
+tapeLevelsOf D M d zero s = []
+tapeLevelsOf D M d (suc n) s = turnLevels D M d s ++ tapeLevelsOf D M d n (turnOf D M d s)
 
 -- a list in a lent buffer, as far as it reaches; bytes past the list keep their values
 unfoldable pub laidOf : List ℕ → List ℕ → List ℕ

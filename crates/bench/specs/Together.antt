@@ -1,5 +1,5 @@
--- Driver and chip together: the driver is asked for its next event, the chip answers it, the driver is told the level; or the
--- chip's cycle ends. Every interleaving is a list of choices between the two.
+-- Driver and chip together, of any behaviour each: the driver is asked for its next event, the chip answers it, the driver is told
+-- the level; or the chip's cycle ends. Every interleaving is a list of choices between the two.
 -- Assumes nothing.
 use Prim.Native.Nat.{ℕ, zero, suc, _+_}
 use mathlib.Core.Bool.{Bool, true, false, cond}
@@ -17,7 +17,8 @@ use Rattle.driver.specs.declared.Driver.{Driver}
 use Rattle.driver.specs.declared.Answer.{Answer}
 use Rattle.driver.specs.declared.Answer.the-variants.{Send, Done, Refused}
 use Rattle.driver.specs.Request.{allowedOf}
-use Rattle.driver.specs.Step.{driverNextOf, bufferOf, fresh}
+use Rattle.driver.specs.Step.{fresh}
+use Rattle.driver.specs.Machine.{Machine}
 
 -- `level`: what the driver is told next. `cycles`, `clocks`: begun and sent so far
 pub record System : Type 0 where
@@ -52,9 +53,9 @@ answeredBy M s d b (Done polls bytes) = s
 answeredBy M s d b (Refused r polls bytes) = s
 
 -- the driver is asked once
-unfoldable pub askedOf : Model → System → System
-askedOf M s =
-    answeredBy M s (driverNextOf (s .driver) (s .level) (s .buffer) .driver) (bufferOf (s .driver) (s .level) (s .buffer)) (driverNextOf (s .driver) (s .level) (s .buffer) .answer)
+unfoldable pub askedOf : Machine → Model → System → System
+askedOf D M s =
+    answeredBy M s (D .next (s .driver) (s .level) (s .buffer) .driver) (D .leaves (s .driver) (s .level) (s .buffer)) (D .next (s .driver) (s .level) (s .buffer) .answer)
 
 -- the code of the end of a cycle
 abbrev pub ends : ℕ
@@ -74,10 +75,10 @@ cycleEndedOf M s =
     }
 
 -- any interleaving: true asks the driver, false is an end
-unfoldable pub togetherOf : Model → List Bool → System → System
-togetherOf M [] s = s
-togetherOf M (true ∷ bs) s = togetherOf M bs (askedOf M s)
-togetherOf M (false ∷ bs) s = togetherOf M bs (cycleEndedOf M s)
+unfoldable pub togetherOf : Machine → Model → List Bool → System → System
+togetherOf D M [] s = s
+togetherOf D M (true ∷ bs) s = togetherOf D M bs (askedOf D M s)
+togetherOf D M (false ∷ bs) s = togetherOf D M bs (cycleEndedOf M s)
 
 -- ---- the run with d: "each cycle ends just before its poll number d"
 
@@ -101,17 +102,17 @@ pollNext (Over f) tries allowed level = 0
 unfoldable pub endDueOf : ℕ → System → Bool
 endDueOf d s = eqb (pollNext (s .driver .phase) (s .driver .counts .tries) (allowedOf (s .driver .request)) (s .level)) d
 
-unfoldable pub turnOf : Model → ℕ → System → System
-turnOf M d s = askedOf M (cond (endDueOf d s) (cycleEndedOf M s) s)
+unfoldable pub turnOf : Machine → Model → ℕ → System → System
+turnOf D M d s = askedOf D M (cond (endDueOf d s) (cycleEndedOf M s) s)
 
-unfoldable pub turnsOf : Model → ℕ → ℕ → System → System
-turnsOf M d zero s = s
-turnsOf M d (suc n) s = turnsOf M d n (turnOf M d s)
+unfoldable pub turnsOf : Machine → Model → ℕ → ℕ → System → System
+turnsOf D M d zero s = s
+turnsOf D M d (suc n) s = turnsOf D M d n (turnOf D M d s)
 
 -- what the driver answered when it was asked last, of n turns; a where it was not asked
-unfoldable pub lastOf : Model → ℕ → ℕ → Answer → System → Answer
-lastOf M d zero a s = a
-lastOf M d (suc n) a s = lastOf M d n (driverNextOf (s .driver) (s .level) (s .buffer) .answer) (turnOf M d s)
+unfoldable pub lastOf : Machine → Model → ℕ → ℕ → Answer → System → Answer
+lastOf D M d zero a s = a
+lastOf D M d (suc n) a s = lastOf D M d n (D .next (s .driver) (s .level) (s .buffer) .answer) (turnOf D M d s)
 
 -- more askings than any request takes: 9 clocks for each of 512 pages' select and address, 32,768 bytes and 512,000 polls, and
 -- their Starts and Stops

@@ -11,6 +11,7 @@ ghost use Rattle.chip.specs.Memory.{mem, storeOf};
 ghost use Rattle.chip.specs.Model.{ours};
 ghost use Rattle.driver.specs.declared.Answer.the-variants.{Done};
 ghost use Rattle.driver.specs.Step.{driverNextOf};
+ghost use Rattle.driver.specs.Machine.{ourDriver};
 ghost use Rattle.bench.specs.Together.{
   clockOf,
   startOf,
@@ -155,7 +156,7 @@ fn ask(
     requires fit { ⌜ Fit part enable (held .chip) (length (now array)) (length (now id)) ⌝ }
     requires few { ⌜ (held .cycles < 6000000) × (held .clocks < 6000000) ⌝ }
     ensures together { λ r. ⌜ whole (r .held) (now (buffer .exit)) (mem (now (array .exit)) (now (id .exit)))
-        ≡ askedOf (ours (factsOf part) enable) (whole held (now (buffer .entry)) (mem (now (array .entry)) (now (id .entry)))) ⌝ }
+        ≡ askedOf ourDriver (ours (factsOf part) enable) (whole held (now (buffer .entry)) (mem (now (array .entry)) (now (id .entry)))) ⌝ }
     ensures found { λ r. ⌜ (r .ended ≡ ended) × (r .answer ≡ driverNextOf (held .driver) (held .level) (now (buffer .entry)) .answer) ⌝ }
 {
     let asked = driver::next(held.driver, held.level, buffer);
@@ -240,7 +241,7 @@ fn turn(
     requires few { ⌜ (held .cycles < 6000000) × (held .clocks < 6000000) ⌝ }
     requires first { ⌜ 0 < d ⌝ }
     ensures together { λ r. ⌜ whole (r .held) (now (buffer .exit)) (mem (now (array .exit)) (now (id .exit)))
-        ≡ turnOf (ours (factsOf part) enable) d (whole held (now (buffer .entry)) (mem (now (array .entry)) (now (id .entry)))) ⌝ }
+        ≡ turnOf ourDriver (ours (factsOf part) enable) d (whole held (now (buffer .entry)) (mem (now (array .entry)) (now (id .entry)))) ⌝ }
     ensures found { λ r. ⌜ (r .ended ≡ endDueOf d (whole held (now (buffer .entry)) (mem (now (array .entry)) (now (id .entry)))))
         × (r .answer ≡ driverNextOf (held .driver) (held .level) (now (buffer .entry)) .answer) ⌝ }
 {
@@ -343,17 +344,18 @@ fn go(
     requires none { ⌜ (first .cycles ≡ 0) × (first .clocks ≡ 0) ⌝ }
     requires first { ⌜ 0 < d ⌝ }
     ensures together { λ r. ⌜ whole (r .held) (now (buffer .exit)) (mem (now (array .exit)) (now (id .exit)))
-        ≡ turnsOf (ours (factsOf part) enable) d enough (whole first (now (buffer .entry)) (mem (now (array .entry)) (now (id .entry)))) ⌝ }
+        ≡ turnsOf ourDriver (ours (factsOf part) enable) d enough (whole first (now (buffer .entry)) (mem (now (array .entry)) (now (id .entry)))) ⌝ }
     ensures last { λ r. ⌜ r .answer
-        ≡ lastOf (ours (factsOf part) enable) d enough (Done 0 0) (whole first (now (buffer .entry)) (mem (now (array .entry)) (now (id .entry)))) ⌝ }
+        ≡ lastOf ourDriver (ours (factsOf part) enable) d enough (Done 0 0) (whole first (now (buffer .entry)) (mem (now (array .entry)) (now (id .entry)))) ⌝ }
     ensures sent { λ r. ⌜ r .sent
-        ≡ length (tapeEventsOf (ours (factsOf part) enable) d enough (whole first (now (buffer .entry)) (mem (now (array .entry)) (now (id .entry))))) ⌝ }
+        ≡ length (tapeEventsOf ourDriver (ours (factsOf part) enable) d enough
+        (whole first (now (buffer .entry)) (mem (now (array .entry)) (now (id .entry))))) ⌝ }
     ensures events { λ _. ⌜ now (events .exit)
         ≡ laidOf (now (events .entry))
-        (tapeEventsOf (ours (factsOf part) enable) d enough (whole first (now (buffer .entry)) (mem (now (array .entry)) (now (id .entry))))) ⌝ }
+        (tapeEventsOf ourDriver (ours (factsOf part) enable) d enough (whole first (now (buffer .entry)) (mem (now (array .entry)) (now (id .entry))))) ⌝ }
     ensures levels { λ _. ⌜ now (levels .exit)
         ≡ laidOf (now (levels .entry))
-        (tapeLevelsOf (ours (factsOf part) enable) d enough (whole first (now (buffer .entry)) (mem (now (array .entry)) (now (id .entry))))) ⌝ }
+        (tapeLevelsOf ourDriver (ours (factsOf part) enable) d enough (whole first (now (buffer .entry)) (mem (now (array .entry)) (now (id .entry))))) ⌝ }
 {
     let mut held = first;
     let mut answer = Answer::Done(0, 0);
@@ -422,26 +424,26 @@ fn drive(
     requires fit { ⌜ Fit (request .part) enable chip (length (now array)) (length (now id)) ⌝ }
     requires first { ⌜ 0 < d ⌝ }
     ensures answer { λ r. ⌜ r .report
-        ≡ reportBy (turnsOf (ours (factsOf (request .part)) enable) d enough
+        ≡ reportBy (turnsOf ourDriver (ours (factsOf (request .part)) enable) d enough
         (startOf request (now (bytes .entry)) chip (mem (now (array .entry)) (now (id .entry)))))
-        (lastOf (ours (factsOf (request .part)) enable) d enough (Done 0 0)
+        (lastOf ourDriver (ours (factsOf (request .part)) enable) d enough (Done 0 0)
         (startOf request (now (bytes .entry)) chip (mem (now (array .entry)) (now (id .entry))))) ⌝ }
     ensures stored { λ _. ⌜ mem (now (array .exit)) (now (id .exit))
-        ≡ turnsOf (ours (factsOf (request .part)) enable) d enough
+        ≡ turnsOf ourDriver (ours (factsOf (request .part)) enable) d enough
         (startOf request (now (bytes .entry)) chip (mem (now (array .entry)) (now (id .entry)))) .mem ⌝ }
     ensures bytes { λ _. ⌜ now (bytes .exit)
-        ≡ turnsOf (ours (factsOf (request .part)) enable) d enough
+        ≡ turnsOf ourDriver (ours (factsOf (request .part)) enable) d enough
         (startOf request (now (bytes .entry)) chip (mem (now (array .entry)) (now (id .entry)))) .buffer ⌝ }
     ensures sent { λ r. ⌜ r .sent
-        ≡ length (tapeEventsOf (ours (factsOf (request .part)) enable) d enough
+        ≡ length (tapeEventsOf ourDriver (ours (factsOf (request .part)) enable) d enough
         (startOf request (now (bytes .entry)) chip (mem (now (array .entry)) (now (id .entry))))) ⌝ }
     ensures events { λ _. ⌜ now (events .exit)
         ≡ laidOf (now (events .entry))
-        (tapeEventsOf (ours (factsOf (request .part)) enable) d enough
+        (tapeEventsOf ourDriver (ours (factsOf (request .part)) enable) d enough
         (startOf request (now (bytes .entry)) chip (mem (now (array .entry)) (now (id .entry))))) ⌝ }
     ensures levels { λ _. ⌜ now (levels .exit)
         ≡ laidOf (now (levels .entry))
-        (tapeLevelsOf (ours (factsOf (request .part)) enable) d enough
+        (tapeLevelsOf ourDriver (ours (factsOf (request .part)) enable) d enough
         (startOf request (now (bytes .entry)) chip (mem (now (array .entry)) (now (id .entry))))) ⌝ }
 {
     let begun = driver::begin(request);

@@ -30,6 +30,7 @@ use Rattle.driver.specs.declared.Request.{Request}
 use Rattle.driver.specs.declared.Answer.{Answer}
 use Rattle.driver.specs.declared.Answer.the-variants.{Send, Done, Refused}
 use Rattle.driver.specs.Request.{fromOf, roomOf, thereOf, beyondAt, limitOf, judgeOf, allowedOf}
+use Rattle.driver.specs.Machine.{ourDriver}
 use Rattle.driver_promises.specs.Run.{Finished, boundOf}
 use Rattle.bench.specs.declared.Report.{Report}
 use Rattle.bench.specs.Together.{System, startOf, togetherOf, turnsOf, lastOf, enough}
@@ -108,11 +109,11 @@ module _ (n : ℕ) (turns : n ≡ enough) (r : Request) (d : ℕ) (c : Chip) (m 
   bs = choices (factsOf (r .part)) (r .enable) d n (startOf r ws c m)
 
   abbrev Y : System
-  Y = togetherOf (ours (factsOf (r .part)) (r .enable)) bs (startOf r ws c m)
+  Y = togetherOf ourDriver (ours (factsOf (r .part)) (r .enable)) bs (startOf r ws c m)
 
-  final : finalOf r (r .enable) d c m ys ≡ Y
+  final : finalOf ourDriver (ours (factsOf (r .part)) (r .enable)) r d c m ys ≡ Y
   unfolding finalOf
-  final = ap (λ (i : ℕ). turnsOf (ours (factsOf (r .part)) (r .enable)) d i (startOf r ws c m)) (sym turns) ∙ choices-same (factsOf (r .part)) (r .enable) d n (startOf r ws c m)
+  final = ap (λ (i : ℕ). turnsOf ourDriver (ours (factsOf (r .part)) (r .enable)) d i (startOf r ws c m)) (sym turns) ∙ choices-same (factsOf (r .part)) (r .enable) d n (startOf r ws c m)
 
   spare : boundOf r + 1 < n
   spare = subst (λ (i : ℕ). boundOf r + 1 < i) (sym turns) (spare-turn r ws (begins r d c m ys k .accepted))
@@ -121,30 +122,30 @@ module _ (n : ℕ) (turns : n ≡ enough) (r : Request) (d : ℕ) (c : Chip) (m 
   over-bound = omega (arith, spare)
 
   -- of the turns but the last: the driver has finished
-  early : Finished (answerOf (turnsOf (ours (factsOf (r .part)) (r .enable)) d (n - 1) (startOf r ws c m)))
+  early : Finished (answerOf (turnsOf ourDriver (ours (factsOf (r .part)) (r .enable)) d (n - 1) (startOf r ws c m)))
   early =
       let bs′ = choices (factsOf (r .part)) (r .enable) d (n - 1) (startOf r ws c m) in
       subst (λ (y : System). Finished (answerOf y)) (sym (choices-same (factsOf (r .part)) (r .enable) d (n - 1) (startOf r ws c m)))
       (finished r ws c m (begins r d c m ys k) bs′ (omega (arith, spare, choices-asked (factsOf (r .part)) (r .enable) d (n - 1) (startOf r ws c m))))
 
-  last : lastOf (ours (factsOf (r .part)) (r .enable)) d enough (Done 0 0) (startOf r ws c m) ≡ answerOf Y
+  last : lastOf ourDriver (ours (factsOf (r .part)) (r .enable)) d enough (Done 0 0) (startOf r ws c m) ≡ answerOf Y
   last =
       let e : suc (n - 1) ≡ n = omega (arith, spare) in
-      ap (λ (i : ℕ). lastOf (ours (factsOf (r .part)) (r .enable)) d i (Done 0 0) (startOf r ws c m)) (sym (e ∙ turns))
+      ap (λ (i : ℕ). lastOf ourDriver (ours (factsOf (r .part)) (r .enable)) d i (Done 0 0) (startOf r ws c m)) (sym (e ∙ turns))
       ∙ (last-answer (factsOf (r .part)) (r .enable) d (n - 1) (Done 0 0) (startOf r ws c m) early
-      ∙ (ap (λ (i : ℕ). answerOf (turnsOf (ours (factsOf (r .part)) (r .enable)) d i (startOf r ws c m))) e
+      ∙ (ap (λ (i : ℕ). answerOf (turnsOf ourDriver (ours (factsOf (r .part)) (r .enable)) d i (startOf r ws c m))) e
       ∙ ap answerOf (choices-same (factsOf (r .part)) (r .enable) d n (startOf r ws c m))))
 
   report-is : benchOf r (r .enable) d c m ys .report ≡ reportBy Y (answerOf Y)
   report-is =
-      ap (λ (v : Verdict). benchBy r (r .enable) d c m ys v .report) (k .fine)
-      ∙ (ap (λ (y : System). reportBy y (lastOf (ours (factsOf (r .part)) (r .enable)) d enough (Done 0 0) (startOf r ws c m))) final ∙ ap (reportBy Y) last)
+      ap (λ (v : Verdict). benchBy ourDriver (ours (factsOf (r .part)) (r .enable)) r d c m ys v .report) (k .fine)
+      ∙ (ap (λ (y : System). reportBy y (lastOf ourDriver (ours (factsOf (r .part)) (r .enable)) d enough (Done 0 0) (startOf r ws c m))) final ∙ ap (reportBy Y) last)
 
   memory-is : benchOf r (r .enable) d c m ys .mem ≡ Y .mem
-  memory-is = ap (λ (v : Verdict). benchBy r (r .enable) d c m ys v .mem) (k .fine) ∙ ap (λ (y : System). y .mem) final
+  memory-is = ap (λ (v : Verdict). benchBy ourDriver (ours (factsOf (r .part)) (r .enable)) r d c m ys v .mem) (k .fine) ∙ ap (λ (y : System). y .mem) final
 
   buffer-is : benchOf r (r .enable) d c m ys .buffer ≡ Y .buffer ++ drop (r .length) ys
-  buffer-is = ap (λ (v : Verdict). benchBy r (r .enable) d c m ys v .buffer) (k .fine) ∙ ap (λ (y : System). y .buffer ++ drop (r .length) ys) final
+  buffer-is = ap (λ (v : Verdict). benchBy ourDriver (ours (factsOf (r .part)) (r .enable)) r d c m ys v .buffer) (k .fine) ∙ ap (λ (y : System). y .buffer ++ drop (r .length) ys) final
 
   bytes-reported : (a : Answer) → reportBy Y a .bytes ≡ reportedOf a
   bytes-reported (Send e) = refl
@@ -286,7 +287,7 @@ module _ (n : ℕ) (turns : n ≡ enough) (r : Request) (d : ℕ) (c : Chip) (m 
 
 untouched : (r : Request) (en d : ℕ) (c : Chip) (m : Mem) (ys : List ℕ) (x : Refusal) → benchVerdict r en d c m ys ≡ Judged x → Untouched ourBench r en d c m ys x
 untouched r en d c m ys x e =
-    let p = ap (benchBy r en d c m ys) e in
+    let p = ap (benchBy ourDriver (ours (factsOf (r .part)) en) r d c m ys) e in
     record {
       verdict = ap (λ (y : BenchLeft). y .report .verdict) p;
       chip = ap (λ (y : BenchLeft). y .report .chip) p;

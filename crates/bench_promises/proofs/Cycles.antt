@@ -29,6 +29,7 @@ use Rattle.driver.specs.declared.Answer.the-variants.{Send, Done, Refused}
 use Rattle.driver.specs.declared.Move.{Move}
 use Rattle.driver.specs.Request.{kOf}
 use Rattle.driver.specs.Step.{wireOf, slotByteOf, sentCountsOf, bufferOf}
+use Rattle.driver.specs.Machine.{ourDriver}
 use Rattle.driver_promises.specs.Where.{leftOf}
 use Rattle.driver_promises.proofs.View.{at, leads, Way, w-done, w-open, w-bit, w-ninth, w-got, w-nack, w-high, w-only, w-low, w-turn, w-data, w-more, w-close, w-drop, w-poll, w-again, w-give, w-page, w-take, w-next, w-end, w-over}
 use Rattle.driver_promises.proofs.Inv.{left-all, left-cut, Inv, inv-step, taken-elim}
@@ -194,10 +195,10 @@ module _ (g : Given) (s : Sane g) where
   abbrev now : System → Type 0
   now y = Cyc (g .request) (y .driver .phase) (y .driver .counts) (y .cycles)
 
-  asked-cyc : (y : System) → Holds g y → now y → now (askedOf (ours (F g) (g .request .enable)) y)
+  asked-cyc : (y : System) → Holds g y → now y → now (askedOf ourDriver (ours (F g) (g .request .enable)) y)
   asked-cyc y h k = go (stepped g s y h)
     where
-      go : Stepped g s y → now (askedOf (ours (F g) (g .request .enable)) y)
+      go : Stepped g s y → now (askedOf ourDriver (ours (F g) (g .request .enable)) y)
       go t =
           asked-elim g s now y t
           (by (t .move .answer) (begun-is g s (y .chip) (y .mem) (y .driver .counts) (y .buffer) (y .level) (h .inv) (h .rel) (t .way)))
@@ -211,10 +212,10 @@ module _ (g : Given) (s : Sane g) where
           by (Done q n) e = k
           by (Refused f q n) e = k
 
-  pub cyc-all : (bs : List Bool) (y : System) → Holds g y → now y → now (togetherOf (ours (F g) (g .request .enable)) bs y)
+  pub cyc-all : (bs : List Bool) (y : System) → Holds g y → now y → now (togetherOf ourDriver (ours (F g) (g .request .enable)) bs y)
   unfolding togetherOf cycleEndedOf eventOf
   cyc-all [] y h k = k
-  cyc-all (true ∷ bs) y h k = cyc-all bs (askedOf (ours (F g) (g .request .enable)) y) (asked-holds g s y h) (asked-cyc y h k)
+  cyc-all (true ∷ bs) y h k = cyc-all bs (askedOf ourDriver (ours (F g) (g .request .enable)) y) (asked-holds g s y h) (asked-cyc y h k)
   cyc-all (false ∷ bs) y h k = cyc-all bs (cycleEndedOf (ours (F g) (g .request .enable)) y) (ended-holds g s y h) k
 
 pub start-cyc : (r : Request) (c : Counts) → c .seen ≡ 0 → Cyc r Ready c 0

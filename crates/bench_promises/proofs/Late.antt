@@ -29,6 +29,7 @@ use Rattle.driver.specs.declared.Answer.the-variants.{Send, Done, Refused}
 use Rattle.driver.specs.declared.Move.{Move}
 use Rattle.driver.specs.Request.{allowedOf}
 use Rattle.driver.specs.Step.{wireOf, sentCountsOf, bufferOf, refusalOf}
+use Rattle.driver.specs.Machine.{ourDriver}
 use Rattle.driver_promises.specs.Run.{Finished, boundOf}
 use Rattle.driver_promises.specs.Where.{leftOf}
 use Rattle.driver_promises.proofs.View.{at, Way, w-done, w-open, w-bit, w-ninth, w-got, w-nack, w-high, w-only, w-low, w-turn, w-data, w-more, w-close, w-drop, w-poll, w-again, w-give, w-page, w-take, w-next, w-end, w-over}
@@ -186,10 +187,10 @@ module _ (g : Given) (s : Sane g) (free : refusing (T g) (g .pin) (g .locked) �
     pub first : First (y .driver .counts)
     pub late : Late (y .driver .phase) (y .driver .counts) (y .chip .line) (y .level)
 
-  asked-late : (y : System) → Holds g y → LateNow y → LateNow (askedOf (ours (F g) (r .enable)) y)
+  asked-late : (y : System) → Holds g y → LateNow y → LateNow (askedOf ourDriver (ours (F g) (r .enable)) y)
   asked-late y h t = go (stepped g s y h)
     where
-      go : Stepped g s y → LateNow (askedOf (ours (F g) (r .enable)) y)
+      go : Stepped g s y → LateNow (askedOf ourDriver (ours (F g) (r .enable)) y)
       go w =
           asked-elim g s LateNow y w
           (by (w .move .answer) (first-step (y .chip .line) (h .inv) (t .late) (t .first) (w .way)) (lates (y .chip) (y .mem) (y .driver .counts) (y .buffer) (y .level) (h .inv) (h .rel) (t .late) (w .way)))
@@ -216,19 +217,19 @@ module _ (g : Given) (s : Sane g) (free : refusing (T g) (g .pin) (g .locked) �
       let k : pollNumberOf y ≤ allowedOf r = subst (λ (q : Request). pollNext (y .driver .phase) (y .driver .counts .tries) (allowedOf q) (y .level) ≤ allowedOf r) (sym (h .request)) (next-most (y .driver .phase) (y .driver .counts) (y .level) (h .inv)) in
       omega arith)
 
-  pub late-all : (d n : ℕ) → allowedOf r < d → (y : System) → Holds g y → LateNow y → LateNow (turnsOf (ours (F g) (r .enable)) d n y)
+  pub late-all : (d n : ℕ) → allowedOf r < d → (y : System) → Holds g y → LateNow y → LateNow (turnsOf ourDriver (ours (F g) (r .enable)) d n y)
   unfolding turnsOf
   late-all d zero o y h t = t
   late-all d (suc n) o y h t =
-      subst (λ (z : System). LateNow (turnsOf (ours (F g) (r .enable)) d n z)) (sym (turn-plain (F g) (r .enable) d y (never-due d o y h)))
-      (late-all d n o (askedOf (ours (F g) (r .enable)) y) (asked-holds g s y h) (asked-late y h t))
+      subst (λ (z : System). LateNow (turnsOf ourDriver (ours (F g) (r .enable)) d n z)) (sym (turn-plain (F g) (r .enable) d y (never-due d o y h)))
+      (late-all d n o (askedOf ourDriver (ours (F g) (r .enable)) y) (asked-holds g s y h) (asked-late y h t))
 
 module _ (r : Request) (xs : List ℕ) (c : Chip) (m : Mem) (d n : ℕ) (w : r .reads ≡ false) (b : Begins r xs c m) (u : Writable (r .place) (c .line .core)) (some : 1 ≤ r .length) (o : allowedOf r < d) (h : boundOf r < n) where
   abbrev bs : List Bool
   bs = choices (factsOf (r .part)) (r .enable) d n (startOf r xs c m)
 
   abbrev Y : System
-  Y = togetherOf (ours (factsOf (r .part)) (r .enable)) bs (startOf r xs c m)
+  Y = togetherOf ourDriver (ours (factsOf (r .part)) (r .enable)) bs (startOf r xs c m)
 
   abbrev now : System → Type 0
   now y = LateNow (G r xs c m b) (sane r xs c m b) (not-refusing (r .place) c u) w y
@@ -257,7 +258,7 @@ module _ (r : Request) (xs : List ℕ) (c : Chip) (m : Mem) (d n : ℕ) (w : r .
             omega (arith, left-all r, ap (leftOf r) (late .first .seen)),
           )
 
-pub turns-refused : TurnsRefused (λ f en. togetherOf (ours f en)) (λ f en. turnsOf (ours f en))
+pub turns-refused : TurnsRefused (λ f en. togetherOf ourDriver (ours f en)) (λ f en. turnsOf ourDriver (ours f en))
 turns-refused r xs c m d n w b u some o h =
     subst (λ (y : System). (answerOf y ≡ Refused PollsUsed (allowedOf r) 0) × (y .cycles ≡ 1)) (sym (choices-same (factsOf (r .part)) (r .enable) d n (startOf r xs c m)))
     (used-up r xs c m d n w b u some o h)

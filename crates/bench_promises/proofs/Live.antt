@@ -33,6 +33,7 @@ use Rattle.driver.specs.declared.Answer.the-variants.{Send, Done, Refused}
 use Rattle.driver.specs.declared.Move.{Move}
 use Rattle.driver.specs.Request.{allowedOf, kOf}
 use Rattle.driver.specs.Step.{bitOf, wireOf, bufferOf, refusalOf}
+use Rattle.driver.specs.Machine.{ourDriver}
 use Rattle.driver_promises.specs.Run.{Finished, boundOf}
 use Rattle.driver_promises.specs.Where.{leftOf}
 use Rattle.driver_promises.proofs.View.{at, Way, w-done, w-open, w-bit, w-ninth, w-got, w-nack, w-high, w-only, w-low, w-turn, w-data, w-more, w-close, w-drop, w-poll, w-again, w-give, w-page, w-take, w-next, w-end, w-over}
@@ -197,13 +198,13 @@ module _ (g : Given) (s : Sane g) (free : refusing (T g) (g .pin) (g .locked) �
   abbrev pub LiveNow : System → Type 0
   LiveNow y = Live (y .driver .phase) r (y .driver .counts) (y .chip .line) (y .level)
 
-  asked-live : (y : System) → Holds g y → LiveNow y → (pollNumberOf y ≡ allowedOf (y .driver .request) → NotBusy (y .chip .line .phase)) → LiveNow (askedOf (ours (F g) (r .enable)) y)
+  asked-live : (y : System) → Holds g y → LiveNow y → (pollNumberOf y ≡ allowedOf (y .driver .request) → NotBusy (y .chip .line .phase)) → LiveNow (askedOf ourDriver (ours (F g) (r .enable)) y)
   asked-live y h t f = go (stepped g s y h)
     where
       fair : pollNext (y .driver .phase) (y .driver .counts .tries) (allowedOf r) (y .level) ≡ allowedOf r → NotBusy (y .chip .line .phase)
       fair = subst (λ (q : Request). pollNext (y .driver .phase) (y .driver .counts .tries) (allowedOf q) (y .level) ≡ allowedOf q → NotBusy (y .chip .line .phase)) (h .request) f
 
-      go : Stepped g s y → LiveNow (askedOf (ours (F g) (r .enable)) y)
+      go : Stepped g s y → LiveNow (askedOf ourDriver (ours (F g) (r .enable)) y)
       go w = asked-elim g s LiveNow y w (by (w .move .answer) (lives (y .chip) (y .mem) (y .driver .counts) (y .buffer) (y .level) (h .inv) (h .rel) t fair (w .way)))
         where
           by : (a : Answer) → NextLive (y .chip) (y .mem) (y .driver .counts) (y .buffer) (y .level) (w .move) a
@@ -212,10 +213,10 @@ module _ (g : Given) (s : Sane g) (free : refusing (T g) (g .pin) (g .locked) �
           by (Done q n) k = t
           by (Refused z q n) k = t
 
-  pub live-all : (bs : List Bool) (y : System) → Holds g y → LiveNow y → InTime (F g) (r .enable) bs y → LiveNow (togetherOf (ours (F g) (r .enable)) bs y)
+  pub live-all : (bs : List Bool) (y : System) → Holds g y → LiveNow y → InTime (F g) (r .enable) bs y → LiveNow (togetherOf ourDriver (ours (F g) (r .enable)) bs y)
   unfolding togetherOf cycleEndedOf eventOf
   live-all [] y h t f = t
-  live-all (true ∷ bs) y h t f = live-all bs (askedOf (ours (F g) (r .enable)) y) (asked-holds g s y h) (asked-live y h t (f .0)) (f .1)
+  live-all (true ∷ bs) y h t f = live-all bs (askedOf ourDriver (ours (F g) (r .enable)) y) (asked-holds g s y h) (asked-live y h t (f .0)) (f .1)
   live-all (false ∷ bs) y h t f =
       live-all bs (cycleEndedOf (ours (F g) (r .enable)) y) (ended-holds g s y h) (live-end (y .chip) (y .mem) (y .driver .counts) (y .buffer) (y .level) (y .driver .phase) t) f
 
@@ -226,7 +227,7 @@ not-refusing (Ident i) c w = ap (λ (b : Bool). b || c .line .core .locked) (w .
 
 module _ (r : Request) (xs : List ℕ) (c : Chip) (m : Mem) (b : Begins r xs c m) (bs : List Bool) where
   abbrev Y : System
-  Y = togetherOf (ours (factsOf (r .part)) (r .enable)) bs (startOf r xs c m)
+  Y = togetherOf ourDriver (ours (factsOf (r .part)) (r .enable)) bs (startOf r xs c m)
 
   pub done-cycles : r .reads ≡ false → (q n : ℕ) → answerOf Y ≡ Done q n → Y .cycles ≡ kOf r
   done-cycles w q n e =
@@ -247,10 +248,10 @@ module _ (r : Request) (xs : List ℕ) (c : Chip) (m : Mem) (b : Begins r xs c m
           let t = spoken r xs c m b bs (Refused x q n) z in
           absurd (subst (λ (p : Phase). Live p r (Y .driver .counts) (Y .chip .line) (Y .level)) (t .1) live)
 
-pub writes-end : WritesEnd (λ f en. togetherOf (ours f en))
+pub writes-end : WritesEnd (λ f en. togetherOf ourDriver (ours f en))
 writes-end r xs c m bs w b u f h = write-ends r xs c m b bs w u f h
 
-pub writes-cycles : DoneCycles (λ f en. togetherOf (ours f en))
+pub writes-cycles : DoneCycles (λ f en. togetherOf ourDriver (ours f en))
 writes-cycles r xs c m bs w b q n e = done-cycles r xs c m b bs w q n e
 
 ident-named : (p : Place) → targetOf p ≡ TheIdent → OnIdent p
@@ -264,13 +265,13 @@ ident-named (Array a) e = go e
     go e = absurd (false≢true (ap kind e))
 ident-named (Ident i) e = tt
 
-pub ident-once : IdentOnce (λ f en. togetherOf (ours f en))
+pub ident-once : IdentOnce (λ f en. togetherOf ourDriver (ours f en))
 ident-once r xs c m bs w b t o q n e = done-cycles r xs c m b bs w q n e ∙ ident-one r xs (b .accepted) (ident-named (r .place) t) o
 
-pub writes-taken : WritesTaken (λ f en. togetherOf (ours f en))
+pub writes-taken : WritesTaken (λ f en. togetherOf ourDriver (ours f en))
 writes-taken r xs c m bs w b u q n e = let z = spoken r xs c m b bs (Refused NoData q n) e in go (z .0) (z .1) (z .2)
   where
-    go : (f : Failed) → togetherOf (ours (factsOf (r .part)) (r .enable)) bs (startOf r xs c m) .driver .phase ≡ Over f → NoData ≡ refusalOf f → ⊥
+    go : (f : Failed) → togetherOf ourDriver (ours (factsOf (r .part)) (r .enable)) bs (startOf r xs c m) .driver .phase ≡ Over f → NoData ≡ refusalOf f → ⊥
     go AtSelect p k = omega (arith, ap numberOf k)
     go AtData p k = false≢true (sym (not-refusing (r .place) c u) ∙ over-is r xs c m b bs AtData p .0 .shut)
     go AtPolls p k = omega (arith, ap numberOf k)

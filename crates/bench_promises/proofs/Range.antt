@@ -24,6 +24,7 @@ use Rattle.driver.specs.declared.Answer.{Answer}
 use Rattle.driver.specs.declared.Answer.the-variants.{Send, Done, Refused}
 use Rattle.driver.specs.declared.Move.{Move}
 use Rattle.driver.specs.Step.{wireOf, slotByteOf, bufferOf}
+use Rattle.driver.specs.Machine.{ourDriver}
 use Rattle.driver_promises.proofs.View.{at, clockOf, Way, w-done, w-open, w-bit, w-ninth, w-got, w-nack, w-high, w-only, w-low, w-turn, w-data, w-more, w-close, w-drop, w-poll, w-again, w-give, w-page, w-take, w-next, w-end, w-over}
 use Rattle.driver_promises.proofs.Grow.{bit-lt}
 use Rattle.bench.specs.Together.{System, startOf, answeredBy, askedOf, cycleEndedOf, togetherOf}
@@ -79,10 +80,10 @@ module _ (g : Given) (s : Sane g) where
   abbrev Now : System → Type 0
   Now y = (inRangeOf (F g) (y .chip) ≡ true) × Typed (y .chip)
 
-  asked-range : (y : System) → Holds g y → Now y → Now (askedOf (ours (F g) (g .request .enable)) y)
+  asked-range : (y : System) → Holds g y → Now y → Now (askedOf ourDriver (ours (F g) (g .request .enable)) y)
   asked-range y h t = go (stepped g s y h)
     where
-      go : Stepped g s y → Now (askedOf (ours (F g) (g .request .enable)) y)
+      go : Stepped g s y → Now (askedOf ourDriver (ours (F g) (g .request .enable)) y)
       go w = asked-elim g s Now y w (by (w .move .answer) (small (g .request) (y .driver .counts) (y .level) (y .buffer) (w .way)))
         where
           by : (a : Answer) → Small a → Now (answeredBy (ours (F g) (g .request .enable)) y (at (g .request) (w .move .phase) (w .move .counts)) (bufferOf (y .driver) (y .level) (y .buffer)) a)
@@ -94,11 +95,11 @@ module _ (g : Given) (s : Sane g) where
   unfolding cycleEndedOf eventOf
   ended-range y t = range-kept (g .request .part) (g .request .enable) (y .chip) Ends tt (t .1) (t .0)
 
-  range-all : (bs : List Bool) (y : System) → Holds g y → Now y → Now (togetherOf (ours (F g) (g .request .enable)) bs y)
+  range-all : (bs : List Bool) (y : System) → Holds g y → Now y → Now (togetherOf ourDriver (ours (F g) (g .request .enable)) bs y)
   unfolding togetherOf
   range-all [] y h t = t
-  range-all (true ∷ bs) y h t = range-all bs (askedOf (ours (F g) (g .request .enable)) y) (asked-holds g s y h) (asked-range y h t)
+  range-all (true ∷ bs) y h t = range-all bs (askedOf ourDriver (ours (F g) (g .request .enable)) y) (asked-holds g s y h) (asked-range y h t)
   range-all (false ∷ bs) y h t = range-all bs (cycleEndedOf (ours (F g) (g .request .enable)) y) (ended-holds g s y h) (ended-range y t)
 
-pub stays-in-range : StaysInRange (λ f en. togetherOf (ours f en))
+pub stays-in-range : StaysInRange (λ f en. togetherOf ourDriver (ours f en))
 stays-in-range r xs c m bs b t e = range-all (G r xs c m b) (sane r xs c m b) bs (startOf r xs c m) (start-holds r xs c m b) (e, t)

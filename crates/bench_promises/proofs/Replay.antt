@@ -22,6 +22,7 @@ use Rattle.driver.specs.declared.Driver.{Driver}
 use Rattle.driver.specs.declared.Answer.{Answer}
 use Rattle.driver.specs.declared.Answer.the-variants.{Send, Done, Refused}
 use Rattle.driver.specs.Step.{driverNextOf, bufferOf}
+use Rattle.driver.specs.Machine.{ourDriver}
 use Rattle.driver_promises.specs.Run.{clocksIn}
 use Rattle.bench.specs.Together.{System, startOf, answeredBy, askedOf, cycleEndedOf, endDueOf, turnOf, turnsOf, lastOf, enough}
 use Rattle.bench.specs.Tape.{sendsOf, sentCodeOf, tapeBy, turnEvents, turnLevels, tapeEventsOf, tapeLevelsOf}
@@ -73,24 +74,24 @@ module _ (f : Facts) (en : ℕ) where
   abbrev answer : System → Answer
   answer s = driverNextOf (s .driver) (s .level) (s .buffer) .answer
 
-  asked : (s : System) → Played f en s (askedOf (ours f en) s) (cond (sendsOf (answer s)) (sentCodeOf (answer s) ∷ []) []) (cond (sendsOf (answer s)) (askedOf (ours f en) s .level ∷ []) [])
+  asked : (s : System) → Played f en s (askedOf ourDriver (ours f en) s) (cond (sendsOf (answer s)) (sentCodeOf (answer s) ∷ []) []) (cond (sendsOf (answer s)) (askedOf ourDriver (ours f en) s .level ∷ []) [])
   unfolding askedOf
   asked s = answered s (driverNextOf (s .driver) (s .level) (s .buffer) .driver) (bufferOf (s .driver) (s .level) (s .buffer)) (answer s)
 
   turned : (s : System) (b : Bool)
-      → Played f en s (askedOf (ours f en) (cond b (cycleEndedOf (ours f en) s) s)) (tapeBy b (sendsOf (answer s)) 4 (sentCodeOf (answer s))) (tapeBy b (sendsOf (answer s)) 2 (askedOf (ours f en) (cond b (cycleEndedOf (ours f en) s) s) .level))
+      → Played f en s (askedOf ourDriver (ours f en) (cond b (cycleEndedOf (ours f en) s) s)) (tapeBy b (sendsOf (answer s)) 4 (sentCodeOf (answer s))) (tapeBy b (sendsOf (answer s)) 2 (askedOf ourDriver (ours f en) (cond b (cycleEndedOf (ours f en) s) s) .level))
   unfolding cycleEndedOf eventOf
-  turned s true = join s (cycleEndedOf (ours f en) s) (askedOf (ours f en) (cycleEndedOf (ours f en) s)) (4 ∷ []) (2 ∷ []) _ _ (end s) (asked (cycleEndedOf (ours f en) s))
+  turned s true = join s (cycleEndedOf (ours f en) s) (askedOf ourDriver (ours f en) (cycleEndedOf (ours f en) s)) (4 ∷ []) (2 ∷ []) _ _ (end s) (asked (cycleEndedOf (ours f en) s))
   turned s false = asked s
 
-  turn : (d : ℕ) (s : System) → Played f en s (turnOf (ours f en) d s) (turnEvents d s) (turnLevels (ours f en) d s)
+  turn : (d : ℕ) (s : System) → Played f en s (turnOf ourDriver (ours f en) d s) (turnEvents ourDriver d s) (turnLevels ourDriver (ours f en) d s)
   unfolding turnOf turnEvents turnLevels
   turn d s = turned s (endDueOf d s)
 
-  turns : (d n : ℕ) (s : System) → Played f en s (turnsOf (ours f en) d n s) (tapeEventsOf (ours f en) d n s) (tapeLevelsOf (ours f en) d n s)
+  turns : (d n : ℕ) (s : System) → Played f en s (turnsOf ourDriver (ours f en) d n s) (tapeEventsOf ourDriver (ours f en) d n s) (tapeLevelsOf ourDriver (ours f en) d n s)
   unfolding turnsOf tapeEventsOf tapeLevelsOf
   turns d zero s = none s
-  turns d (suc n) s = join s (turnOf (ours f en) d s) (turnsOf (ours f en) d n (turnOf (ours f en) d s)) _ _ _ _ (turn d s) (turns d n (turnOf (ours f en) d s))
+  turns d (suc n) s = join s (turnOf ourDriver (ours f en) d s) (turnsOf ourDriver (ours f en) d n (turnOf ourDriver (ours f en) d s)) _ _ _ _ (turn d s) (turns d n (turnOf ourDriver (ours f en) d s))
 
 parts : (s : System) (a : Answer) → (s .chip ≡ reportBy s a .chip) × (s .cycles ≡ reportBy s a .cycles) × (s .clocks ≡ reportBy s a .clocks)
 parts s (Send e) = (refl, refl, refl)
@@ -105,24 +106,24 @@ module _ (r : Request) (en d : ℕ) (c : Chip) (m : Mem) (ys : List ℕ) where
   first = startOf r (take (r .length) ys) c m
 
   -- n: the turns, a name so that nobody counts them
-  all : (n : ℕ) → n ≡ enough → Played F en first (finalOf r en d c m ys) (benchBy r en d c m ys Fine .events) (benchBy r en d c m ys Fine .levels)
+  all : (n : ℕ) → n ≡ enough → Played F en first (finalOf ourDriver (ours (factsOf (r .part)) en) r d c m ys) (benchBy ourDriver (ours (factsOf (r .part)) en) r d c m ys Fine .events) (benchBy ourDriver (ours (factsOf (r .part)) en) r d c m ys Fine .levels)
   unfolding finalOf
-  all n e = subst (λ (i : ℕ). Played F en first (turnsOf (ours F en) d i first) (tapeEventsOf (ours F en) d i first) (tapeLevelsOf (ours F en) d i first)) e (turns F en d n first)
+  all n e = subst (λ (i : ℕ). Played F en first (turnsOf ourDriver (ours F en) d i first) (tapeEventsOf ourDriver (ours F en) d i first) (tapeLevelsOf ourDriver (ours F en) d i first)) e (turns F en d n first)
 
   -- as the promise has it, of what the verdict leads to
   record By (v : Verdict) : Type 0 where
-    pub state : afterOf (ours F en) c (benchBy r en d c m ys v .events) ≡ benchBy r en d c m ys v .report .chip
-    pub memory : memoryOf (ours F en) c m (benchBy r en d c m ys v .events) ≡ benchBy r en d c m ys v .mem
-    pub levels : levelsOf (ours F en) c m (benchBy r en d c m ys v .events) ≡ benchBy r en d c m ys v .levels
-    pub cycles : cyclesOf (ours F en) c (benchBy r en d c m ys v .events) ≡ benchBy r en d c m ys v .report .cycles
-    pub clocks : clocksIn (benchBy r en d c m ys v .events) ≡ benchBy r en d c m ys v .report .clocks
+    pub state : afterOf (ours F en) c (benchBy ourDriver (ours (factsOf (r .part)) en) r d c m ys v .events) ≡ benchBy ourDriver (ours (factsOf (r .part)) en) r d c m ys v .report .chip
+    pub memory : memoryOf (ours F en) c m (benchBy ourDriver (ours (factsOf (r .part)) en) r d c m ys v .events) ≡ benchBy ourDriver (ours (factsOf (r .part)) en) r d c m ys v .mem
+    pub levels : levelsOf (ours F en) c m (benchBy ourDriver (ours (factsOf (r .part)) en) r d c m ys v .events) ≡ benchBy ourDriver (ours (factsOf (r .part)) en) r d c m ys v .levels
+    pub cycles : cyclesOf (ours F en) c (benchBy ourDriver (ours (factsOf (r .part)) en) r d c m ys v .events) ≡ benchBy ourDriver (ours (factsOf (r .part)) en) r d c m ys v .report .cycles
+    pub clocks : clocksIn (benchBy ourDriver (ours (factsOf (r .part)) en) r d c m ys v .events) ≡ benchBy ourDriver (ours (factsOf (r .part)) en) r d c m ys v .report .clocks
 
   by : (v : Verdict) → By v
   unfolding afterOf memoryOf levelsOf cyclesOf
   by Fine =
       let p = all enough refl in
-      let z = finalOf r en d c m ys in
-      let q = parts z (lastOf (ours F en) d enough (Done 0 0) first) in
+      let z = finalOf ourDriver (ours (factsOf (r .part)) en) r d c m ys in
+      let q = parts z (lastOf ourDriver (ours F en) d enough (Done 0 0) first) in
       record { state = p .state ∙ q .0; memory = p .mem; levels = p .levels; cycles = omega (arith, p .cycles, q .1); clocks = omega (arith, p .clocks, q .2) }
   by (Judged x) = record { state = refl; memory = refl; levels = refl; cycles = refl; clocks = refl }
 

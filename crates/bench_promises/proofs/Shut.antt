@@ -25,6 +25,7 @@ use Rattle.driver.specs.declared.Answer.{Answer}
 use Rattle.driver.specs.declared.Answer.the-variants.{Send, Done, Refused}
 use Rattle.driver.specs.declared.Move.{Move}
 use Rattle.driver.specs.Step.{sentCountsOf, bufferOf, refusalOf}
+use Rattle.driver.specs.Machine.{ourDriver}
 use Rattle.driver_promises.specs.Run.{Finished}
 use Rattle.driver_promises.specs.Where.{leftOf}
 use Rattle.driver_promises.proofs.View.{at, Way, w-done, w-open, w-bit, w-ninth, w-got, w-nack, w-high, w-only, w-low, w-turn, w-data, w-more, w-close, w-drop, w-poll, w-again, w-give, w-page, w-take, w-next, w-end, w-over}
@@ -120,10 +121,10 @@ module _ (g : Given) (s : Sane g) (shut : refusing (T g) (g .pin) (g .locked) �
   abbrev Now : System → Type 0
   Now y = Blocked (y .driver .phase) (y .driver .counts)
 
-  asked-blocked : (y : System) → Holds g y → Now y → Now (askedOf (ours (F g) (r .enable)) y)
+  asked-blocked : (y : System) → Holds g y → Now y → Now (askedOf ourDriver (ours (F g) (r .enable)) y)
   asked-blocked y h t = go (stepped g s y h)
     where
-      go : Stepped g s y → Now (askedOf (ours (F g) (r .enable)) y)
+      go : Stepped g s y → Now (askedOf ourDriver (ours (F g) (r .enable)) y)
       go w = asked-elim g s Now y w (by (w .move .answer) (blocks (y .chip) (y .mem) (h .inv) (h .rel) t (w .way)))
         where
           by : (a : Answer) → Blocked (w .move .phase) (w .move .counts)
@@ -132,17 +133,17 @@ module _ (g : Given) (s : Sane g) (shut : refusing (T g) (g .pin) (g .locked) �
           by (Done q n) k = t
           by (Refused z q n) k = t
 
-  pub blocked-all : (bs : List Bool) (y : System) → Holds g y → Now y → Now (togetherOf (ours (F g) (r .enable)) bs y)
+  pub blocked-all : (bs : List Bool) (y : System) → Holds g y → Now y → Now (togetherOf ourDriver (ours (F g) (r .enable)) bs y)
   unfolding togetherOf cycleEndedOf eventOf
   blocked-all [] y h t = t
-  blocked-all (true ∷ bs) y h t = blocked-all bs (askedOf (ours (F g) (r .enable)) y) (asked-holds g s y h) (asked-blocked y h t)
+  blocked-all (true ∷ bs) y h t = blocked-all bs (askedOf ourDriver (ours (F g) (r .enable)) y) (asked-holds g s y h) (asked-blocked y h t)
   blocked-all (false ∷ bs) y h t = blocked-all bs (cycleEndedOf (ours (F g) (r .enable)) y) (ended-holds g s y h) t
 
-pub shut-refused : ShutRefused (λ f en. togetherOf (ours f en))
+pub shut-refused : ShutRefused (λ f en. togetherOf ourDriver (ours f en))
 shut-refused r xs c m bs w b u some h = go (answerOf Y) refl (finished r xs c m b bs h)
   where
     Y : System
-    Y = togetherOf (ours (factsOf (r .part)) (r .enable)) bs (startOf r xs c m)
+    Y = togetherOf ourDriver (ours (factsOf (r .part)) (r .enable)) bs (startOf r xs c m)
 
     t : Blocked (Y .driver .phase) (Y .driver .counts)
     t = blocked-all (G r xs c m b) (sane r xs c m b) (shut-refuses (r .place) c u) w bs (startOf r xs c m) (start-holds r xs c m b) (record { seen = refl; polls = refl; place = tt })

@@ -31,7 +31,9 @@ use Rattle.driver.specs.declared.Move.{Move}
 use Rattle.driver.specs.declared.Asked.{Asked}
 use Rattle.driver.specs.Request.{fromOf, roomOf, GoodRequest}
 use Rattle.driver.specs.Step.{refusalOf}
-use Rattle.driver_promises.specs.Run.{ourDriver, DriverHeld, Finished, boundOf}
+use Rattle.driver.specs.Machine.{ourDriver}
+use Rattle.driver.specs.Machine.{ourDriver}
+use Rattle.driver_promises.specs.Run.{DriverHeld, Finished, boundOf}
 use Rattle.driver_promises.specs.Run
 use Rattle.driver_promises.proofs.View.{Way, w-done, w-open, w-bit, w-ninth, w-got, w-nack, w-high, w-only, w-low, w-turn, w-data, w-more, w-close, w-drop, w-poll, w-again, w-give, w-page, w-take, w-next, w-end, w-over}
 use Rattle.driver_promises.proofs.Inv.{Inv}
@@ -149,7 +151,7 @@ room-is r c m g o = go (r .place) (g .fits)
 
 module _ (r : Request) (xs : List ℕ) (c : Chip) (m : Mem) (b : Begins r xs c m) (bs : List Bool) where
   abbrev Y : System
-  Y = togetherOf (ours (factsOf (r .part)) (r .enable)) bs (startOf r xs c m)
+  Y = togetherOf ourDriver (ours (factsOf (r .part)) (r .enable)) bs (startOf r xs c m)
 
   abbrev H : Holds (G r xs c m b) Y
   H = holds r xs c m b bs
@@ -262,11 +264,11 @@ module _ (r : Request) (xs : List ℕ) (c : Chip) (m : Mem) (b : Begins r xs c m
           let k = spoken (Refused x q n) z in
           absurd (reads-on (G r xs c m b) (sane r xs c m b) Y H w (k .0) (k .1))
 
-pub writes-safe : WritesSafe (λ f en. togetherOf (ours f en))
+pub writes-safe : WritesSafe (λ f en. togetherOf ourDriver (ours f en))
 writes-safe r xs c m bs w b = write-safe r xs c m b bs w
 
-pub reads-right : ReadsRight (λ f en. togetherOf (ours f en))
+pub reads-right : ReadsRight (λ f en. togetherOf ourDriver (ours f en))
 reads-right r xs c m bs w b = read-right r xs c m b bs w
 
-pub reads-end : ReadsEnd (λ f en. togetherOf (ours f en))
+pub reads-end : ReadsEnd (λ f en. togetherOf ourDriver (ours f en))
 reads-end r xs c m bs w b h = read-ends r xs c m b bs w h

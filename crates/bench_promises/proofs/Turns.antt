@@ -39,6 +39,7 @@ use Rattle.driver.specs.declared.Move.{Move}
 use Rattle.driver.specs.Split.{pagesMetOf}
 use Rattle.driver.specs.Request.{fromOf, roomOf, allowedOf, kOf, GoodRequest}
 use Rattle.driver.specs.Step.{bitOf, wireOf, driverNextOf, bufferOf}
+use Rattle.driver.specs.Machine.{ourDriver}
 use Rattle.driver.proofs.Facts.{good-request, pages-suc, room-most}
 use Rattle.driver_promises.specs.Run.{Finished, boundOf, addressBytes}
 use Rattle.driver_promises.specs.Promises.{Accepted}
@@ -64,31 +65,31 @@ use Rattle.chip_promises.specs.States.{NotBusy}
 module _ (f : Facts) (en d : ℕ) where
   abbrev pub choices : ℕ → System → List Bool
   choices zero y = []
-  choices (suc n) y = cond (endDueOf d y) (false ∷ true ∷ choices n (turnOf (ours f en) d y)) (true ∷ choices n (turnOf (ours f en) d y))
+  choices (suc n) y = cond (endDueOf d y) (false ∷ true ∷ choices n (turnOf ourDriver (ours f en) d y)) (true ∷ choices n (turnOf ourDriver (ours f en) d y))
 
-  turn-due : (y : System) → endDueOf d y ≡ true → turnOf (ours f en) d y ≡ askedOf (ours f en) (cycleEndedOf (ours f en) y)
+  turn-due : (y : System) → endDueOf d y ≡ true → turnOf ourDriver (ours f en) d y ≡ askedOf ourDriver (ours f en) (cycleEndedOf (ours f en) y)
   unfolding turnOf
-  turn-due y e = ap (λ (t : Bool). askedOf (ours f en) (cond t (cycleEndedOf (ours f en) y) y)) e
+  turn-due y e = ap (λ (t : Bool). askedOf ourDriver (ours f en) (cond t (cycleEndedOf (ours f en) y) y)) e
 
-  pub turn-plain : (y : System) → endDueOf d y ≡ false → turnOf (ours f en) d y ≡ askedOf (ours f en) y
+  pub turn-plain : (y : System) → endDueOf d y ≡ false → turnOf ourDriver (ours f en) d y ≡ askedOf ourDriver (ours f en) y
   unfolding turnOf
-  turn-plain y e = ap (λ (t : Bool). askedOf (ours f en) (cond t (cycleEndedOf (ours f en) y) y)) e
+  turn-plain y e = ap (λ (t : Bool). askedOf ourDriver (ours f en) (cond t (cycleEndedOf (ours f en) y) y)) e
 
   pub choices-asked : (n : ℕ) (y : System) → askings (choices n y) ≡ n
   choices-asked zero y = refl
   choices-asked (suc n) y =
-      let k = choices-asked n (turnOf (ours f en) d y) in
+      let k = choices-asked n (turnOf ourDriver (ours f en) d y) in
       branch (λ (bs : List Bool). askings bs ≡ suc n) (endDueOf d y) (λ e. omega arith) (λ e. omega arith)
 
-  pub choices-same : (n : ℕ) (y : System) → turnsOf (ours f en) d n y ≡ togetherOf (ours f en) (choices n y) y
+  pub choices-same : (n : ℕ) (y : System) → turnsOf ourDriver (ours f en) d n y ≡ togetherOf ourDriver (ours f en) (choices n y) y
   unfolding turnsOf togetherOf
   choices-same zero y = refl
   choices-same (suc n) y =
-      let k = choices-same n (turnOf (ours f en) d y) in
-      let bs = choices n (turnOf (ours f en) d y) in
-      branch (λ (cs : List Bool). turnsOf (ours f en) d n (turnOf (ours f en) d y) ≡ togetherOf (ours f en) cs y) (endDueOf d y)
-      (λ e. k ∙ ap (λ (z : System). togetherOf (ours f en) bs z) (turn-due y e))
-      (λ e. k ∙ ap (λ (z : System). togetherOf (ours f en) bs z) (turn-plain y e))
+      let k = choices-same n (turnOf ourDriver (ours f en) d y) in
+      let bs = choices n (turnOf ourDriver (ours f en) d y) in
+      branch (λ (cs : List Bool). turnsOf ourDriver (ours f en) d n (turnOf ourDriver (ours f en) d y) ≡ togetherOf ourDriver (ours f en) cs y) (endDueOf d y)
+      (λ e. k ∙ ap (λ (z : System). togetherOf ourDriver (ours f en) bs z) (turn-due y e))
+      (λ e. k ∙ ap (λ (z : System). togetherOf ourDriver (ours f en) bs z) (turn-plain y e))
 
 -- ---- the driver's last answer
 module _ (f : Facts) (en d : ℕ) where
@@ -97,22 +98,22 @@ module _ (f : Facts) (en d : ℕ) where
   rests s e b (Done q n) h = refl
   rests s e b (Refused x q n) h = refl
 
-  asked-rests : (s : System) → Finished (answerOf s) → askedOf (ours f en) s ≡ s
+  asked-rests : (s : System) → Finished (answerOf s) → askedOf ourDriver (ours f en) s ≡ s
   unfolding askedOf
   asked-rests s h = rests s (driverNextOf (s .driver) (s .level) (s .buffer) .driver) (bufferOf (s .driver) (s .level) (s .buffer)) (answerOf s) h
 
   -- an end of the cycle is nothing to the driver
-  turn-rests : (s : System) → Finished (answerOf s) → answerOf (turnOf (ours f en) d s) ≡ answerOf s
+  turn-rests : (s : System) → Finished (answerOf s) → answerOf (turnOf ourDriver (ours f en) d s) ≡ answerOf s
   unfolding turnOf cycleEndedOf
-  turn-rests s h = branch (λ (t : System). answerOf (askedOf (ours f en) t) ≡ answerOf s) (endDueOf d s) (λ _. ap answerOf (asked-rests (cycleEndedOf (ours f en) s) h)) (λ _. ap answerOf (asked-rests s h))
+  turn-rests s h = branch (λ (t : System). answerOf (askedOf ourDriver (ours f en) t) ≡ answerOf s) (endDueOf d s) (λ _. ap answerOf (asked-rests (cycleEndedOf (ours f en) s) h)) (λ _. ap answerOf (asked-rests s h))
 
   -- it has finished before the last turn: asked once more it would answer the same
-  pub last-answer : (k : ℕ) (a : Answer) (s : System) → Finished (answerOf (turnsOf (ours f en) d k s)) → lastOf (ours f en) d (suc k) a s ≡ answerOf (turnsOf (ours f en) d (suc k) s)
+  pub last-answer : (k : ℕ) (a : Answer) (s : System) → Finished (answerOf (turnsOf ourDriver (ours f en) d k s)) → lastOf ourDriver (ours f en) d (suc k) a s ≡ answerOf (turnsOf ourDriver (ours f en) d (suc k) s)
   unfolding lastOf turnsOf
   last-answer zero a s h = sym (turn-rests s h)
-  last-answer (suc k) a s h = last-answer k (answerOf s) (turnOf (ours f en) d s) h
+  last-answer (suc k) a s h = last-answer k (answerOf s) (turnOf ourDriver (ours f en) d s) h
 
-pub turns-chosen : TurnsChosen (λ f en. togetherOf (ours f en)) (λ f en. turnsOf (ours f en))
+pub turns-chosen : TurnsChosen (λ f en. togetherOf ourDriver (ours f en)) (λ f en. turnsOf ourDriver (ours f en))
 turns-chosen r xs c m d n =
     record {
       choices = choices (factsOf (r .part)) (r .enable) d n (startOf r xs c m);
@@ -274,13 +275,13 @@ module _ (g : Given) (s : Sane g) where
     abbrev EarlyNow : System → Type 0
     EarlyNow y = Early d (y .driver .phase) (y .driver .counts) (y .chip .line)
 
-    asked-early : (y : System) → Holds g y → EarlyNow y → (pollNumberOf y ≡ d → NotBusy (y .chip .line .phase)) → EarlyNow (askedOf (ours (F g) (r .enable)) y)
+    asked-early : (y : System) → Holds g y → EarlyNow y → (pollNumberOf y ≡ d → NotBusy (y .chip .line .phase)) → EarlyNow (askedOf ourDriver (ours (F g) (r .enable)) y)
     asked-early y h t f = go (stepped g s y h)
       where
         fair : pollNext (y .driver .phase) (y .driver .counts .tries) (allowedOf r) (y .level) ≡ d → NotBusy (y .chip .line .phase)
         fair = subst (λ (q : Request). pollNext (y .driver .phase) (y .driver .counts .tries) (allowedOf q) (y .level) ≡ d → NotBusy (y .chip .line .phase)) (h .request) f
 
-        go : Stepped g s y → EarlyNow (askedOf (ours (F g) (r .enable)) y)
+        go : Stepped g s y → EarlyNow (askedOf ourDriver (ours (F g) (r .enable)) y)
         go w = asked-elim g s EarlyNow y w (by (w .move .answer) (early (y .chip) (y .mem) (y .driver .counts) (y .buffer) (y .level) d pos (h .inv) (h .rel) t fair (w .way)))
           where
             by : (a : Answer) → NextEarly (y .chip) (y .mem) (y .driver .counts) (y .buffer) (y .level) d pos (w .move) a
@@ -327,18 +328,18 @@ module _ (g : Given) (s : Sane g) where
             last-rests (y .driver .phase) (y .driver .counts) (y .chip .line) (y .level) (allowedOf (y .driver .request)) (subst (λ (q : Request). d ≤ allowedOf q) (sym (h .request)) w) (λ z. absurd (not-due y e (k ∙ z))) t k
 
         go : (b : Bool) → endDueOf d y ≡ b → ((u : System) → Holds g u → EarlyNow u → InTime f en (choices f en d n u) u)
-            → InTime f en (cond b (false ∷ true ∷ choices f en d n (turnOf (ours f en) d y)) (true ∷ choices f en d n (turnOf (ours f en) d y))) y
+            → InTime f en (cond b (false ∷ true ∷ choices f en d n (turnOf ourDriver (ours f en) d y)) (true ∷ choices f en d n (turnOf ourDriver (ours f en) d y))) y
         go true e k =
             let z = cycleEndedOf (ours f en) y in
             let hz = ended-holds g s y h in
             let q = end-rests y in
-            let u = k (askedOf (ours f en) z) (asked-holds g s z hz) (asked-early z hz (early-rests d (z .driver .phase) (z .driver .counts) (z .chip .line) q) (λ _. q)) in
-            (λ _. q, subst (λ (v : System). InTime f en (choices f en d n v) (askedOf (ours f en) z)) (sym (turn-due f en d y e)) u)
+            let u = k (askedOf ourDriver (ours f en) z) (asked-holds g s z hz) (asked-early z hz (early-rests d (z .driver .phase) (z .driver .counts) (z .chip .line) q) (λ _. q)) in
+            (λ _. q, subst (λ (v : System). InTime f en (choices f en d n v) (askedOf ourDriver (ours f en) z)) (sym (turn-due f en d y e)) u)
         go false e k =
-            let u = k (askedOf (ours f en) y) (asked-holds g s y h) (asked-early y h t (λ z. absurd (not-due y e z))) in
-            (plain e, subst (λ (v : System). InTime f en (choices f en d n v) (askedOf (ours f en) y)) (sym (turn-plain f en d y e)) u)
+            let u = k (askedOf ourDriver (ours f en) y) (asked-holds g s y h) (asked-early y h t (λ z. absurd (not-due y e z))) in
+            (plain e, subst (λ (v : System). InTime f en (choices f en d n v) (askedOf ourDriver (ours f en) y)) (sym (turn-plain f en d y e)) u)
 
-pub turns-end : TurnsEnd (λ f en. togetherOf (ours f en)) (λ f en. turnsOf (ours f en))
+pub turns-end : TurnsEnd (λ f en. togetherOf ourDriver (ours f en)) (λ f en. turnsOf ourDriver (ours f en))
 turns-end r xs c m d n w b u lo hi h =
     let f = factsOf (r .part) in
     let y = startOf r xs c m in

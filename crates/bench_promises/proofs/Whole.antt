@@ -18,8 +18,10 @@ use Rattle.driver.specs.declared.Answer.the-variants.{Send, Done, Refused}
 use Rattle.driver.specs.declared.Move.{Move}
 use Rattle.driver.specs.declared.Asked.{Asked}
 use Rattle.driver.specs.Step.{driverNextOf, bufferOf, fresh}
+use Rattle.driver.specs.Machine.{ourDriver}
 use Rattle.driver.proofs.Facts.{good-request, buffer-length}
-use Rattle.driver_promises.specs.Run.{ourDriver, DriverHeld, begun, told, afterAll, Finished}
+use Rattle.driver.specs.Machine.{ourDriver}
+use Rattle.driver_promises.specs.Run.{DriverHeld, begun, told, afterAll, Finished}
 use Rattle.driver_promises.specs.Run
 use Rattle.driver_promises.specs.Promises.{Accepted}
 use Rattle.driver_promises.proofs.View.{at, Way, steps}
@@ -65,7 +67,7 @@ module _ (g : Given) (s : Sane g) where
   r = g .request
 
   abbrev ask : System → System
-  ask y = askedOf (ours (F g) (r .enable)) y
+  ask y = askedOf ourDriver (ours (F g) (r .enable)) y
 
   -- the step of the driver in the system
   pub record Stepped (y : System) : Type 0 where
@@ -118,7 +120,7 @@ module _ (g : Given) (s : Sane g) where
         rel = end-keeps g s (y .chip) (y .mem) (y .driver .phase) (y .driver .counts) (y .buffer) (y .level) (h .inv) (h .rel);
       }
 
-  pub holds-all : (bs : List Bool) (y : System) → Holds g y → Holds g (togetherOf (ours (F g) (r .enable)) bs y)
+  pub holds-all : (bs : List Bool) (y : System) → Holds g y → Holds g (togetherOf ourDriver (ours (F g) (r .enable)) bs y)
   unfolding togetherOf
   holds-all [] y h = h
   holds-all (true ∷ bs) y h = holds-all bs (ask y) (asked-holds y h)
@@ -148,12 +150,12 @@ module _ (g : Given) (s : Sane g) where
       by (Done q k) z = record { levels = ls; count = long; run = stays (subst Finished (sym z) tt) }
       by (Refused f q k) z = record { levels = ls; count = long; run = stays (subst Finished (sym z) tt) }
 
-  pub told-all : (xs : List ℕ) → Accepted r xs → (bs : List Bool) (n : ℕ) (y : System) → Told r xs n y → Told r xs (n + askings bs) (togetherOf (ours (F g) (r .enable)) bs y)
+  pub told-all : (xs : List ℕ) → Accepted r xs → (bs : List Bool) (n : ℕ) (y : System) → Told r xs n y → Told r xs (n + askings bs) (togetherOf ourDriver (ours (F g) (r .enable)) bs y)
   unfolding togetherOf cycleEndedOf eventOf
   told-all xs a [] n y t = subst (λ (k : ℕ). Told r xs k y) (omega arith) t
   told-all xs a (true ∷ bs) n y t =
       let e : n + 1 + askings bs ≡ n + (askings bs + 1) = omega arith in
-      subst (λ (k : ℕ). Told r xs k (togetherOf (ours (F g) (r .enable)) bs (ask y))) e (told-all xs a bs (n + 1) (ask y) (asked-told xs a n y t))
+      subst (λ (k : ℕ). Told r xs k (togetherOf ourDriver (ours (F g) (r .enable)) bs (ask y))) e (told-all xs a bs (n + 1) (ask y) (asked-told xs a n y t))
   told-all xs a (false ∷ bs) n y t = told-all xs a bs n (cycleEndedOf (ours (F g) (r .enable)) y) (record { levels = t .levels; count = t .count; run = t .run })
 
 -- ---- from the start
@@ -189,8 +191,8 @@ module _ (r : Request) (xs : List ℕ) (c : Chip) (m : Mem) (b : Begins r xs c m
   pub start-told : Told r xs 0 (startOf r xs c m)
   start-told = record { levels = []; count = refl; run = refl }
 
-  pub holds : (bs : List Bool) → Holds G (togetherOf (ours (factsOf (r .part)) (r .enable)) bs (startOf r xs c m))
+  pub holds : (bs : List Bool) → Holds G (togetherOf ourDriver (ours (factsOf (r .part)) (r .enable)) bs (startOf r xs c m))
   holds bs = holds-all G sane bs (startOf r xs c m) start-holds
 
-  pub tolds : (bs : List Bool) → Told r xs (0 + askings bs) (togetherOf (ours (factsOf (r .part)) (r .enable)) bs (startOf r xs c m))
+  pub tolds : (bs : List Bool) → Told r xs (0 + askings bs) (togetherOf ourDriver (ours (factsOf (r .part)) (r .enable)) bs (startOf r xs c m))
   tolds bs = told-all G sane xs (b .accepted) bs 0 (startOf r xs c m) start-told

@@ -20,6 +20,7 @@ use Rattle.driver.specs.declared.Place.the-variants.{Array, Ident}
 use Rattle.driver.specs.declared.Request.{Request}
 use Rattle.driver.specs.declared.Answer.the-variants.{Done, Refused}
 use Rattle.driver.specs.Request.{allowedOf, kOf}
+use Rattle.driver.specs.Machine.{ourDriver}
 use Rattle.driver_promises.specs.Run.{boundOf}
 use Rattle.driver_promises.specs.Promises.{Accepted}
 use Rattle.bench.specs.Together.{System, startOf, askedOf, cycleEndedOf, pollNext, enough}
@@ -42,7 +43,7 @@ pollNumberOf s = pollNext (s .driver .phase) (s .driver .counts .tries) (allowed
 -- budget allows for a page, no cycle runs
 abbrev pub InTime : Facts → ℕ → List Bool → System → Type 0
 InTime f enable [] s = Unit {0}
-InTime f enable (true ∷ bs) s = (pollNumberOf s ≡ allowedOf (s .driver .request) → NotBusy (s .chip .line .phase)) × InTime f enable bs (askedOf (ours f enable) s)
+InTime f enable (true ∷ bs) s = (pollNumberOf s ≡ allowedOf (s .driver .request) → NotBusy (s .chip .line .phase)) × InTime f enable bs (askedOf ourDriver (ours f enable) s)
 InTime f enable (false ∷ bs) s = InTime f enable bs (cycleEndedOf (ours f enable) s)
 
 -- "ends done and not refused, reports all n bytes and begins exactly one cycle for each page it meets"

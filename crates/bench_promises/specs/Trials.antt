@@ -14,6 +14,7 @@ use Rattle.driver.specs.declared.Request.{Request}
 use Rattle.driver.specs.declared.Answer.{Answer}
 use Rattle.driver.specs.declared.Answer.the-variants.{Send, Done, Refused}
 use Rattle.driver.specs.Split.{partsOf}
+use Rattle.driver.specs.Machine.{ourDriver}
 use Rattle.bench.specs.Together.{System, startOf, turnsOf}
 use Rattle.chip_laws.specs.Trials.{Trial, firstWrong, chipTrials}
 use Rattle.bench_promises.specs.Together.{answerOf}
@@ -28,7 +29,7 @@ fiveAt30 = record { part = 2; enable = 0; place = Array (record { 0 = 30 }); rea
 
 -- 117 clocks, eight Starts and Stops; a driver that has finished stays so
 unfoldable pub ranAt30 : System
-ranAt30 = turnsOf (ours (factsOf 2) 0) 1 130 (startOf fiveAt30 fiveBytes (standbyOf (factsOf 2) false) (deliveredOf 2))
+ranAt30 = turnsOf ourDriver (ours (factsOf 2) 0) 1 130 (startOf fiveAt30 fiveBytes (standbyOf (factsOf 2) false) (deliveredOf 2))
 
 unfoldable pub doneWith : Answer → ℕ → ℕ → Bool
 doneWith (Send e) polls bytes = false

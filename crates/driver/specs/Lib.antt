@@ -1,3 +1,4 @@
 pub mod Split
 pub mod Request
 pub mod Step
+pub mod Machine

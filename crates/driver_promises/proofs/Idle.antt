@@ -18,7 +18,7 @@ use Rattle.driver.specs.Request.{beyondAt, limitOf, judgeOf, allowedOf, kOf}
 use Rattle.driver.specs.Step.{selectAt, wireOf, bitOf, shiftOf, readyOf, bitsAt, leadAt, lowAt, dataAt, pollMoveOf, answeredOf, takeAt, heardMoveOf, bitsMoveOf, driverStepOf, countsRight, rangeOf, driverNextOf, byteKeptOf, bufferOf}
 use Rattle.driver_promises.specs.Heard.{PartTold, PartsTold}
 use Rattle.driver.specs.declared.Answer.the-variants.{Done}
-use Rattle.driver_promises.specs.Run.{Machine}
+use Rattle.driver.specs.Machine.{Machine}
 use Rattle.driver_promises.specs.Promises.{Accepted, answers, Promises}
 use Rattle.driver_promises.specs.Listens.{OnlyThoseLevels}
 use Rattle.driver_promises.specs.Idle.{refusingDriver, atOnce, endless, inventingDriver, deaf, halfDeaf, kindOf, deafTo, lingering, nosy, IdleDriversBreak}

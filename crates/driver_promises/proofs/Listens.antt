@@ -19,7 +19,8 @@ use Rattle.driver.specs.declared.Driver.{Driver}
 use Rattle.driver.specs.declared.Move.{Move}
 use Rattle.driver.specs.declared.Asked.{Asked}
 use Rattle.driver.specs.Step.{wireOf, slotByteOf, bitOf, shiftOf, withByte, sentCountsOf, ninthOf, bitsAt, leadAt, lowAt, dataAt, answeredOf, heardAt, heardMoveOf, bitsMoveOf, moveAt, driverStepOf, badStateOf, rangeOf, driverNextOf, wholeOf, byteKeptOf, bufferOf, fresh}
-use Rattle.driver_promises.specs.Run.{ourDriver, DriverHeld, sentBy, answerTo, afterAll, eventsSent}
+use Rattle.driver.specs.Machine.{ourDriver}
+use Rattle.driver_promises.specs.Run.{DriverHeld, sentBy, answerTo, afterAll, eventsSent}
 use Rattle.driver_promises.specs.Plan.{selectOf}
 use Rattle.driver_promises.specs.Listens.{Ear, silence, hears, earOf, listens, Alike, Agree, OnlyThoseLevels}
 use Rattle.driver_promises.proofs.View.{at, takes, clockOf, Way, w-done, w-open, w-bit, w-ninth, w-got, w-nack, w-high, w-only, w-low, w-turn, w-data, w-more, w-close, w-drop, w-poll, w-again, w-give, w-page, w-take, w-next, w-end, w-over, Steps}

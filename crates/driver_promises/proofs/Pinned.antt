@@ -19,7 +19,8 @@ use Rattle.driver.specs.declared.Answer.the-variants.{Send, Done, Refused}
 use Rattle.driver.specs.Request.{allowedOf, kOf}
 use Rattle.driver.specs.Step.{refusalOf}
 use Rattle.driver.proofs.Facts.{good-request}
-use Rattle.driver_promises.specs.Run.{Machine, DriverHeld, begun, sentBy, answerTo, told, afterAll, eventsSent, Finished, pollsIn, boundOf}
+use Rattle.driver.specs.Machine.{Machine}
+use Rattle.driver_promises.specs.Run.{DriverHeld, begun, sentBy, answerTo, told, afterAll, eventsSent, Finished, pollsIn, boundOf}
 use Rattle.driver_promises.specs.Plan.{thenStart, thenStop, thenByte, thenPolls, thenData, selectOf, thenSelect, thenHigh, thenHead, lengthOf, thenPart, thenParts, partsEndOf, readPlan}
 use Rattle.driver_promises.specs.Heard.{Acked, Missed, PollsMissed, DataAcked, HighAcked, HeadAcked, PartsTold}
 use Rattle.driver_promises.specs.Where.{leftOf, Within, RefusedByte, the-select, the-high, the-low, the-turn, the-data, the-poll, Before, Stopped}

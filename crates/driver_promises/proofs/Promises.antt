@@ -23,7 +23,8 @@ use Rattle.driver.specs.declared.Asked.{Asked}
 use Rattle.driver.specs.Split.{sum}
 use Rattle.driver.specs.Request.{judgeOf, kOf}
 use Rattle.driver.specs.Step.{refusalOf, bufferOf}
-use Rattle.driver_promises.specs.Run.{ourDriver, DriverHeld, answerTo, told, Finished, clocksIn, addressBytes, boundOf}
+use Rattle.driver.specs.Machine.{ourDriver}
+use Rattle.driver_promises.specs.Run.{DriverHeld, answerTo, told, Finished, clocksIn, addressBytes, boundOf}
 use Rattle.driver_promises.specs.Plan.{writePlan, readPlan}
 use Rattle.driver_promises.specs.Heard.{ReadTold}
 use Rattle.driver_promises.specs.Where.{leftOf, Parts, Before, Stopped}

@@ -19,7 +19,8 @@ use Rattle.driver.specs.declared.Move.{Move}
 use Rattle.driver.specs.declared.Asked.{Asked}
 use Rattle.driver.specs.Request.{judgeOf, allowedOf, kOf}
 use Rattle.driver.specs.Step.{shiftOf, bufferOf, fresh}
-use Rattle.driver_promises.specs.Run.{ourDriver, DriverHeld, begun, sentBy, told, afterAll, eventsSent, clocksIn, pollsIn, clockOfByte}
+use Rattle.driver.specs.Machine.{ourDriver}
+use Rattle.driver_promises.specs.Run.{DriverHeld, begun, sentBy, told, afterAll, eventsSent, clocksIn, pollsIn, clockOfByte}
 use Rattle.driver_promises.specs.Where.{leftOf, Before}
 use Rattle.driver_promises.proofs.View.{at, leads, takes, Way, w-done, w-open, w-bit, w-ninth, w-got, w-nack, w-high, w-only, w-low, w-turn, w-data, w-more, w-close, w-drop, w-poll, w-again, w-give, w-page, w-take, w-next, w-end, w-over, Steps, steps}
 use Rattle.driver_promises.proofs.Inv.{Inv, in-range, room-in, inv-step, left-all}

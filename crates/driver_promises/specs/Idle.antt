@@ -13,7 +13,7 @@ use Rattle.driver.specs.declared.Answer.{Answer}
 use Rattle.driver.specs.declared.Answer.the-variants.{Send, Done, Refused}
 use Rattle.driver.specs.Request.{allowedOf}
 use Rattle.driver.specs.Step.{withByte, withPoll, driverNextOf, bufferOf}
-use Rattle.driver_promises.specs.Run.{Machine}
+use Rattle.driver.specs.Machine.{Machine}
 use Rattle.driver_promises.specs.Promises.{Promises}
 use Rattle.driver_promises.specs.Listens.{OnlyThoseLevels}
 

@@ -7,7 +7,8 @@ use mathlib.Core.Bool.{Bool, true, false, cond, not, _&&_}
 use mathlib.Core.List.{List, [], _∷_}
 use lib.Dec.{eqb, ltb}
 use Rattle.driver.specs.declared.Request.{Request}
-use Rattle.driver_promises.specs.Run.{Machine, DriverHeld, begun, sentBy, answerTo, told}
+use Rattle.driver.specs.Machine.{Machine}
+use Rattle.driver_promises.specs.Run.{DriverHeld, begun, sentBy, answerTo, told}
 use Rattle.driver_promises.specs.Promises.{Accepted, after, sent, answers}
 
 -- the clocks since the last Start or Stop, and whether the eighth was 1: the select code says that bytes are read

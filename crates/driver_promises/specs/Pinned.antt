@@ -5,7 +5,8 @@ use Prim.Native.Nat.{ℕ}
 use mathlib.Core.Path.{_≡_}
 use mathlib.Core.List.{List}
 use Rattle.driver.specs.declared.Request.{Request}
-use Rattle.driver_promises.specs.Run.{Machine, Finished}
+use Rattle.driver.specs.Machine.{Machine}
+use Rattle.driver_promises.specs.Run.{Finished}
 use Rattle.driver_promises.specs.Promises.{Accepted, after, sent, answers, Promises}
 
 pub record Twins (M N : Machine) (r : Request) (xs ls : List ℕ) (l : ℕ) : Type 0 where

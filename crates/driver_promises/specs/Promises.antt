@@ -17,7 +17,8 @@ use Rattle.driver.specs.declared.Answer.the-variants.{Send, Done, Refused}
 use Rattle.driver.specs.Split.{sum, partsOf, pagesMetOf}
 use Rattle.driver.specs.Request.{judgeOf, allowedOf, kOf}
 use Rattle.driver.specs.Step.{refusalOf}
-use Rattle.driver_promises.specs.Run.{Machine, DriverHeld, begun, answerTo, told, afterAll, eventsSent, Finished, clocksIn, pollsIn, addressBytes, boundOf, clockOfByte, toldByte}
+use Rattle.driver.specs.Machine.{Machine}
+use Rattle.driver_promises.specs.Run.{DriverHeld, begun, answerTo, told, afterAll, eventsSent, Finished, clocksIn, pollsIn, addressBytes, boundOf, clockOfByte, toldByte}
 use Rattle.driver_promises.specs.Plan.{selectOf, writePlan, readPlan}
 use Rattle.driver_promises.specs.Heard.{PartsTold, ReadTold}
 use Rattle.driver_promises.specs.Where.{Within, Stopped}

@@ -8,20 +8,11 @@ use lib.Dec.{eqb, ltb}
 use Rattle.parts.specs.Table.{factsOf, addressBytesOf}
 use Rattle.driver.specs.declared.Request.{Request}
 use Rattle.driver.specs.declared.Driver.{Driver}
-use Rattle.driver.specs.declared.Asked.{Asked}
 use Rattle.driver.specs.declared.Answer.{Answer}
 use Rattle.driver.specs.declared.Answer.the-variants.{Send, Done, Refused}
 use Rattle.driver.specs.Request.{allowedOf, kOf}
-use Rattle.driver.specs.Step.{shiftOf, driverNextOf, bufferOf, fresh}
-
--- how a driver answers, and what it leaves in the buffer: any such pair of functions, so that promises can be broken
-pub record Machine : Type 0 where
-  pub next : Driver → ℕ → List ℕ → Asked
-  pub leaves : Driver → ℕ → List ℕ → List ℕ
-
--- ours: what the contract of `next` says
-abbrev pub ourDriver : Machine
-ourDriver = record { next = driverNextOf; leaves = bufferOf }
+use Rattle.driver.specs.Step.{shiftOf, fresh}
+use Rattle.driver.specs.Machine.{Machine}
 
 -- a driver with the buffer that is lent to each step
 pub record DriverHeld : Type 0 where

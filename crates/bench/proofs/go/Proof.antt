@@ -2,6 +2,7 @@ use Rattle.bench.specs.Held.{whole, Fit}
 use Rattle.bench.specs.Together.{turnsOf, lastOf, enough}
 use Rattle.bench.specs.Tape.{tapeEventsOf, tapeLevelsOf, laidOf}
 use Rattle.driver.specs.declared.Answer.the-variants.{Done}
+use Rattle.driver.specs.Machine.{ourDriver}
 use Rattle.chip.specs.Memory.{mem}
 use Rattle.parts.specs.Table.{factsOf}
 use lib.ListN.{length}
@@ -24,12 +25,12 @@ Inv-loop part enable d array₀ id₀ buffer₀ events₀ levels₀ held₀ answ
     × (length buffer ≡ length buffer₀)
     × ((held .cycles + left ≤ 6000000) × (held .clocks + left ≤ 6000000))
     × Fit part enable (held .chip) (length array₀) (length id₀)
-    × (turnsOf (ours (factsOf part) enable) d left (whole held buffer (mem array id)) ≡ turnsOf (ours (factsOf part) enable) d enough (whole held₀ buffer₀ (mem array₀ id₀)))
+    × (turnsOf ourDriver (ours (factsOf part) enable) d left (whole held buffer (mem array id)) ≡ turnsOf ourDriver (ours (factsOf part) enable) d enough (whole held₀ buffer₀ (mem array₀ id₀)))
     × (length events ≡ length events₀)
     × (length levels ≡ length levels₀)
     × (sent + 2 * left ≤ 12000000)
-    × Left (factsOf part) enable d left (whole held buffer (mem array id)) sent events levels (length (tapeEventsOf (ours (factsOf part) enable) d enough (whole held₀ buffer₀ (mem array₀ id₀)))) (laidOf events₀ (tapeEventsOf (ours (factsOf part) enable) d enough (whole held₀ buffer₀ (mem array₀ id₀)))) (laidOf levels₀ (tapeLevelsOf (ours (factsOf part) enable) d enough (whole held₀ buffer₀ (mem array₀ id₀))))
-    × (lastOf (ours (factsOf part) enable) d left answer (whole held buffer (mem array id)) ≡ lastOf (ours (factsOf part) enable) d enough (Done 0 0) (whole held₀ buffer₀ (mem array₀ id₀)))
+    × Left (factsOf part) enable d left (whole held buffer (mem array id)) sent events levels (length (tapeEventsOf ourDriver (ours (factsOf part) enable) d enough (whole held₀ buffer₀ (mem array₀ id₀)))) (laidOf events₀ (tapeEventsOf ourDriver (ours (factsOf part) enable) d enough (whole held₀ buffer₀ (mem array₀ id₀)))) (laidOf levels₀ (tapeLevelsOf ourDriver (ours (factsOf part) enable) d enough (whole held₀ buffer₀ (mem array₀ id₀))))
+    × (lastOf ourDriver (ours (factsOf part) enable) d left answer (whole held buffer (mem array id)) ≡ lastOf ourDriver (ours (factsOf part) enable) d enough (Done 0 0) (whole held₀ buffer₀ (mem array₀ id₀)))
 
 abbrev μ-loop : tie.MeasureT-loop
 μ-loop part enable d array₀ id₀ buffer₀ events₀ levels₀ held₀ answer₀ sent₀ left₀ array id buffer events levels held answer sent left =
