@@ -8,8 +8,8 @@ use mathlib.Core.Bool.{true, false}
 use mathlib.Core.List.{List}
 use lib.ListN.{length}
 use Rattle.parts.specs.declared.Refusal.{Refusal}
-use Rattle.parts.specs.declared.Refusal.the-variants.{BadState}
-use Rattle.parts.specs.declared.Verdict.the-variants.{Refused}
+use Rattle.parts.specs.declared.Refusal.the-variants.{BadState, BadEvent}
+use Rattle.parts.specs.declared.Verdict.the-variants.{Refused as Judged}
 use Rattle.parts.specs.Table.{factsOf, idSizeOf, enableRightOf}
 use Rattle.parts.specs.Refusals.{numberOf, verdictNumberOf, verdictPlaceOf}
 use Rattle.parts.specs.Bytes.{AllBelow}
@@ -20,14 +20,15 @@ use Rattle.chip.specs.Calls.{stepOf, runOf}
 use Rattle.image.specs.Layout.{partIn, lockIn}
 use Rattle.image.specs.Calls.{saving}
 use Rattle.driver.specs.declared.Request.{Request}
-use Rattle.driver.specs.Step.{fresh, driverNextOf}
+use Rattle.driver.specs.declared.Answer.the-variants.{Refused}
+use Rattle.driver.specs.Step.{beginOf, driverNextOf, bufferOf}
 use Rattle.bench.specs.Calls.{benchVerdict, benchOf}
 use Rattle.pack_chip.specs.Layout.{packedChipOf, holdsChipOf, unpackedChipOf}
 use Rattle.pack_chip.specs.Promises.{ChipFits}
-use Rattle.pack_driver.specs.Layout.{holdsDriverOf, unpackedDriverOf}
+use Rattle.pack_driver.specs.Layout.{driverLength, holdsDriverOf, unpackedDriverOf}
 use Rattle.sapwoodle.specs.Chips.{BytesAfterStep, BytesAfterRun, BytesAfterDeliver}
 use Rattle.sapwoodle.specs.Images.{BytesAfterSave, BytesAfterLoad}
-use Rattle.sapwoodle.specs.Drivers.{requestOf, BytesAfterBegin, BytesAfterNext}
+use Rattle.sapwoodle.specs.Drivers.{requestOf, BytesAfterBegin, toldOf, BytesAfterNext}
 use Rattle.sapwoodle.specs.Runs.{BytesAfterBench}
 
 -- ======== the chip
@@ -43,17 +44,20 @@ Running = ℕ → ℕ → List ℕ → Mem → List ℕ → List ℕ → BytesAf
 abbrev pub Delivering : Type 0
 Delivering = ℕ → List ℕ → Mem → BytesAfterDeliver
 
--- ---- "a call refused for bad input changes no byte"
+-- ---- "a call refused for bad input changes no byte"; and what its result variables then hold: no level, no cycle, and a place for 5 only
 
 abbrev pub StepKeeps : Stepping → Type 0
 StepKeeps step =
     (part enable : ℕ) (s : List ℕ) (m : Mem) (e : ℕ) → (step part enable s m e .number ≡ 0 → ⊥)
     → (step part enable s m e .state ≡ s) × (step part enable s m e .stored ≡ m)
+    × (step part enable s m e .level ≡ 2) × (step part enable s m e .cycles ≡ 0)
 
 abbrev pub RunKeeps : Running → Type 0
 RunKeeps run =
     (part enable : ℕ) (s : List ℕ) (m : Mem) (es a : List ℕ) → (run part enable s m es a .number ≡ 0 → ⊥)
     → (run part enable s m es a .state ≡ s) × (run part enable s m es a .stored ≡ m) × (run part enable s m es a .answers ≡ a)
+    × (run part enable s m es a .cycles ≡ 0)
+    × ((run part enable s m es a .number ≡ numberOf (BadEvent 0) → ⊥) → run part enable s m es a .place ≡ 0)
 
 abbrev pub DeliverKeeps : Delivering → Type 0
 DeliverKeeps deliver =
@@ -124,7 +128,7 @@ SavingBytes = ℕ → List ℕ → Mem → List ℕ → BytesAfterSave
 abbrev pub LoadingBytes : Type 0
 LoadingBytes = List ℕ → ℕ → List ℕ → Mem → BytesAfterLoad
 
--- ---- "a call refused for bad input changes no byte"
+-- ---- "a call refused for bad input changes no byte"; a length of 0 is answered, and of an image always the part that its byte names
 
 abbrev pub SaveKeeps : SavingBytes → Type 0
 SaveKeeps save =
@@ -134,7 +138,7 @@ SaveKeeps save =
 abbrev pub LoadKeeps : LoadingBytes → Type 0
 LoadKeeps load =
     (l : List ℕ) (enable : ℕ) (s : List ℕ) (m : Mem) → (load l enable s m .number ≡ 0 → ⊥)
-    → (load l enable s m .state ≡ s) × (load l enable s m .stored ≡ m)
+    → (load l enable s m .state ≡ s) × (load l enable s m .stored ≡ m) × (load l enable s m .part ≡ partIn l)
 
 -- ---- on the bytes of a state, what is saved is the chip's image
 
@@ -164,7 +168,7 @@ Beginning = Request → List ℕ → BytesAfterBegin
 abbrev pub Asking : Type 0
 Asking = List ℕ → ℕ → List ℕ → BytesAfterNext
 
--- ---- "a call refused for bad input changes no byte"; of a step, 4 is the one such refusal
+-- ---- "a call refused for bad input changes no byte"; of a step, 4 is the one such refusal: no event, no polls, no bytes
 
 abbrev pub BeginKeeps : Beginning → Type 0
 BeginKeeps begin = (r : Request) (s : List ℕ) → (begin r s .number ≡ 0 → ⊥) → begin r s .state ≡ s
@@ -172,25 +176,48 @@ BeginKeeps begin = (r : Request) (s : List ℕ) → (begin r s .number ≡ 0 →
 abbrev pub NextKeeps : Asking → Type 0
 NextKeeps next =
     (s : List ℕ) (level : ℕ) (b : List ℕ) → AllBelow 256 s → next s level b .told .number ≡ numberOf BadState
-    → (next s level b .state ≡ s) × (next s level b .buffer ≡ b)
+    → (next s level b .state ≡ s) × (next s level b .buffer ≡ b) × (next s level b .told ≡ toldOf (Refused BadState 0 0))
 
--- ---- the bytes hold the driver that was begun, and the one after each step
+-- ---- with room for a driver, a call is the driver's own: it refuses what the driver refuses, and else the bytes hold the driver begun
+
+abbrev pub BeginIsDrivers : Beginning → Type 0
+BeginIsDrivers begin =
+    (part enable what at n budget : ℕ) (s : List ℕ) → part < 256 → enable < 256 → length s ≡ driverLength
+    → begin (requestOf part enable what at n budget) s .number ≡ verdictNumberOf (beginOf (requestOf part enable what at n budget) .verdict)
 
 abbrev pub BeginHolds : Beginning → Type 0
 BeginHolds begin =
     (part enable what at n budget : ℕ) (s : List ℕ) → part < 256 → enable < 256 → begin (requestOf part enable what at n budget) s .number ≡ 0
     → (holdsDriverOf (begin (requestOf part enable what at n budget) s .state) ≡ true)
-    × (unpackedDriverOf (begin (requestOf part enable what at n budget) s .state) ≡ fresh (requestOf part enable what at n budget))
+    × (unpackedDriverOf (begin (requestOf part enable what at n budget) s .state) ≡ beginOf (requestOf part enable what at n budget) .driver)
 
-abbrev pub NextHolds : Asking → Type 0
-NextHolds next =
-    (s : List ℕ) (level : ℕ) (b : List ℕ) → AllBelow 256 s → (next s level b .told .number ≡ numberOf BadState → ⊥)
-    → (holdsDriverOf (next s level b .state) ≡ true) × (unpackedDriverOf (next s level b .state) ≡ driverNextOf (unpackedDriverOf s) level b .driver)
+-- on bytes that hold a driver a step answers what that driver answers, leaves the buffer as it does, and the bytes hold the driver after it
+abbrev pub NextIsDrivers : Asking → Type 0
+NextIsDrivers next =
+    (s : List ℕ) (level : ℕ) (b : List ℕ) → AllBelow 256 s → holdsDriverOf s ≡ true
+    → (next s level b .told ≡ toldOf (driverNextOf (unpackedDriverOf s) level b .answer))
+    × (next s level b .buffer ≡ bufferOf (unpackedDriverOf s) level b)
+    × (holdsDriverOf (next s level b .state) ≡ true)
+    × (unpackedDriverOf (next s level b .state) ≡ driverNextOf (unpackedDriverOf s) level b .driver)
 
 -- ---- bytes that hold no driver are refused with 4
 
 abbrev pub NextRefuses4 : Asking → Type 0
 NextRefuses4 next = (s : List ℕ) (level : ℕ) (b : List ℕ) → holdsDriverOf s ≡ false → next s level b .told .number ≡ numberOf BadState
+
+-- ---- a driver that refuses everything keeps every other of these, for any refusal; but it is not the driver
+
+abbrev pub refusingBegin : Refusal → Beginning
+refusingBegin x r s = record { number = numberOf x; state = s }
+
+abbrev pub refusingNext : Refusal → Asking
+refusingNext x s level b = record { told = toldOf (Refused x 0 0); state = s; buffer = b }
+
+abbrev pub RefusingBeginBreaks : Type 0
+RefusingBeginBreaks = (x : Refusal) → BeginIsDrivers (refusingBegin x) → ⊥
+
+abbrev pub RefusingNextBreaks : Type 0
+RefusingNextBreaks = (x : Refusal) → NextIsDrivers (refusingNext x) → ⊥
 
 -- ======== driver and chip together
 
@@ -198,15 +225,19 @@ NextRefuses4 next = (s : List ℕ) (level : ℕ) (b : List ℕ) → holdsDriverO
 abbrev pub Benching : Type 0
 Benching = Request → ℕ → ℕ → List ℕ → Mem → List ℕ → BytesAfterBench
 
--- "a call refused for bad input changes no byte"
+-- "a call refused for bad input changes no byte", and counts nothing
 abbrev pub BenchKeeps : Benching → Type 0
 BenchKeeps bench =
     (r : Request) (enable d : ℕ) (s : List ℕ) (m : Mem) (b : List ℕ) (x : Refusal) → AllBelow 256 s
-    → benchVerdict r enable d (unpackedChipOf s) m b ≡ Refused x
+    → benchVerdict r enable d (unpackedChipOf s) m b ≡ Judged x
     → (bench r enable d s m b .number ≡ numberOf x)
     × (bench r enable d s m b .state ≡ s)
     × (bench r enable d s m b .stored ≡ m)
     × (bench r enable d s m b .buffer ≡ b)
+    × (bench r enable d s m b .polls ≡ 0)
+    × (bench r enable d s m b .bytes ≡ 0)
+    × (bench r enable d s m b .cycles ≡ 0)
+    × (bench r enable d s m b .clocks ≡ 0)
 
 -- on the bytes of a state a run is the bench's own, and leaves the bytes of the state after it
 abbrev pub BenchIsBenchs : Benching → Type 0

@@ -8,11 +8,12 @@ use lib.ListN.{length}
 use lib.Dec.{eqb}
 use native.Mathlib.Omega.{arith}
 use borrow.Author.Tests.{eq-eqb, eqb-true}
-use Rattle.parts.specs.declared.Refusal.the-variants.{BadState}
+use Rattle.parts.specs.declared.Refusal.{Refusal}
+use Rattle.parts.specs.declared.Refusal.the-variants.{NoPart, WrongEnable, WrongBuffer, BadState, BadEvent, ShortBuffer, Beyond, BadLimit, NoSelect, NoData, PollsUsed, BadImage, TooMany}
 use Rattle.parts.specs.declared.Verdict.{Verdict}
 use Rattle.parts.specs.declared.Verdict.the-variants.{Fine, Refused}
 use Rattle.parts.specs.Table.{factsOf, idSizeOf, enableRightOf}
-use Rattle.parts.specs.Refusals.{verdictNumberOf}
+use Rattle.parts.specs.Refusals.{numberOf, spotOf, placeTold, verdictNumberOf, verdictPlaceOf}
 use Rattle.parts.proofs.Laws.{branch, fine, buffers-right}
 use Rattle.state.specs.declared.Chip.{Chip}
 use Rattle.chip.specs.Model.{ours}
@@ -34,16 +35,35 @@ use Rattle.sapwoodle.proofs.answers.Laws.{unheld-refused, standby-fits}
 
 step-keeps-by : (part enable : ℕ) (c : Chip) (s : List ℕ) (m : Mem) (e : ℕ) (v : Verdict) → (verdictNumberOf (stepBy (ours (factsOf part) enable) c m e v .verdict) ≡ 0 → ⊥)
     → (chipBytesAfter (stepBy (ours (factsOf part) enable) c m e v .verdict) (stepBy (ours (factsOf part) enable) c m e v .chip) s ≡ s) × (stepMem (ours (factsOf part) enable) c m e v ≡ m)
+    × (stepBy (ours (factsOf part) enable) c m e v .level ≡ 2) × (stepBy (ours (factsOf part) enable) c m e v .cycles ≡ 0)
 step-keeps-by part enable c s m e Fine h = absurd (h refl)
-step-keeps-by part enable c s m e (Refused r) h = (refl, refl)
+step-keeps-by part enable c s m e (Refused r) h = (refl, refl, refl, refl)
 
 pub step-keeps : StepKeeps stepping
 step-keeps part enable s m e h = step-keeps-by part enable (unpackedChipOf s) s m e (stepVerdict part enable (unpackedChipOf s) m e) h
 
+-- only 5 has a place
+placeless : (r : Refusal) → (numberOf r ≡ numberOf (BadEvent 0) → ⊥) → placeTold (spotOf r) ≡ 0
+placeless NoPart h = refl
+placeless WrongEnable h = refl
+placeless WrongBuffer h = refl
+placeless BadState h = refl
+placeless (BadEvent k) h = absurd (h refl)
+placeless ShortBuffer h = refl
+placeless Beyond h = refl
+placeless BadLimit h = refl
+placeless NoSelect h = refl
+placeless NoData h = refl
+placeless PollsUsed h = refl
+placeless BadImage h = refl
+placeless TooMany h = refl
+
 run-keeps-by : (part enable : ℕ) (c : Chip) (s : List ℕ) (m : Mem) (es a : List ℕ) (v : Verdict) → (verdictNumberOf (runBy (ours (factsOf part) enable) c es v .verdict) ≡ 0 → ⊥)
     → (chipBytesAfter (runBy (ours (factsOf part) enable) c es v .verdict) (runBy (ours (factsOf part) enable) c es v .chip) s ≡ s) × (runMem (ours (factsOf part) enable) c m es v ≡ m) × (runAnswers (ours (factsOf part) enable) c m es a v ≡ a)
+    × (runBy (ours (factsOf part) enable) c es v .cycles ≡ 0)
+    × ((verdictNumberOf (runBy (ours (factsOf part) enable) c es v .verdict) ≡ numberOf (BadEvent 0) → ⊥) → verdictPlaceOf (runBy (ours (factsOf part) enable) c es v .verdict) ≡ 0)
 run-keeps-by part enable c s m es a Fine h = absurd (h refl)
-run-keeps-by part enable c s m es a (Refused r) h = (refl, refl, refl)
+run-keeps-by part enable c s m es a (Refused r) h = (refl, refl, refl, refl, placeless r)
 
 pub run-keeps : RunKeeps running
 run-keeps part enable s m es a h = run-keeps-by part enable (unpackedChipOf s) s m es a (runVerdict part enable (unpackedChipOf s) m es a) h

@@ -38,7 +38,9 @@ pub save-is-images : SaveIsImages savingBytes
 save-is-images part c m out f = rw (chip-packs-back c f .2) refl
 
 pub load-keeps : LoadKeeps loadingBytes
-load-keeps l enable s m h = loads-nothing l _ s m (loadVerdictIn l enable s m) (λ e. h (rw e refl))
+load-keeps l enable s m h =
+    let k = loads-nothing l _ s m (loadVerdictIn l enable s m) (λ e. h (rw e refl)) in
+    (k .0, k .1, refl)
 
 short-refused : (l : List ℕ) (enable n d : ℕ) → length l < 6 → loadVerdictOf l enable n d ≡ Fine → ⊥
 unfolding loadVerdictOf

@@ -1,7 +1,7 @@
 -- `benching` keeps what is promised of it.
 -- Assumes nothing.
 use Prim.Native.Nat.{ℕ}
-use mathlib.Core.Path.{_≡_, refl}
+use mathlib.Core.Path.{_≡_, refl, ap, _∙_}
 use mathlib.Core.Bool.{true}
 use mathlib.Core.List.{List}
 use lib.ListN.{length}
@@ -13,7 +13,13 @@ use Rattle.pack_chip.specs.Layout.{chipLength, packedChipOf, packChipInto, hold
 use Rattle.pack_chip.specs.Promises.{ChipFits}
 use Rattle.pack_chip.proofs.Laws.{holds-long}
 use Rattle.pack_chip.proofs.Kept.{chip-packs-back, chip-unpacks-back}
-use Rattle.bench.specs.Calls.{benchOf}
+use Rattle.parts.specs.declared.Verdict.the-variants.{Refused as Judged}
+use Rattle.parts.specs.Table.{factsOf}
+use Rattle.parts.specs.Refusals.{verdictNumberOf}
+use Rattle.chip.specs.Model.{ours}
+use Rattle.driver.specs.Machine.{ourDriver}
+use Rattle.bench.specs.declared.Report.{Report}
+use Rattle.bench.specs.Calls.{refusedBy, BenchLeft, benchBy, benchOf}
 use Rattle.sapwoodle.specs.Runs.{chipBytesAfterBench, benching}
 use Rattle.sapwoodle.specs.Promises.{BenchKeeps, BenchIsBenchs}
 
@@ -28,7 +34,18 @@ kept-same s b =
     branch (λ (l : List ℕ). l ≡ s) (holdsChipOf s) (λ h. rw (into s (unpackedChipOf s) h) (chip-unpacks-back s b h .1)) (λ _. refl)
 
 pub bench-keeps : BenchKeeps benching
-bench-keeps r enable d s m b x a h = rw h (refl, kept-same s a, refl, refl)
+bench-keeps r enable d s m b x a h =
+    let q : benchOf r enable d (unpackedChipOf s) m b ≡ benchBy ourDriver (ours (factsOf (r .part)) enable) r d (unpackedChipOf s) m b (Judged x) =
+    ap (benchBy ourDriver (ours (factsOf (r .part)) enable) r d (unpackedChipOf s) m b) h in
+    let count : (of : Report → ℕ) → of (benchOf r enable d (unpackedChipOf s) m b .report) ≡ of (refusedBy x (unpackedChipOf s)) = λ of. ap (λ (l : BenchLeft). of (l .report)) q in
+    (count (λ p. verdictNumberOf (p .verdict)),
+    ap (λ (l : BenchLeft). chipBytesAfterBench s (l .report .chip)) q ∙ kept-same s a,
+    ap (λ (l : BenchLeft). l .mem) q,
+    ap (λ (l : BenchLeft). l .buffer) q,
+    count (λ p. p .polls),
+    count (λ p. p .bytes),
+    count (λ p. p .cycles),
+    count (λ p. p .clocks))
 
 kept-over : (c n : Chip) → ChipFits c → chipBytesAfterBench (packedChipOf c) n ≡ packedChipOf n
 unfolding chipBytesAfterBench
