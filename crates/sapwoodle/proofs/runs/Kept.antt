@@ -37,15 +37,16 @@ pub bench-keeps : BenchKeeps benching
 bench-keeps r enable d s m b x a h =
     let q : benchOf r enable d (unpackedChipOf s) m b ≡ benchBy ourDriver (ours (factsOf (r .part)) enable) r d (unpackedChipOf s) m b (Judged x) =
     ap (benchBy ourDriver (ours (factsOf (r .part)) enable) r d (unpackedChipOf s) m b) h in
-    let count : (of : Report → ℕ) → of (benchOf r enable d (unpackedChipOf s) m b .report) ≡ of (refusedBy x (unpackedChipOf s)) = λ of. ap (λ (l : BenchLeft). of (l .report)) q in
-    (count (λ p. verdictNumberOf (p .verdict)),
-    ap (λ (l : BenchLeft). chipBytesAfterBench s (l .report .chip)) q ∙ kept-same s a,
-    ap (λ (l : BenchLeft). l .mem) q,
-    ap (λ (l : BenchLeft). l .buffer) q,
-    count (λ p. p .polls),
-    count (λ p. p .bytes),
-    count (λ p. p .cycles),
-    count (λ p. p .clocks))
+    let count : (of : Report → ℕ) → of (benchOf r enable d (unpackedChipOf s) m b .report) ≡ of (refusedBy x (unpackedChipOf s)) = λ of. ap (λ (l : BenchLeft). of (l .report)) q in (
+      count (λ p. verdictNumberOf (p .verdict)),
+      ap (λ (l : BenchLeft). chipBytesAfterBench s (l .report .chip)) q ∙ kept-same s a,
+      ap (λ (l : BenchLeft). l .mem) q,
+      ap (λ (l : BenchLeft). l .buffer) q,
+      count (λ p. p .polls),
+      count (λ p. p .bytes),
+      count (λ p. p .cycles),
+      count (λ p. p .clocks),
+    )
 
 kept-over : (c n : Chip) → ChipFits c → chipBytesAfterBench (packedChipOf c) n ≡ packedChipOf n
 unfolding chipBytesAfterBench
