@@ -68,3 +68,20 @@ fn colon(line: &[u8]) -> usize {
 pub fn label(line: &[u8]) -> &[u8] {
     cut(line, more(more(colon(line))), line.len())
 }
+
+// ---- bytes that tell places apart
+
+pub fn next(x: u8) -> u8 {
+    if x < 250 { x + 1 } else { 0 }
+}
+
+// Every buffer is filled so before it is lent; 251 is no multiple of a page, so that the bytes tell the pages apart.
+pub fn fill(s: &mut [u8], first: u8) {
+    let mut x = first;
+    let mut i = 0;
+    while i < s.len() {
+        s[i] = x;
+        x = next(x);
+        i += 1;
+    }
+}

@@ -85,21 +85,6 @@ fn state_of(v: [usize; 16]) -> [u8; 137] {
 
 // ---- whether anything changed
 
-fn next(x: u8) -> u8 {
-    if x < 250 { x + 1 } else { 0 }
-}
-
-// Every buffer is filled so before it is lent; 251 is no multiple of a page.
-fn fill(s: &mut [u8], first: u8) {
-    let mut x = first;
-    let mut i = 0;
-    while i < s.len() {
-        s[i] = x;
-        x = next(x);
-        i += 1;
-    }
-}
-
 fn filled(s: &[u8], first: u8) -> bool {
     let mut x = first;
     let mut i = 0;
@@ -107,7 +92,7 @@ fn filled(s: &[u8], first: u8) -> bool {
         if s[i] != x {
             return false;
         }
-        x = next(x);
+        x = cases::next(x);
         i += 1;
     }
     true
@@ -173,8 +158,8 @@ fn step(v: [usize; 16], held: &[u8], array: &mut [u8], id: &mut [u8]) -> Tried {
 fn try_step(v: [usize; 16]) -> Tried {
     let mut array = [0u8; 32769];
     let mut id = [0u8; 65];
-    fill(&mut array, 0);
-    fill(&mut id, 100);
+    cases::fill(&mut array, 0);
+    cases::fill(&mut id, 100);
     let t = step(v, &state_of(v), &mut array, &mut id);
     with_buffers(t, both_filled(&array, &id))
 }
@@ -217,9 +202,9 @@ fn run_filled(v: [usize; 16], events: &[u8]) -> Tried {
     let mut array = [0u8; 32769];
     let mut id = [0u8; 65];
     let mut answers = [0u8; 32769];
-    fill(&mut array, 0);
-    fill(&mut id, 100);
-    fill(&mut answers, 50);
+    cases::fill(&mut array, 0);
+    cases::fill(&mut id, 100);
+    cases::fill(&mut answers, 50);
     let t = run(v, &state_of(v), &mut array, &mut id, events, &mut answers);
     let left = with_buffers(t, filled(&answers, 50));
     with_buffers(left, both_filled(&array, &id))
@@ -244,8 +229,8 @@ fn deliver(v: [usize; 16], array: &mut [u8], id: &mut [u8]) -> Tried {
 fn try_deliver(v: [usize; 16]) -> Tried {
     let mut array = [0u8; 32769];
     let mut id = [0u8; 65];
-    fill(&mut array, 0);
-    fill(&mut id, 100);
+    cases::fill(&mut array, 0);
+    cases::fill(&mut id, 100);
     let t = deliver(v, &mut array, &mut id);
     with_buffers(t, both_filled(&array, &id))
 }

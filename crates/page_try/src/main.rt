@@ -6,21 +6,6 @@ use parts::Verdict;
 use text::say;
 use text::say_number;
 
-fn next(x: u8) -> u8 {
-    if x < 250 { x + 1 } else { 0 }
-}
-
-// 251 is no multiple of a page, so that the bytes tell the pages apart.
-fn fill(s: &mut [u8], first: u8) {
-    let mut x = first;
-    let mut i = 0;
-    while i < s.len() {
-        s[i] = x;
-        x = next(x);
-        i += 1;
-    }
-}
-
 fn less(n: usize) -> usize {
     if 0 < n { n - 1 } else { 0 }
 }
@@ -127,8 +112,8 @@ fn every<'a>(part: u8, array: &'a [u8], id: &'a [u8]) {
 fn main() {
     let mut array = [0u8; 32769];
     let mut id = [0u8; 65];
-    fill(&mut array, 0);
-    fill(&mut id, 100);
+    cases::fill(&mut array, 0);
+    cases::fill(&mut id, 100);
     every(0, &array, &id);
     every(1, &array, &id);
     every(2, &array, &id);

@@ -1,9 +1,13 @@
 // Stored chips: an image read from a file, and one written into a file that is there whole or not at all. A chip is held as its bytes.
 use libc::STDERR_FILENO;
 use parts::Refusal;
+use parts::Verdict;
 
-// In place of a refusal's number: standard error has the reason.
-pub const TOLD: u8 = 255;
+// What became of a chip before its run: it was judged, or standard error has the reason.
+pub enum Ready {
+    Told,
+    Judged(Verdict),
+}
 
 // ---- reading
 
@@ -22,15 +26,15 @@ fn is_image(part: u8, bytes: &[u8]) -> bool {
 }
 
 // An image of another part is not what was meant; anything else is no image.
-fn other(part: u8, bytes: &[u8]) -> u8 {
+fn other(part: u8, bytes: &[u8]) -> Ready {
     if is_image(part, bytes) {
         io::write_all(
             STDERR_FILENO,
             b"sapwoodle: the image is of another part than the one named\n",
         );
-        return TOLD;
+        return Ready::Told;
     }
-    parts::number(Refusal::BadImage)
+    Ready::Judged(Verdict::Refused(Refusal::BadImage))
 }
 
 fn load(
@@ -40,14 +44,14 @@ fn load(
     held: &mut [u8],
     array: &mut [u8],
     id: &mut [u8],
-) -> u8 {
+) -> Ready {
     let loaded = image::load(bytes, enable, array, id);
     if loaded.part != part {
         return other(loaded.part, bytes);
     }
     let verdict = loaded.verdict;
     pack_chip::pack(loaded.chip, held);
-    parts::verdict_number(verdict)
+    Ready::Judged(verdict)
 }
 
 fn fetch_from(
@@ -58,7 +62,7 @@ fn fetch_from(
     held: &mut [u8],
     array: &mut [u8],
     id: &mut [u8],
-) -> u8 {
+) -> Ready {
     let got = words::read_all(fd, bytes);
     libc::close(fd);
     let n = got.n;
@@ -71,7 +75,7 @@ fn fetch_from(
         STDERR_FILENO,
         b"sapwoodle: the file of --image cannot be read\n",
     );
-    TOLD
+    Ready::Told
 }
 
 // One byte more than the longest image, so that a longer file is seen to be too long.
@@ -82,17 +86,17 @@ fn fetch(
     held: &mut [u8],
     array: &mut [u8],
     id: &mut [u8],
-) -> u8 {
+) -> Ready {
     let fd = os::open_read(name);
     if fd < 0 {
         os::fail(b"sapwoodle: the file of --image");
-        return TOLD;
+        return Ready::Told;
     }
     let mut bytes = [0u8; 32840];
     fetch_from(part, enable, fd, &mut bytes, held, array, id)
 }
 
-// The chip that the file named by a word has, and the refusal's number, 0 for none.
+// The chip that the file named by a word has.
 pub fn fetched(
     word: usize,
     part: u8,
@@ -100,7 +104,7 @@ pub fn fetched(
     held: &mut [u8],
     array: &mut [u8],
     id: &mut [u8],
-) -> u8 {
+) -> Ready {
     let mut name = io::buffer();
     let n = os::arg(word, &mut name);
     fetch(part, enable, &name[..n], held, array, id)

@@ -7,19 +7,20 @@ ghost use mathlib.Core.Path.{_≡_};
 ghost use lib.ListN.{length};
 use driver::Place;
 use driver::Request;
-use files::TOLD;
+use files::Ready;
 use parts::ArrayAddress;
 use parts::IdLocation;
 use parts::Refusal;
+use parts::Verdict;
 use words::Job;
 
 // The events of a run that are kept: more than writing or reading the whole of the largest array takes, where no page is polled
 // more than a dozen times.
 const TAPE: usize = 393216;
 
-// What a run reports: the refusal's number, 0 for none, and how many events it sent.
+// What a run reports, and how many events it sent.
 struct Ended {
-    number: u8,
+    verdict: Verdict,
     bytes: usize,
     polls: usize,
     cycles: usize,
@@ -27,38 +28,51 @@ struct Ended {
     sent: usize,
 }
 
-// ---- the chip before the run, held as its bytes: each answers the refusal's number, 0 for none
+// ---- the chip before the run, held as its bytes
 
-fn delivered(part: u8, held: &mut [u8], array: &mut [u8], id: &mut [u8]) -> u8 {
+fn delivered(part: u8, held: &mut [u8], array: &mut [u8], id: &mut [u8]) -> Verdict {
     let d = chip::deliver(part, array, id);
-    let verdict = d.verdict;
     pack_chip::pack(d.chip, held);
-    parts::verdict_number(verdict)
+    d.verdict
 }
 
-fn at_first(job: Job, held: &mut [u8], array: &mut [u8], id: &mut [u8]) -> u8 {
+fn at_first(job: Job, held: &mut [u8], array: &mut [u8], id: &mut [u8]) -> Ready {
     if job.image == 0 {
-        return delivered(job.part, held, array, id);
+        return Ready::Judged(delivered(job.part, held, array, id));
     }
     files::fetched(job.image, job.part, job.own, held, array, id)
 }
 
-fn pinned(part: u8, enable: u8, pin: u8, held: &mut [u8], array: &mut [u8], id: &mut [u8]) -> u8 {
+fn pinned(
+    part: u8,
+    enable: u8,
+    pin: u8,
+    held: &mut [u8],
+    array: &mut [u8],
+    id: &mut [u8],
+) -> Verdict {
     let s = chip::step(part, enable, pack_chip::unpack(held), array, id, pin);
-    let verdict = s.verdict;
     pack_chip::pack(s.chip, held);
-    parts::verdict_number(verdict)
+    s.verdict
 }
 
-fn prepared(job: Job, held: &mut [u8], array: &mut [u8], id: &mut [u8]) -> u8 {
-    let number = at_first(job, held, array, id);
-    if number != 0 {
-        return number;
+// The chip, with its pin as it was asked for.
+fn prepared(
+    verdict: Verdict,
+    job: Job,
+    held: &mut [u8],
+    array: &mut [u8],
+    id: &mut [u8],
+) -> Verdict {
+    match verdict {
+        Verdict::Fine => {
+            if job.pin == 0 {
+                return verdict;
+            }
+            pinned(job.part, job.own, job.pin, held, array, id)
+        }
+        Verdict::Refused(_) => verdict,
     }
-    if job.pin == 0 {
-        return number;
-    }
-    pinned(job.part, job.own, job.pin, held, array, id)
 }
 
 // ---- the run
@@ -115,16 +129,17 @@ fn dump(ok: bool, job: Job, data: &[u8]) -> bool {
 }
 
 // A run that is not done leaves no file.
-fn saved(job: Job, number: u8, held: &[u8], array: &[u8], id: &[u8]) -> bool {
-    if number == 0 {
-        return files::save(job.save, job.part, held, array, id);
+fn saved(job: Job, verdict: Verdict, held: &[u8], array: &[u8], id: &[u8]) -> bool {
+    match verdict {
+        Verdict::Fine => files::save(job.save, job.part, held, array, id),
+        Verdict::Refused(_) => true,
     }
-    true
 }
 
 fn tell_report(asked: usize, e: Ended) -> bool {
+    let verdict = e.verdict;
     show::figures(
-        show::head(e.number),
+        show::head(verdict),
         e.bytes,
         asked,
         e.polls,
@@ -134,11 +149,11 @@ fn tell_report(asked: usize, e: Ended) -> bool {
 }
 
 // Of a read that is done.
-fn tell_bytes(ok: bool, job: Job, number: u8, data: &[u8]) -> bool {
-    if number == 0 {
-        return dump(ok, job, data);
+fn tell_bytes(ok: bool, job: Job, verdict: Verdict, data: &[u8]) -> bool {
+    match verdict {
+        Verdict::Fine => dump(ok, job, data),
+        Verdict::Refused(_) => ok,
     }
-    ok
 }
 
 fn blank() -> [u8; 393216]
@@ -171,7 +186,7 @@ fn recorded(
     let verdict = report.verdict;
     pack_chip::pack(report.chip, held);
     Ended {
-        number: parts::verdict_number(verdict),
+        verdict: verdict,
         bytes: report.bytes,
         polls: report.polls,
         cycles: report.cycles,
@@ -185,45 +200,39 @@ fn run(job: Job, held: &mut [u8], array: &mut [u8], id: &mut [u8], data: &mut [u
     let mut events = blank();
     let mut levels = blank();
     let e = recorded(job, held, array, id, data, &mut events, &mut levels);
-    if !saved(job, e.number, held, array, id) {
+    let verdict = e.verdict;
+    if !saved(job, verdict, held, array, id) {
         return false;
     }
     let told = tell_report(job.length, e);
     let taped = tell_tape(told, job.events, e.sent, &mut events, &mut levels);
-    tell_bytes(taped, job, e.number, data)
+    tell_bytes(taped, job, verdict, data)
+}
+
+fn run_prepared(
+    verdict: Verdict,
+    job: Job,
+    held: &mut [u8],
+    array: &mut [u8],
+    id: &mut [u8],
+    data: &mut [u8],
+) -> bool {
+    let ready = prepared(verdict, job, held, array, id);
+    match ready {
+        Verdict::Fine => run(job, held, array, id, data),
+        Verdict::Refused(r) => show::refused(r),
+    }
 }
 
 fn begin(job: Job, held: &mut [u8], array: &mut [u8], id: &mut [u8], data: &mut [u8]) -> bool {
-    let number = prepared(job, held, array, id);
-    if number == TOLD {
-        return false;
+    let first = at_first(job, held, array, id);
+    match first {
+        Ready::Told => false,
+        Ready::Judged(verdict) => run_prepared(verdict, job, held, array, id, data),
     }
-    if number != 0 {
-        return show::head(number);
-    }
-    run(job, held, array, id, data)
 }
 
-// 1 and 2 are given before a file is looked at.
-fn refusal(job: Job) -> u8 {
-    let f = parts::facts_of(job.part);
-    if !f.known {
-        return parts::number(Refusal::NoPart);
-    }
-    if parts::enable_right(f, job.enable) {
-        if parts::enable_right(f, job.own) {
-            return 0;
-        }
-    }
-    parts::number(Refusal::WrongEnable)
-}
-
-// False where nothing, or not all, could be answered: standard error has the reason.
 fn lend(job: Job, data: &mut [u8]) -> bool {
-    let number = refusal(job);
-    if number != 0 {
-        return show::head(number);
-    }
     let mut array = [0u8; 32768];
     let mut id = [0u8; 64];
     let mut held = [0u8; pack_chip::LENGTH];
@@ -236,12 +245,29 @@ fn lend(job: Job, data: &mut [u8]) -> bool {
     )
 }
 
+fn judged(job: Job) -> Verdict {
+    let f = parts::facts_of(job.part);
+    let asked = parts::enable_right(f, job.enable);
+    let own = parts::enable_right(f, job.own);
+    let unknown = parts::claim(!f.known, Refusal::NoPart);
+    parts::sooner(unknown, parts::claim(!(asked & own), Refusal::WrongEnable))
+}
+
+// 1 and 2 are given before a file is looked at. False where nothing, or not all, could be answered: standard error has the reason.
+fn answer(job: Job, data: &mut [u8]) -> bool {
+    let verdict = judged(job);
+    match verdict {
+        Verdict::Fine => lend(job, data),
+        Verdict::Refused(r) => show::refused(r),
+    }
+}
+
 fn write_in(job: Job, data: &mut [u8]) -> bool {
     let got = words::data(data, job.bytes);
     let n = got.n;
     if got.ok {
         if n <= data.len() {
-            return lend(Job { length: n, ..job }, &mut data[0..n]);
+            return answer(Job { length: n, ..job }, &mut data[0..n]);
         }
     }
     false
@@ -264,7 +290,7 @@ pub fn read_command(next: usize, end: usize) -> bool {
     let job = words::asked(true, next, end);
     if job.ok {
         let mut data = [0u8; 32769];
-        return lend(job, &mut data);
+        return answer(job, &mut data);
     }
     false
 }

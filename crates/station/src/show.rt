@@ -1,5 +1,8 @@
 // What a run is answered with: plain lines on standard output that other tools can read. Each function is told whether the lines
 // before it were written, and says so of its own: what standard output does not take is said once, and nothing follows.
+use parts::Refusal;
+use parts::Verdict;
+
 pub fn say(ok: bool, text: &[u8]) -> bool {
     if !ok {
         return false;
@@ -29,60 +32,54 @@ fn bytes(ok: bool, n: usize, asked: usize) -> bool {
     count(told, b" of ", asked)
 }
 
-// Refused for the run's own bytes and limits, or for its file.
-fn reason_run(n: u8) -> bool {
-    match n {
-        7 => say(
+// What ends a run that has begun usually means at a bench, and what a call is refused for before; the others cannot come of a command.
+fn reason(r: Refusal) -> bool {
+    match r {
+        Refusal::NoPart => say(true, b"there is no such part\n"),
+        Refusal::WrongEnable => say(true, b"this part is never at this enable\n"),
+        Refusal::BadEvent(_) => say(true, b"this part has no Write Control pin\n"),
+        Refusal::Beyond => say(
             true,
             b"the bytes do not all lie in the array or the page, or there is no such page\n",
         ),
-        8 => say(
+        Refusal::BadLimit => say(
             true,
             b"the budget goes from 1 to 1000, --ends-at from 1 to 65535\n",
         ),
-        12 => say(true, b"the file is no image of its part\n"),
-        _ => true,
-    }
-}
-
-// Refused before anything changed: by the request or by what it is run on.
-fn reason_before(n: u8) -> bool {
-    match n {
-        1 => say(true, b"there is no such part\n"),
-        2 => say(true, b"this part is never at this enable\n"),
-        5 => say(true, b"this part has no Write Control pin\n"),
-        _ => reason_run(n),
-    }
-}
-
-// What a number usually means at a bench.
-fn reason(n: u8) -> bool {
-    match n {
-        9 => say(
+        Refusal::NoSelect => say(
             true,
             b"nobody answered at this enable, or the chip is busy\n",
         ),
-        10 => say(
+        Refusal::NoData => say(
             true,
             b"Write Control is high, or the identification page is locked\n",
         ),
-        11 => say(
+        Refusal::PollsUsed => say(
             true,
             b"the chip stayed busy longer than the budget of polls\n",
         ),
-        _ => reason_before(n),
+        Refusal::BadImage => say(true, b"the file is no image of its part\n"),
+        Refusal::WrongBuffer => true,
+        Refusal::BadState => true,
+        Refusal::ShortBuffer => true,
+        Refusal::TooMany => true,
     }
 }
 
-// The first line, which tells a refusal from a run that is done.
-pub fn head(n: u8) -> bool {
-    if n == 0 {
-        return say(true, b"done\n");
-    }
-    if count(true, b"refused ", text::wide(n)) {
-        return reason(n);
+pub fn refused(r: Refusal) -> bool {
+    let number = parts::number(r);
+    if count(true, b"refused ", text::wide(number)) {
+        return reason(r);
     }
     false
+}
+
+// The first line, which tells a refusal from a run that is done.
+pub fn head(verdict: Verdict) -> bool {
+    match verdict {
+        Verdict::Fine => say(true, b"done\n"),
+        Verdict::Refused(r) => refused(r),
+    }
 }
 
 // The figures of a run.

@@ -1,9 +1,9 @@
-use Prim.Native.Nat.{_+_, _-_, _≤_, _<_}
+use Prim.Native.Nat.{_≤_, _-_}
 use mathlib.Core.Path.{_≡_}
-use lib.ListN.{length}
 use borrow.Author.Needs.{needs}
-use Rattle.chip_try.proofs.fill.Statement.{statement}
-use Rattle.chip_try.proofs.fill.Tie as tie
+use lib.ListN.{length}
+use Rattle.cases.proofs.fill.Statement.{statement}
+use Rattle.cases.proofs.fill.Tie as tie
 
 abbrev Inv-loop : tie.InvT-loop
 Inv-loop s₀ first x₀ i₀ s x i = (i ≤ length s₀) × (length s ≡ length s₀)
