@@ -158,11 +158,11 @@ ninth-lt : (b : Bool) → cond {A = ℕ} b 1 0 < 2
 ninth-lt true = omega arith
 ninth-lt false = omega arith
 
-two-bytes : (r : Request) → wide r ≡ true → A r ≡ 2
+pub two-bytes : (r : Request) → wide r ≡ true → A r ≡ 2
 unfolding addressBytesOf
 two-bytes r e = ap (λ (t : Bool). cond {A = ℕ} t 2 1) e
 
-one-byte : (r : Request) → wide r ≡ false → A r ≡ 1
+pub one-byte : (r : Request) → wide r ≡ false → A r ≡ 1
 unfolding addressBytesOf
 one-byte r e = ap (λ (t : Bool). cond {A = ℕ} t 2 1) e
 

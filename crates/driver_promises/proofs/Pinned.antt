@@ -1,9 +1,10 @@
--- The promises leave nothing open: the levels told decide the events and the answer of whoever keeps them.
+-- The promises leave nothing open: the levels told decide the events, the answer and the buffer of whoever keeps them.
 -- Assumes nothing.
 use Prim.Native.Nat.{ℕ, zero, suc, _+_, _-_, _≤_, _<_}
 use mathlib.Core.Path.{_≡_, refl, sym, _∙_, ap, subst}
 use mathlib.Core.Bool.{Bool, true, false, cond, false≢true}
 use mathlib.Core.List.{List, [], _∷_, _++_, append-assoc}
+use mathlib.Core.Logic.{⊎-elim}
 use lib.ListN.{length, getD, replicate, length-append, length-replicate}
 use lib.Seq.{ext-getD}
 use lib.Dec.{eqb}
@@ -20,13 +21,14 @@ use Rattle.driver.specs.Request.{allowedOf, kOf}
 use Rattle.driver.specs.Step.{refusalOf}
 use Rattle.driver.proofs.Facts.{good-request}
 use Rattle.driver.specs.Machine.{Machine}
-use Rattle.driver_promises.specs.Run.{DriverHeld, begun, sentBy, answerTo, told, afterAll, eventsSent, Finished, pollsIn, boundOf}
+use Rattle.driver_promises.specs.Run.{DriverHeld, begun, sentBy, answerTo, told, afterAll, eventsSent, Finished, pollsIn, boundOf, clockOfByte}
 use Rattle.driver_promises.specs.Plan.{thenStart, thenStop, thenByte, thenPolls, thenData, selectOf, thenSelect, thenHigh, thenHead, lengthOf, thenPart, thenParts, partsEndOf, readPlan}
 use Rattle.driver_promises.specs.Heard.{Acked, Missed, PollsMissed, DataAcked, HighAcked, HeadAcked, PartsTold}
 use Rattle.driver_promises.specs.Where.{leftOf, Within, RefusedByte, the-select, the-high, the-low, the-turn, the-data, the-poll, Before, Stopped}
-use Rattle.driver_promises.specs.Promises.{Accepted, after, sent, answers, DoneAll, DoneOf, RefusedAt, Promises}
+use Rattle.driver_promises.specs.Promises.{Accepted, after, sent, answers, DoneAll, DoneOf, RefusedAt, BufferSoFar, Promises}
 use Rattle.driver_promises.specs.Pinned.{Pinned}
 use Rattle.driver_promises.proofs.Inv.{wide, stop, left-cut, less}
+use Rattle.driver_promises.proofs.Numbers.{less-or-more}
 
 -- the events of a whole run, and its answer
 record Out : Type 0 where
@@ -346,21 +348,30 @@ module _ (M N : Machine) (p : Promises M) (q : Promises N) (r : Request) (xs : L
   both (Refused f n m) (Done n' m') k j = ended (subst Finished (sym k) tt) (subst Finished (sym j) tt)
   both (Refused f n m) (Refused f' n' m') k j = ended (subst Finished (sym k) tt) (subst Finished (sym j) tt)
 
-  -- the buffer, at the end
+  -- the buffer: the events say how many bytes are in it
   abbrev Left : Type 0
   Left = after M r xs ls l .buffer ≡ after N r xs ls l .buffer
 
-  done-left : (t : Bool) (n m : ℕ) → DoneOf M r xs ls l t n → DoneOf N r xs ls l t m → Left
-  done-left true n m d e =
-      ext-getD 0 _ _ (d .size ∙ sym (e .size)) (λ i h. let z = d .size in d .bytes i (omega arith) ∙ sym (e .bytes i (omega arith)))
-  done-left false n m d e = d .buffer ∙ sym (e .buffer)
+  left : sent M r xs ls l ≡ sent N r xs ls l → Left
+  left e = go (r .reads) refl
+    where
+      P : BufferSoFar M r xs ls l
+      P = p .buffer-so-far r xs a ls l
 
-  left : (b : Answer) → answers M r xs ls l ≡ b → answers N r xs ls l ≡ b → Finished b → Left
-  left (Send e) k j f = absurd f
-  left (Done n m) k j f = done-left (r .reads) n n (p .done-all r xs a ls l n m k .plan) (q .done-all r xs a ls l n m j .plan)
-  left (Refused f n m) k j g = p .refused-at r xs a ls l n m f k .buffer ∙ sym (q .refused-at r xs a ls l n m f j .buffer)
+      Q : BufferSoFar N r xs ls l
+      Q = q .buffer-so-far r xs a ls l
+
+      one : r .reads ≡ true → (i : ℕ) → i < r .length → getD (after M r xs ls l .buffer) i 0 ≡ getD (after N r xs ls l .buffer) i 0
+      one w i h =
+          let n = ap length e in
+          ⊎-elim (λ k. P .got w i h k ∙ sym (Q .got w i h (omega arith))) (λ k. P .before w i h k ∙ sym (Q .before w i h (omega arith)))
+          (less-or-more (clockOfByte r i + 8) (length (sent M r xs ls l)))
+
+      go : (b : Bool) → r .reads ≡ b → Left
+      go true w = let s = P .size in ext-getD 0 _ _ (P .size ∙ sym (Q .size)) (λ i h. one w i (omega arith))
+      go false w = P .write w ∙ sym (Q .write w)
 
 pub pinned : Pinned
 pinned M N p q r xs a ls l =
     let w = both M N p q r xs a ls l (answers M r xs ls l) (answers N r xs ls l) refl refl in
-    record { events = w .0; answer = w .1; buffer = left M N p q r xs a ls l (answers M r xs ls l) refl (sym (w .1)) }
+    record { events = w .0; answer = w .1; buffer = left M N p q r xs a ls l (w .0) }

@@ -24,17 +24,18 @@ use Rattle.driver.specs.Split.{sum}
 use Rattle.driver.specs.Request.{judgeOf, kOf}
 use Rattle.driver.specs.Step.{refusalOf, bufferOf}
 use Rattle.driver.specs.Machine.{ourDriver}
-use Rattle.driver_promises.specs.Run.{DriverHeld, answerTo, told, Finished, clocksIn, addressBytes, boundOf}
+use Rattle.driver_promises.specs.Run.{DriverHeld, begun, answerTo, told, Finished, clocksIn, addressBytes, boundOf}
 use Rattle.driver_promises.specs.Plan.{writePlan, readPlan}
 use Rattle.driver_promises.specs.Heard.{ReadTold}
 use Rattle.driver_promises.specs.Where.{leftOf, Parts, Before, Stopped}
-use Rattle.driver_promises.specs.Promises.{Accepted, after, sent, answers, OneEach, PollsSent, DoneAll, DoneOf, RefusedAt, Promises}
+use Rattle.driver_promises.specs.Promises.{Accepted, after, sent, answers, OneEach, PollsSent, DoneAll, DoneOf, RefusedAt, BufferSoFar, Promises}
 use Rattle.driver_promises.proofs.View.{at, Way, w-done, w-open, w-bit, w-ninth, w-got, w-nack, w-high, w-only, w-low, w-turn, w-data, w-more, w-close, w-drop, w-poll, w-again, w-give, w-page, w-take, w-next, w-end, w-over, Steps}
 use Rattle.driver_promises.proofs.Inv.{left-all, left-none}
 use Rattle.driver_promises.proofs.Grow.{A, D, heads, over}
 use Rattle.driver_promises.proofs.Trail.{Told}
 use Rattle.driver_promises.proofs.Story.{Story, Ran, held, one-step, ran}
 use Rattle.driver_promises.proofs.Bound.{bounded, no-polls}
+use Rattle.driver_promises.proofs.Buffer.{Upto, upto, write-left}
 
 -- ---- what an answer says of the state it came from
 abbrev Says : Answer → Request → Phase → Counts → Type 0
@@ -339,6 +340,19 @@ module _ (r : Request) (xs : List ℕ) (a : Accepted r xs) (ls : List ℕ) (l : 
             buffer = ap (λ (h : DriverHeld). h .buffer) i ∙ y;
           }
 
+  -- the buffer, of the end of the run
+  holds : r .reads ≡ true → Upto r xs (R .buffer) (sent ourDriver r xs ls l) ls
+  holds w = upto r xs w (R .counts) (R .buffer) (sent ourDriver r xs ls l) ls (R .phase) (R .story)
+
+  pub buffer-so-far : BufferSoFar ourDriver r xs ls l
+  buffer-so-far =
+      record {
+        write = write-left (begun r xs) ls;
+        size = ap (λ (h : DriverHeld). length (h .buffer)) (R .is) ∙ R .story .size;
+        got = λ w i h k. ap (λ (h : DriverHeld). getD (h .buffer) i 0) (R .is) ∙ holds w .bytes i (holds w .high i k) .1;
+        before = λ w i h k. ap (λ (h : DriverHeld). getD (h .buffer) i 0) (R .is) ∙ holds w .ahead i (holds w .low i k);
+      }
+
 pub promises : Promises ourDriver
 promises =
     record {
@@ -346,4 +360,5 @@ promises =
       polls-sent = polls-sent;
       done-all = done-all;
       refused-at = refused-at;
+      buffer-so-far = buffer-so-far;
     }

@@ -1,10 +1,11 @@
 -- A whole run, with any levels: what holds of the driver, its buffer, the events sent and the levels told.
 -- Assumes nothing.
-use Prim.Native.Nat.{ℕ, zero, _+_, _-_, _*_}
+use Prim.Native.Nat.{ℕ, zero, _+_, _-_, _*_, _≤_}
 use mathlib.Core.Path.{_≡_, refl, sym, _∙_, ap, subst}
 use mathlib.Core.Bool.{Bool, true, false, cond, false≢true, _&&_}
 use mathlib.Core.List.{List, [], _∷_, _++_, append-nil, append-assoc}
-use lib.ListN.{length, length-append, length-set}
+use lib.ListN.{length, getD, length-append, length-set}
+use lib.Seq.{getD-set-other}
 use lib.Dec.{eqb, ltb}
 use native.Mathlib.Omega.{arith}
 use Rattle.driver.specs.declared.Request.{Request}
@@ -18,12 +19,12 @@ use Rattle.driver.specs.declared.Answer.the-variants.{Send, Done, Refused}
 use Rattle.driver.specs.declared.Move.{Move}
 use Rattle.driver.specs.declared.Asked.{Asked}
 use Rattle.driver.specs.Request.{judgeOf, allowedOf, kOf}
-use Rattle.driver.specs.Step.{shiftOf, bufferOf, fresh}
+use Rattle.driver.specs.Step.{shiftOf, sentCountsOf, bufferOf, fresh}
 use Rattle.driver.specs.Machine.{ourDriver}
 use Rattle.driver_promises.specs.Run.{DriverHeld, begun, sentBy, told, afterAll, eventsSent, clocksIn, pollsIn, clockOfByte}
 use Rattle.driver_promises.specs.Where.{leftOf, Before}
 use Rattle.driver_promises.proofs.View.{at, leads, takes, Way, w-done, w-open, w-bit, w-ninth, w-got, w-nack, w-high, w-only, w-low, w-turn, w-data, w-more, w-close, w-drop, w-poll, w-again, w-give, w-page, w-take, w-next, w-end, w-over, Steps, steps}
-use Rattle.driver_promises.proofs.Inv.{Inv, in-range, room-in, inv-step, left-all}
+use Rattle.driver_promises.proofs.Inv.{Inv, in-range, room-in, taken-elim, inv-step, left-all}
 use Rattle.driver_promises.proofs.Grow.{A, heads, ends, clocksAt, endsAt, over, oddAt, turn, Grown, grow}
 use Rattle.driver_promises.proofs.Trail.{Told, trail-step}
 use Rattle.driver_promises.proofs.Got.{Gets, Long, got-step}
@@ -102,6 +103,44 @@ module _ (r : Request) (xs : List ℕ) where
   kept-step v k (w-end e) = let o = v .here .1 in (λ w. absurd (false≢true (sym w ∙ v .right)), λ z. absurd (omega arith))
   kept-step v k (w-over f) = k
 
+-- the bytes from the driver's position on are as before
+abbrev pub Ahead : Counts → List ℕ → List ℕ → Type 0
+Ahead c ys xs = (i : ℕ) → c .at ≤ i → getD ys i 0 ≡ getD xs i 0
+
+-- a byte sent moves the position on, or not
+sent-ahead : (s : Slot) (c : Counts) (ys xs : List ℕ) → Ahead c ys xs → Ahead (sentCountsOf s c) ys xs
+sent-ahead Select c ys xs k = k
+sent-ahead High c ys xs k = k
+sent-ahead Low c ys xs k = k
+sent-ahead Data c ys xs k = λ i h. k i (omega arith)
+sent-ahead Poll c ys xs k = k
+sent-ahead Turn c ys xs k = k
+sent-ahead Take c ys xs k = λ i h. k i (omega arith)
+
+ahead-step : (xs : List ℕ) {r : Request} {c : Counts} {l : ℕ} {ys zs : List ℕ} {p : Phase} {m : Move} → Ahead c ys xs → Way r c l ys p m zs → Ahead (m .counts) zs xs
+ahead-step xs k (w-done e) = k
+ahead-step xs k (w-open n) = k
+ahead-step xs {c = c} {l = l} {ys = ys} k (w-bit s b h) = taken-elim (λ (t : Counts). Ahead t ys xs) s c l (λ x. k)
+ahead-step xs {c = c} {ys = ys} k (w-ninth s b e h) = sent-ahead s c ys xs k
+ahead-step xs {c = c} {l = l} {ys = ys} k (w-got b e h) = λ i o. getD-set-other ys (c .at) i (shiftOf (c .byte) l) 0 (λ z. omega arith) ∙ k i (omega arith)
+ahead-step xs k (w-nack s e h) = k
+ahead-step xs k (w-high z e) = k
+ahead-step xs k (w-only z e) = k
+ahead-step xs k (w-low z) = k
+ahead-step xs k (w-turn z e) = k
+ahead-step xs k (w-data z e) = k
+ahead-step xs k (w-more z n) = k
+ahead-step xs k (w-close z e) = k
+ahead-step xs k (w-drop z) = k
+ahead-step xs k w-poll = k
+ahead-step xs k (w-again z o) = k
+ahead-step xs k (w-give z o) = k
+ahead-step xs k (w-page z) = k
+ahead-step xs k (w-take z) = k
+ahead-step xs k (w-next n) = k
+ahead-step xs k (w-end e) = k
+ahead-step xs k (w-over f) = k
+
 size-step : {r : Request} {c : Counts} {l : ℕ} {xs ys : List ℕ} {p : Phase} {m : Move} → Way r c l xs p m ys → length ys ≡ length xs
 size-step (w-done e) = refl
 size-step (w-open n) = refl
@@ -131,6 +170,7 @@ pub record Story (r : Request) (xs : List ℕ) (p : Phase) (c : Counts) (ys es l
   pub inv : Inv r p c
   pub size : length ys ≡ r .length
   pub kept : Kept p r c ys xs
+  pub ahead : Ahead c ys xs
   pub told : Told p r c ys es ls
   pub got : Gets p r c ys ls
   pub polls : c .polls ≡ pollsIn false es
@@ -194,7 +234,7 @@ module _ (r : Request) (xs : List ℕ) where
           (subst (λ (q : Phase). Counted q (m .counts) es) (sym (g .0)) (subst (λ (d : Counts). Counted p d es) (sym (g .1)) k))
 
   -- in a byte that is read, the levels told are as many as the clocks before it
-  long : (p : Phase) (c : Counts) (ys es ls : List ℕ) → Story r xs p c ys es ls → Long r p c ls
+  pub long : (p : Phase) (c : Counts) (ys es ls : List ℕ) → Story r xs p c ys es ls → Long r p c ls
   long Ready c ys es ls v = tt
   long (Bits s b) c ys es ls v = λ t. go s t (v .inv) (v .ends refl) (v .told .1)
     where
@@ -229,6 +269,7 @@ module _ (r : Request) (xs : List ℕ) where
         inv = inv-step r (v .inv) w;
         size = size-step w ∙ v .size;
         kept = kept-step r xs (v .inv) (v .kept) w;
+        ahead = ahead-step xs (v .ahead) w;
         told = trail-step r c l ys es ls (v .inv) (v .told) w;
         got = got-step r ls (v .inv) (v .size) (long p c ys es ls v) (v .got) w;
         polls = k .polls;
@@ -291,6 +332,7 @@ module _ (r : Request) (xs : List ℕ) where
         inv = start-inv e;
         size = n;
         kept = (λ _. refl, λ _. refl);
+        ahead = λ i h. refl;
         told = (record { past = []; spent = 0; sum = refl; parts = before-all (r .reads); events = refl; levels = tt }, λ _. refl);
         got = λ w i h. absurd (omega arith);
         polls = refl;

@@ -127,7 +127,7 @@ buffer-free : (b : Bool) (r : Request) (xs ys ls past : List ℕ) (s q : ℕ) �
 buffer-free true r xs ys ls past s q e v = v
 buffer-free false r xs ys ls past s q e v = absurd (false≢true e)
 
-read-before : (b : Bool) (r : Request) (xs ls past : List ℕ) (s q : ℕ) → b ≡ true → s ≡ 0 → Before b r xs ls s q past → past ≡ []
+pub read-before : (b : Bool) (r : Request) (xs ls past : List ℕ) (s q : ℕ) → b ≡ true → s ≡ 0 → Before b r xs ls s q past → past ≡ []
 read-before true r xs ls past s q e z v = v .0 ∙ simp (eq-eqb s 0 z)
 read-before false r xs ls past s q e z v = absurd (false≢true e)
 

@@ -1,5 +1,5 @@
 -- The promises of the driver: each a type over any machine, for every request that is accepted and ANY list of line levels.
--- Proved of `ours` in proofs/Promises.antt.
+-- Proved of `ourDriver` in proofs/Promises.antt.
 -- Assumes nothing.
 use Prim.Native.Nat.{ℕ, _+_, _-_, _*_, _/_, _%_, _<_, _≤_}
 use mathlib.Core.Path.{_≡_}
@@ -102,12 +102,38 @@ module _ (M : Machine) (r : Request) (xs : List ℕ) (ls : List ℕ) (l : ℕ) w
     pub none : r .reads ≡ true → (m ≡ 0) × (q ≡ 0)
     pub buffer : after .buffer ≡ xs
 
--- the four, together
+  -- 5. The buffer at every moment: a write never changes it. Of a read, byte i is the levels told for its eight clocks once its ninth clock,
+  -- event number `clockOfByte r i + 8`, is sent, and before that, or if that is never sent, it is as it was
+  pub record BufferSoFar : Type 0 where
+    pub write : r .reads ≡ false → after .buffer ≡ xs
+    pub size : length (after .buffer) ≡ r .length
+    pub got : r .reads ≡ true → (i : ℕ) → i < r .length → clockOfByte r i + 8 < length sent → getD (after .buffer) i 0 ≡ toldByte ls (clockOfByte r i) 8
+    pub before : r .reads ≡ true → (i : ℕ) → i < r .length → length sent ≤ clockOfByte r i + 8 → getD (after .buffer) i 0 ≡ getD xs i 0
+
+-- ---- each of the five, for every accepted request, any levels and every moment
+module _ (M : Machine) where
+  abbrev pub OneEachKept : Type 0
+  OneEachKept = (r : Request) (xs : List ℕ) → Accepted r xs → (ls : List ℕ) (l : ℕ) → OneEach M r xs ls l
+
+  abbrev pub PollsKept : Type 0
+  PollsKept = (r : Request) (xs : List ℕ) → Accepted r xs → (ls : List ℕ) (l : ℕ) → PollsSent M r xs ls l
+
+  abbrev pub DoneKept : Type 0
+  DoneKept = (r : Request) (xs : List ℕ) → Accepted r xs → (ls : List ℕ) (l q m : ℕ) → answers M r xs ls l ≡ Done q m → DoneAll M r xs ls l q m
+
+  abbrev pub RefusedKept : Type 0
+  RefusedKept = (r : Request) (xs : List ℕ) → Accepted r xs → (ls : List ℕ) (l q m : ℕ) (f : Refusal) → answers M r xs ls l ≡ Refused f q m → RefusedAt M r xs ls l f q m
+
+  abbrev pub BufferKept : Type 0
+  BufferKept = (r : Request) (xs : List ℕ) → Accepted r xs → (ls : List ℕ) (l : ℕ) → BufferSoFar M r xs ls l
+
+-- together
 pub record Promises (M : Machine) : Type 0 where
-  pub one-each : (r : Request) (xs : List ℕ) → Accepted r xs → (ls : List ℕ) (l : ℕ) → OneEach M r xs ls l
-  pub polls-sent : (r : Request) (xs : List ℕ) → Accepted r xs → (ls : List ℕ) (l : ℕ) → PollsSent M r xs ls l
-  pub done-all : (r : Request) (xs : List ℕ) → Accepted r xs → (ls : List ℕ) (l q m : ℕ) → answers M r xs ls l ≡ Done q m → DoneAll M r xs ls l q m
-  pub refused-at : (r : Request) (xs : List ℕ) → Accepted r xs → (ls : List ℕ) (l q m : ℕ) (f : Refusal) → answers M r xs ls l ≡ Refused f q m → RefusedAt M r xs ls l f q m
+  pub one-each : OneEachKept M
+  pub polls-sent : PollsKept M
+  pub done-all : DoneKept M
+  pub refused-at : RefusedKept M
+  pub buffer-so-far : BufferKept M
 
 -- what stands in the identification page
 abbrev pub OnIdent : Place → Type 0
