@@ -7,12 +7,11 @@ use mathlib.Core.List.{List, [], _∷_}
 use lib.ListN.{length, getD, length-append}
 use lib.Dec.{eqb}
 use native.Mathlib.Omega.{arith}
-use borrow.Author.Tests.{eqb-true, eqb-false}
+use borrow.Author.Tests.{eqb-true}
 use Rattle.parts.proofs.Laws.{branch}
 use Rattle.parts.proofs.Tests.{not-yes}
 use Rattle.driver.specs.declared.Request.{Request}
 use Rattle.driver.specs.declared.Failed.{Failed}
-use Rattle.driver.specs.declared.Slot.{Slot}
 use Rattle.driver.specs.declared.Slot.the-variants.{Select, High, Low, Data, Poll, Turn, Take}
 use Rattle.driver.specs.declared.Phase.{Phase}
 use Rattle.driver.specs.declared.Phase.the-variants.{Ready, Bits, Heard, Rest, Over}
@@ -22,9 +21,9 @@ use Rattle.driver.specs.declared.Asked.{Asked}
 use Rattle.driver.specs.Step.{bitOf, driverStepOf, rangeOf, driverNextOf}
 use Rattle.driver.specs.Machine.{ourDriver}
 use Rattle.driver_promises.specs.Run.{DriverHeld, told, afterAll, clockOfByte}
-use Rattle.driver_promises.specs.Plan.{thenStart, thenStop, thenBits, thenByte, addressAt, selectOf, thenSelect, thenHigh, thenHead}
-use Rattle.driver_promises.specs.Where.{RefusedByte, the-select, the-high, the-low, the-turn, the-data, the-poll, Stopped}
-use Rattle.driver_promises.proofs.Inv.{wide, Inv, Head}
+use Rattle.driver_promises.specs.Plan.{thenStart, thenBits, thenByte, addressAt, selectOf, thenSelect, thenHigh, thenHead}
+use Rattle.driver_promises.specs.Where.{RefusedByte, the-select, the-high, the-low, the-turn, the-data, the-poll}
+use Rattle.driver_promises.proofs.Inv.{wide, Head}
 use Rattle.driver_promises.proofs.Grow.{A, D, heads, ends, two-bytes, one-byte}
 use Rattle.driver_promises.proofs.Bound.{no-polls}
 use Rattle.driver_promises.proofs.Trail.{read-before}

@@ -99,14 +99,14 @@ module _ (r : Request) where
       ∙ ap (λ (b : Bool). cond b true (ltb 1000 (r .budget))) (le-ltb (r .budget) 1 (omega arith))
       ∙ lt-ltb 1000 (r .budget) h
 
-  pub fair : r .reads ≡ false → 1 ≤ r .budget → r .budget ≤ 1000 → limitOf (r .reads) (r .budget) ≡ false
+  fair : r .reads ≡ false → 1 ≤ r .budget → r .budget ≤ 1000 → limitOf (r .reads) (r .budget) ≡ false
   unfolding limitOf
   fair w l h =
       ap (λ (b : Bool). limitOf b (r .budget)) w
       ∙ ap (λ (b : Bool). cond b true (ltb 1000 (r .budget))) (le-ltb (r .budget) 1 l)
       ∙ le-ltb 1000 (r .budget) h
 
-  pub unheeded : r .reads ≡ true → limitOf (r .reads) (r .budget) ≡ false
+  unheeded : r .reads ≡ true → limitOf (r .reads) (r .budget) ≡ false
   unfolding limitOf
   unheeded w = ap (λ (b : Bool). limitOf b (r .budget)) w
 

@@ -1,9 +1,12 @@
--- Drivers that only seem to work (document 01, 'Strength of the promises'): each breaks the promises.
+-- Drivers that only seem to work (document 01, 'Strength of the promises'): each breaks a promise, and which is said with it.
 -- Assumes nothing.
-use Prim.Native.Nat.{ℕ, _+_, _<_}
-use mathlib.Core.Bool.{Bool, false, cond, _&&_}
+use Prim.Native.Nat.{ℕ, _+_, _-_, _<_}
+use mathlib.Core.Bool.{Bool, true, false, cond, _&&_}
+use mathlib.Core.List.{List, map}
+use lib.ListN.{set}
 use lib.Dec.{eqb, ltb}
 use Rattle.parts.specs.declared.Refusal.{Refusal}
+use Rattle.parts.specs.declared.Verdict.the-variants.{Refused as Judged}
 use Rattle.driver.specs.declared.Slot.{Slot}
 use Rattle.driver.specs.declared.Slot.the-variants.{Select, High, Low, Data, Poll, Turn, Take}
 use Rattle.driver.specs.declared.Phase.{Phase}
@@ -12,9 +15,10 @@ use Rattle.driver.specs.declared.Driver.{Driver}
 use Rattle.driver.specs.declared.Answer.{Answer}
 use Rattle.driver.specs.declared.Answer.the-variants.{Send, Done, Refused}
 use Rattle.driver.specs.Request.{allowedOf}
-use Rattle.driver.specs.Step.{withByte, withPoll, driverNextOf, bufferOf}
+use Rattle.driver.specs.Step.{shiftOf, withByte, withPoll, driverNextOf, bufferOf}
 use Rattle.driver.specs.Machine.{Machine}
-use Rattle.driver_promises.specs.Promises.{Promises}
+use Rattle.driver_promises.specs.Promises.{OneEachKept, PollsKept, DoneKept, RefusedKept, BufferKept}
+use Rattle.driver_promises.specs.Numbers.{RequestNumbers}
 use Rattle.driver_promises.specs.Listens.{OnlyThoseLevels}
 
 -- it gives one refusal to everything
@@ -36,7 +40,7 @@ onePollMore (Done q n) = Done (q + 1) n
 onePollMore (Refused f q n) = Refused f (q + 1) n
 
 abbrev pub inventingDriver : Machine
-inventingDriver = record { next = λ d l xs. record { answer = onePollMore (driverNextOf d l xs .answer); driver = driverNextOf d l xs .driver }; leaves = λ d l xs. xs }
+inventingDriver = record { next = λ d l xs. record { answer = onePollMore (driverNextOf d l xs .answer); driver = driverNextOf d l xs .driver }; leaves = bufferOf }
 
 -- ours, but it hears the acknowledge of a slot through `ear`
 abbrev pub heardBy : (Slot → ℕ → ℕ) → Phase → ℕ → ℕ
@@ -102,15 +106,56 @@ lingering =
 abbrev pub nosy : Machine
 nosy = record { next = λ d l xs. cond (eqb l 0) (driverNextOf d l xs) (record { answer = Done 0 0; driver = d }); leaves = bufferOf }
 
--- the promise that breaks: refused says at which byte; done is the written-out list; an end within a formula; polls are sent; the
--- levels told for the list's acknowledges are low, but for the polls before the last of a page
+-- ours, but it puts what it has of a byte that is read into the buffer at every bit
+abbrev pub inRead : Phase → Bool
+inRead Ready = false
+inRead (Bits s b) = eqb (kindOf s) 6
+inRead (Heard s) = false
+inRead Rest = false
+inRead (Over f) = false
+
+abbrev pub bitByBit : Machine
+bitByBit = record { next = driverNextOf; leaves = λ d l xs. cond (inRead (d .phase)) (set xs (d .counts .at) (shiftOf (d .counts .byte) l)) xs }
+
+-- ours, but while it is under way each byte in the buffer is one too high; it reckons with that, and puts them right at each end
+abbrev pub restsIn : Phase → Bool
+restsIn Ready = true
+restsIn (Bits s b) = false
+restsIn (Heard s) = false
+restsIn Rest = false
+restsIn (Over f) = true
+
+abbrev pub scribbled : Phase → List ℕ → List ℕ
+scribbled p xs = cond (restsIn p) xs (map (λ (x : ℕ). x + 1) xs)
+
+abbrev pub righted : Phase → List ℕ → List ℕ
+righted p xs = cond (restsIn p) xs (map (λ (x : ℕ). x - 1) xs)
+
+abbrev pub scribbling : Machine
+scribbling =
+    record {
+      next = λ d l xs. driverNextOf d l (righted (d .phase) xs);
+      leaves = λ d l xs. scribbled (driverNextOf d l (righted (d .phase) xs) .driver .phase) (bufferOf d l (righted (d .phase) xs));
+    }
+
 pub record IdleDriversBreak : Type 0 where
-  pub refusing : (f : Refusal) → Promises (refusingDriver f) → ⊥
-  pub atOnce : Promises atOnce → ⊥
-  pub endless : Promises endless → ⊥
-  pub inventing : Promises inventingDriver → ⊥
-  pub deaf : Promises deaf → ⊥
-  pub halfDeaf : Promises halfDeaf → ⊥
-  pub deafTo : (s : Slot) → kindOf s < 6 → Promises (deafTo s) → ⊥
-  pub lingering : Promises lingering → ⊥
+  -- the refusal table: some requests are given 1, others 2
+  pub refusingBegin : (f : Refusal) → RequestNumbers (λ r. Judged f) → ⊥
+  -- refused says which byte was told as missed
+  pub refusing : (f : Refusal) → RefusedKept (refusingDriver f) → ⊥
+  -- done is the written-out list of events
+  pub atOnce : DoneKept atOnce → ⊥
+  -- an end within a formula
+  pub endless : OneEachKept endless → ⊥
+  -- polls reported are polls sent
+  pub inventing : PollsKept inventingDriver → ⊥
+  -- done: the levels told for the list's acknowledges are low, but for the polls before the last of a page
+  pub deaf : DoneKept deaf → ⊥
+  pub halfDeaf : DoneKept halfDeaf → ⊥
+  pub deafTo : (s : Slot) → kindOf s < 6 → DoneKept (deafTo s) → ⊥
+  pub lingering : DoneKept lingering → ⊥
+  -- no other level matters
   pub nosy : OnlyThoseLevels nosy → ⊥
+  -- the buffer at every moment
+  pub bitByBit : BufferKept bitByBit → ⊥
+  pub scribbling : BufferKept scribbling → ⊥
