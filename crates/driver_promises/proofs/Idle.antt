@@ -26,14 +26,14 @@ use Rattle.driver_promises.specs.Listens.{OnlyThoseLevels}
 use Rattle.driver_promises.specs.Idle.{refusingDriver, atOnce, endless, inventingDriver, deaf, halfDeaf, kindOf, deafTo, lingering, nosy, bitByBit, scribbling, IdleDriversBreak}
 
 -- a read of n bytes at 0, on part 0
-abbrev reading : ℕ → Request
+abbrev pub reading : ℕ → Request
 reading n = record { part = 0; enable = 0; place = Array (record { 0 = 0 }); reads = true; length = n; budget = 0 }
 
 none : Accepted (reading 0) []
 unfolding judgeOf soonerOf factsOf enableRightOf beyondAt limitOf
 none = record { fine = refl; size = refl }
 
-one : Accepted (reading 1) (90 ∷ [])
+pub one : Accepted (reading 1) (90 ∷ [])
 unfolding judgeOf soonerOf factsOf enableRightOf beyondAt limitOf
 one = record { fine = refl; size = refl }
 
