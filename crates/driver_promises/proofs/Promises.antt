@@ -29,6 +29,7 @@ use Rattle.driver_promises.specs.Plan.{writePlan, readPlan}
 use Rattle.driver_promises.specs.Heard.{ReadTold}
 use Rattle.driver_promises.specs.Where.{leftOf, Parts, Before, Stopped}
 use Rattle.driver_promises.specs.Promises.{Accepted, after, sent, answers, OneEach, PollsSent, DoneAll, DoneOf, RefusedAt, BufferSoFar, Promises}
+use Rattle.driver_promises.specs.Idle.{restsIn}
 use Rattle.driver_promises.proofs.View.{at, Way, w-done, w-open, w-bit, w-ninth, w-got, w-nack, w-high, w-only, w-low, w-turn, w-data, w-more, w-close, w-drop, w-poll, w-again, w-give, w-page, w-take, w-next, w-end, w-over, Steps}
 use Rattle.driver_promises.proofs.Inv.{left-all, left-none}
 use Rattle.driver_promises.proofs.Grow.{A, D, heads, over}
@@ -275,6 +276,15 @@ module _ (r : Request) (xs : List ℕ) (a : Accepted r xs) (ls : List ℕ) (l : 
   -- what an answer says, of the end of the run
   said : (b : Answer) → answers ourDriver r xs ls l ≡ b → Finished b → Says b r (R .phase) (R .counts)
   said b = back (λ (h : DriverHeld). answerTo ourDriver h l ≡ b → Finished b → Says b r (R .phase) (R .counts)) (says r xs (R .phase) (R .counts) (R .buffer) _ ls (R .story) l b)
+
+  -- who is finished has nothing under way
+  pub at-rest : Finished (answers ourDriver r xs ls l) → restsIn (after ourDriver r xs ls l .driver .phase) ≡ true
+  at-rest f = ap (λ (h : DriverHeld). restsIn (h .driver .phase)) (R .is) ∙ go (answers ourDriver r xs ls l) f (said _ refl f)
+    where
+      go : (b : Answer) → Finished b → Says b r (R .phase) (R .counts) → restsIn (R .phase) ≡ true
+      go (Send e) f s = absurd f
+      go (Done q m) f s = ap restsIn (s .0)
+      go (Refused g q m) f s = ap restsIn (s .1)
 
   pub polls-sent : PollsSent ourDriver r xs ls l
   polls-sent =

@@ -159,3 +159,10 @@ pub record IdleDriversBreak : Type 0 where
   -- the buffer at every moment
   pub bitByBit : BufferKept bitByBit → ⊥
   pub scribbling : BufferKept scribbling → ⊥
+
+-- and the buffer's promise stands by itself: the last driver keeps the four others
+pub record ScribblingKeeps : Type 0 where
+  pub one-each : OneEachKept scribbling
+  pub polls-sent : PollsKept scribbling
+  pub done-all : DoneKept scribbling
+  pub refused-at : RefusedKept scribbling
