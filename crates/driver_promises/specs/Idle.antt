@@ -40,7 +40,8 @@ onePollMore (Done q n) = Done (q + 1) n
 onePollMore (Refused f q n) = Refused f (q + 1) n
 
 abbrev pub inventingDriver : Machine
-inventingDriver = record { next = λ d l xs. record { answer = onePollMore (driverNextOf d l xs .answer); driver = driverNextOf d l xs .driver }; leaves = bufferOf }
+inventingDriver =
+    record { next = λ d l xs. record { answer = onePollMore (driverNextOf d l xs .answer); driver = driverNextOf d l xs .driver }; leaves = bufferOf }
 
 -- ours, but it hears the acknowledge of a slot through `ear`
 abbrev pub heardBy : (Slot → ℕ → ℕ) → Phase → ℕ → ℕ

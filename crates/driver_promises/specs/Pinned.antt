@@ -7,7 +7,7 @@ use mathlib.Core.Path.{_≡_}
 use mathlib.Core.List.{List}
 use Rattle.driver.specs.declared.Request.{Request}
 use Rattle.driver.specs.Machine.{Machine}
-use Rattle.driver_promises.specs.Promises.{Accepted, after, sent, answers, Promises}
+use Rattle.driver_promises.specs.Promises.{after, sent, answers, Always, Promises}
 
 pub record Twins (M N : Machine) (r : Request) (xs ls : List ℕ) (l : ℕ) : Type 0 where
   pub events : sent M r xs ls l ≡ sent N r xs ls l
@@ -16,4 +16,4 @@ pub record Twins (M N : Machine) (r : Request) (xs ls : List ℕ) (l : ℕ) : Ty
   pub buffer : after M r xs ls l .buffer ≡ after N r xs ls l .buffer
 
 abbrev pub Pinned : Type 0
-Pinned = (M N : Machine) → Promises M → Promises N → (r : Request) (xs : List ℕ) → Accepted r xs → (ls : List ℕ) (l : ℕ) → Twins M N r xs ls l
+Pinned = (M N : Machine) → Promises M → Promises N → Always (λ r xs ls l. Twins M N r xs ls l)

@@ -110,22 +110,26 @@ module _ (M : Machine) (r : Request) (xs : List ℕ) (ls : List ℕ) (l : ℕ) w
     pub got : r .reads ≡ true → (i : ℕ) → i < r .length → clockOfByte r i + 8 < length sent → getD (after .buffer) i 0 ≡ toldByte ls (clockOfByte r i) 8
     pub before : r .reads ≡ true → (i : ℕ) → i < r .length → length sent ≤ clockOfByte r i + 8 → getD (after .buffer) i 0 ≡ getD xs i 0
 
--- ---- each of the five, for every accepted request, any levels and every moment
+-- for every accepted request, any levels and every moment
+abbrev pub Always : (Request → List ℕ → List ℕ → ℕ → Type 0) → Type 0
+Always P = (r : Request) (xs : List ℕ) → Accepted r xs → (ls : List ℕ) (l : ℕ) → P r xs ls l
+
+-- each of the five
 module _ (M : Machine) where
   abbrev pub OneEachKept : Type 0
-  OneEachKept = (r : Request) (xs : List ℕ) → Accepted r xs → (ls : List ℕ) (l : ℕ) → OneEach M r xs ls l
+  OneEachKept = Always (λ r xs ls l. OneEach M r xs ls l)
 
   abbrev pub PollsKept : Type 0
-  PollsKept = (r : Request) (xs : List ℕ) → Accepted r xs → (ls : List ℕ) (l : ℕ) → PollsSent M r xs ls l
+  PollsKept = Always (λ r xs ls l. PollsSent M r xs ls l)
 
   abbrev pub DoneKept : Type 0
-  DoneKept = (r : Request) (xs : List ℕ) → Accepted r xs → (ls : List ℕ) (l q m : ℕ) → answers M r xs ls l ≡ Done q m → DoneAll M r xs ls l q m
+  DoneKept = Always (λ r xs ls l. (q m : ℕ) → answers M r xs ls l ≡ Done q m → DoneAll M r xs ls l q m)
 
   abbrev pub RefusedKept : Type 0
-  RefusedKept = (r : Request) (xs : List ℕ) → Accepted r xs → (ls : List ℕ) (l q m : ℕ) (f : Refusal) → answers M r xs ls l ≡ Refused f q m → RefusedAt M r xs ls l f q m
+  RefusedKept = Always (λ r xs ls l. (q m : ℕ) (f : Refusal) → answers M r xs ls l ≡ Refused f q m → RefusedAt M r xs ls l f q m)
 
   abbrev pub BufferKept : Type 0
-  BufferKept = (r : Request) (xs : List ℕ) → Accepted r xs → (ls : List ℕ) (l : ℕ) → BufferSoFar M r xs ls l
+  BufferKept = Always (λ r xs ls l. BufferSoFar M r xs ls l)
 
 -- together
 pub record Promises (M : Machine) : Type 0 where

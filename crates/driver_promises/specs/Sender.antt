@@ -15,7 +15,7 @@ use Rattle.driver.specs.Request.{kOf}
 use Rattle.driver.specs.Machine.{Machine, ourDriver}
 use Rattle.driver_promises.specs.Run.{DriverHeld, begun, sentBy, told}
 use Rattle.driver_promises.specs.Plan.{writePlan, readPlan}
-use Rattle.driver_promises.specs.Promises.{Accepted, after, sent, answers}
+use Rattle.driver_promises.specs.Promises.{after, sent, answers, Always}
 
 -- a machine, and what it puts on the bus when it is told a level
 pub record Sender : Type 0 where
@@ -38,12 +38,11 @@ module _ (S : Sender) where
 
   -- at every moment the one event that it answers, and none when it is finished
   abbrev pub OneEventAStep : Type 0
-  OneEventAStep = (r : Request) (xs : List ℕ) → Accepted r xs → (ls : List ℕ) (l : ℕ) → puts (after (S .machine) r xs ls l) l ≡ sentBy (answers (S .machine) r xs ls l)
+  OneEventAStep = Always (λ r xs ls l. puts (after (S .machine) r xs ls l) l ≡ sentBy (answers (S .machine) r xs ls l))
 
 -- so the promises, which speak of the events that the answers send, speak of the bus
 abbrev pub SentIsOnBus : Type 0
-SentIsOnBus =
-    (S : Sender) → OneEventAStep S → (r : Request) (xs : List ℕ) → Accepted r xs → (ls : List ℕ) (l : ℕ) → onBus S (begun r xs) ls ≡ sent (S .machine) r xs ls l
+SentIsOnBus = (S : Sender) → OneEventAStep S → Always (λ r xs ls l. onBus S (begun r xs) ls ≡ sent (S .machine) r xs ls l)
 
 -- ---- it does all its work in the first step, and idles after: the whole list, of a write with one poll a page, then only that it is done
 abbrev pub planOf : Request → List ℕ → List ℕ
