@@ -14,5 +14,6 @@ pub mod Shut
 pub mod Replay
 pub mod Calls
 pub mod Numbers
+pub mod Rest
 pub mod Idle
 pub mod Trials
