@@ -47,8 +47,9 @@ use Rattle.bench.specs.Calls.{otherLengthOf, shortOf, lateOf, reportBy, benchVe
 use Rattle.bench_promises.specs.Ends.{Writable}
 use Rattle.bench_promises.specs.Calls.{Bench, ourBench, Called}
 use Rattle.bench_promises.specs.Numbers.{Judge, BenchNumbers}
-use Rattle.bench_promises.specs.Idle.{refusingJudge, benchUnder, OursUnder, WritesKept, ReadsKept, ReadsBackKept, EndsKept, RefusesKept, ReplaysKept, EachIsPromised, refusingBench, RefusingRunBreaks, ConstantRunBreaks, forgetful, ForgetfulRunBreaks, InventingRunBreaks, CountsFromTape, boasting, blind, untold, OtherRunsBreak}
+use Rattle.bench_promises.specs.Idle.{refusingJudge, benchUnder, OursUnder, WritesKept, ReadsKept, ReadsBackKept, EndsKept, RefusesKept, ReplaysKept, EachIsPromised, refusingBench, RefusingRunBreaks, ConstantRunBreaks, forgetful, ForgetfulRunBreaks, InventingRunBreaks, CountsFromTape, RunInventsNothing, boasting, blind, untold, OtherRunsBreak}
 use Rattle.bench_promises.proofs.Calls.{bench-promises}
+use Rattle.bench_promises.proofs.Recount.{same-events}
 use Rattle.bench_promises.proofs.Rest.{says, Rests, after, report-is, memory-is, buffer-is}
 
 pub ours-under : OursUnder
@@ -341,6 +342,10 @@ counts-from-tape B p r en d c m ys e =
     let a = p r en d c m ys in
     let b = bench-promises .replays r en d c m ys in
     (sym (a .cycles) ∙ (ap (cyclesOf (ours (factsOf (r .part)) en) c) e ∙ b .cycles), sym (a .clocks) ∙ (ap clocksIn e ∙ b .clocks))
+
+pub run-invents-nothing : RunInventsNothing
+run-invents-nothing count p r en d c m ys =
+    counts-from-tape (benchUnder ourDriver (inventingModel count)) p r en d c m ys (same-events ourDriver count r en d c m ys) .0
 
 -- ---- more of the kind
 

@@ -15,5 +15,6 @@ pub mod Replay
 pub mod Calls
 pub mod Numbers
 pub mod Rest
+pub mod Recount
 pub mod Idle
 pub mod Trials

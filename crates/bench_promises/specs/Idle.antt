@@ -53,21 +53,21 @@ module _ (B : Bench) where
   -- demand 2: written and read back
   abbrev pub ReadsBackKept : Type 0
   ReadsBackKept =
-      (r : Request) (d e : ℕ) (c : Chip) (m : Mem) (ys zs : List ℕ) → Called r d c m ys → Typed c → r .reads ≡ false → B .report r (r .enable) d c m ys .verdict ≡ Fine
-      → 1 ≤ e → e ≤ 65535 → r .length ≤ length zs → AllBelow 256 zs
+      (r : Request) (d e : ℕ) (c : Chip) (m : Mem) (ys zs : List ℕ) → Called r d c m ys → Typed c → r .reads ≡ false
+      → B .report r (r .enable) d c m ys .verdict ≡ Fine → 1 ≤ e → e ≤ 65535 → r .length ≤ length zs → AllBelow 256 zs
       → B .buffer (readOf r) (r .enable) e (B .report r (r .enable) d c m ys .chip) (B .memory r (r .enable) d c m ys) zs ≡ ys ++ drop (r .length) zs
 
   -- demand 3: "ends done and not refused", with one cycle for each page
   abbrev pub EndsKept : Type 0
   EndsKept =
-      (r : Request) (d : ℕ) (c : Chip) (m : Mem) (ys : List ℕ) → Called r d c m ys → r .reads ≡ false → Writable (r .place) (c .line .core) → d ≤ r .budget
-      → Ended B r (r .enable) d c m ys
+      (r : Request) (d : ℕ) (c : Chip) (m : Mem) (ys : List ℕ) → Called r d c m ys → r .reads ≡ false → Writable (r .place) (c .line .core)
+      → d ≤ r .budget → Ended B r (r .enable) d c m ys
 
   -- refusal 11, with the polls that the budget allows
   abbrev pub UsesUpKept : Type 0
   UsesUpKept =
-      (r : Request) (d : ℕ) (c : Chip) (m : Mem) (ys : List ℕ) → Called r d c m ys → r .reads ≡ false → Writable (r .place) (c .line .core) → 1 ≤ r .length → r .budget < d
-      → UsedUp B r (r .enable) d c m ys
+      (r : Request) (d : ℕ) (c : Chip) (m : Mem) (ys : List ℕ) → Called r d c m ys → r .reads ≡ false → Writable (r .place) (c .line .core)
+      → 1 ≤ r .length → r .budget < d → UsedUp B r (r .enable) d c m ys
 
   -- a refused call gives the number of the refusal table
   abbrev pub RefusesKept : Type 0
@@ -168,8 +168,15 @@ pub record InventingRunBreaks : Type 0 where
 -- whoever keeps the tape and sends what ours sends counts the cycles and the clocks that ours counts
 abbrev pub CountsFromTape : Type 0
 CountsFromTape =
-    (B : Bench) → ReplaysKept B → (r : Request) (en d : ℕ) (c : Chip) (m : Mem) (ys : List ℕ) → B .events r en d c m ys ≡ ourBench .events r en d c m ys
+    (B : Bench) → ReplaysKept B → (r : Request) (en d : ℕ) (c : Chip) (m : Mem) (ys : List ℕ)
+    → B .events r en d c m ys ≡ ourBench .events r en d c m ys
     → (B .report r en d c m ys .cycles ≡ ourBench .report r en d c m ys .cycles) × (B .report r en d c m ys .clocks ≡ ourBench .report r en d c m ys .clocks)
+
+-- so does our driver on a chip that is ours but for the cycles it says it begins, whatever it says
+abbrev pub RunInventsNothing : Type 0
+RunInventsNothing =
+    (count : Chip → ℕ → ℕ) → ReplaysKept (benchUnder ourDriver (inventingModel count)) → (r : Request) (en d : ℕ) (c : Chip) (m : Mem) (ys : List ℕ)
+    → benchUnder ourDriver (inventingModel count) .report r en d c m ys .cycles ≡ ourBench .report r en d c m ys .cycles
 
 -- ---- more of the kind
 
