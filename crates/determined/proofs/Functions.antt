@@ -68,7 +68,8 @@ use Rattle.determined.specs.Functions.{
   DriverPackDetermined,
   DriverUnpackDetermined,
 }
-use Rattle.determined.proofs.Answers.{agree, same, plainly}
+use Rattle.determined.proofs.Answers.{agree, same, plainly, of-machine}
+use Rattle.determined.proofs.Machines.{deliver-is, step-is, run-is, save-is, load-is, trace-is, begin-is, next-is-our-driver, bench-record-is-our-bench, bench-run-is-our-bench, sapwoodle-deliver-is, sapwoodle-step-is, sapwoodle-run-is, sapwoodle-save-is, sapwoodle-load-is, sapwoodle-driver-begin-is, sapwoodle-driver-next-is, sapwoodle-bench-run-is, sapwoodle-trace-is}
 
 pub facts-of-determined : FactsOfDetermined
 facts-of-determined = record { taken = λ κs a. tt; equal = λ κs a x y p q. same (agree (p .0) (q .0)) refl }
@@ -158,25 +159,13 @@ pub standby-determined : StandbyDetermined
 standby-determined = plainly (λ κs a u v. refl)
 
 pub deliver-determined : DeliverDetermined
-deliver-determined = record {
-  taken = λ κs a. tt;
-  equal = λ κs a x y p q. same (agree (p .0) (q .0))
-      (λ i. (tt, (agree (p .1 .0) (q .1 .0) i, (agree (p .1 .1) (q .1 .1) i, tt))));
-}
+deliver-determined = of-machine (λ κs a. tt) deliver-is
 
 pub step-determined : StepDetermined
-step-determined = record {
-  taken = λ κs a. tt;
-  equal = λ κs a x y p q. same (agree (p .0) (q .0))
-      (λ i. (tt, (tt, (tt, (agree (p .1 .0) (q .1 .0) i, (agree (p .1 .1) (q .1 .1) i, (tt, tt)))))));
-}
+step-determined = of-machine (λ κs a. tt) step-is
 
 pub chip-run-determined : ChipRunDetermined
-chip-run-determined = record {
-  taken = λ κs a. tt;
-  equal = λ κs a x y p q. same (agree (p .0) (q .0))
-      (λ i. (tt, (tt, (tt, (agree (p .1 .0) (q .1 .0) i .cells, (agree (p .1 .0) (q .1 .0) i .ident, (tt, (agree (p .1 .1) (q .1 .1) i, tt))))))));
-}
+chip-run-determined = of-machine (λ κs a. tt) run-is
 
 pub look-refusal-determined : LookRefusalDetermined
 look-refusal-determined = plainly (λ κs a u v. refl)
@@ -188,18 +177,10 @@ look-determined = record {
 }
 
 pub save-determined : SaveDetermined
-save-determined = record {
-  taken = λ κs a. tt;
-  equal = λ κs a x y p q. same (agree (p .0) (q .0))
-      (λ i. (tt, (tt, (tt, (tt, (agree (p .1) (q .1) i, tt))))));
-}
+save-determined = of-machine (λ κs a. tt) save-is
 
 pub load-determined : LoadDetermined
-load-determined = record {
-  taken = λ κs a. tt;
-  equal = λ κs a x y p q. same (agree (p .0) (q .0))
-      (λ i. (tt, (tt, (agree (p .1 .0) (q .1 .0) i, (agree (p .1 .1) (q .1 .1) i, tt)))));
-}
+load-determined = of-machine (λ κs a. tt) load-is
 
 pub letters-determined : LettersDetermined
 letters-determined = record {
@@ -211,11 +192,7 @@ pub code-of-determined : CodeOfDetermined
 code-of-determined = plainly (λ κs a u v. refl)
 
 pub trace-determined : TraceDetermined
-trace-determined = record {
-  taken = λ κs a. tt;
-  equal = λ κs a x y p q. same (agree (p .0) (q .0))
-      (λ i. (tt, (agree (p .1) (q .1) i, tt)));
-}
+trace-determined = of-machine (λ κs a. tt) trace-is
 
 pub judge-determined : JudgeDetermined
 judge-determined = plainly (λ κs a u v. refl)
@@ -227,28 +204,16 @@ pub allowed-determined : AllowedDetermined
 allowed-determined = plainly (λ κs a u v. refl)
 
 pub begin-determined : BeginDetermined
-begin-determined = plainly (λ κs a u v. refl)
+begin-determined = of-machine (λ κs a. tt) begin-is
 
 pub next-determined : NextDetermined
-next-determined = record {
-  taken = λ κs a. tt;
-  equal = λ κs a x y p q. same (agree (p .0) (q .0))
-      (λ i. (tt, (tt, (agree (p .1) (q .1) i, tt))));
-}
+next-determined = of-machine (λ κs a. tt) next-is-our-driver
 
 pub bench-record-determined : BenchRecordDetermined
-bench-record-determined = record {
-  taken = λ κs a. tt;
-  equal = λ κs a x y p q. same (λ i. record { report = agree (p .0) (q .0) i; sent = agree (p .1 .1 .1 .0) (q .1 .1 .1 .0) i })
-      (λ i. (tt, (tt, (tt, (tt, (agree (p .1 .0) (q .1 .0) i .cells, (agree (p .1 .0) (q .1 .0) i .ident, (agree (p .1 .1 .0) (q .1 .1 .0) i, (agree (p .1 .1 .1 .1 .0) (q .1 .1 .1 .1 .0) i, (agree (p .1 .1 .1 .1 .1) (q .1 .1 .1 .1 .1) i, tt))))))))));
-}
+bench-record-determined = of-machine (λ κs a. tt) bench-record-is-our-bench
 
 pub bench-run-determined : BenchRunDetermined
-bench-run-determined = record {
-  taken = λ κs a. tt;
-  equal = λ κs a x y p q. same (agree (p .0) (q .0))
-      (λ i. (tt, (tt, (tt, (tt, (agree (p .1 .0) (q .1 .0) i .cells, (agree (p .1 .0) (q .1 .0) i .ident, (agree (p .1 .1) (q .1 .1) i, tt))))))));
-}
+bench-run-determined = of-machine (λ κs a. tt) bench-run-is-our-bench
 
 pub driver-pack-determined : DriverPackDetermined
 driver-pack-determined = record {
@@ -286,64 +251,28 @@ pub sapwoodle-driver-length-determined : SapwoodleDriverLengthDetermined
 sapwoodle-driver-length-determined = plainly (λ κs a u v. refl)
 
 pub sapwoodle-deliver-determined : SapwoodleDeliverDetermined
-sapwoodle-deliver-determined = record {
-  taken = λ κs a. tt;
-  equal = λ κs a x y p q. same (agree (p .0) (q .0))
-      (λ i. (tt, (agree (p .1 .0) (q .1 .0) i, (agree (p .1 .1 .0) (q .1 .1 .0) i, (agree (p .1 .1 .1) (q .1 .1 .1) i, tt)))));
-}
+sapwoodle-deliver-determined = of-machine (λ κs a. tt) sapwoodle-deliver-is
 
 pub sapwoodle-step-determined : SapwoodleStepDetermined
-sapwoodle-step-determined = record {
-  taken = λ κs a. tt;
-  equal = λ κs a x y p q. same (agree (p .0) (q .0))
-      (λ i. (tt, (tt, (agree (p .1 .0) (q .1 .0) i, (agree (p .1 .1 .0) (q .1 .1 .0) i, (agree (p .1 .1 .1 .0) (q .1 .1 .1 .0) i, (tt, (agree (p .1 .1 .1 .1 .0) (q .1 .1 .1 .1 .0) i, (agree (p .1 .1 .1 .1 .1) (q .1 .1 .1 .1 .1) i, tt)))))))));
-}
+sapwoodle-step-determined = of-machine (λ κs a. tt) sapwoodle-step-is
 
 pub sapwoodle-run-determined : SapwoodleRunDetermined
-sapwoodle-run-determined = record {
-  taken = λ κs a. tt;
-  equal = λ κs a x y p q. same (agree (p .0) (q .0))
-      (λ i. (tt, (tt, (agree (p .1 .0) (q .1 .0) i, (agree (p .1 .1 .0) (q .1 .1 .0) i .cells, (agree (p .1 .1 .0) (q .1 .1 .0) i .ident, (tt, (agree (p .1 .1 .1 .0) (q .1 .1 .1 .0) i, (agree (p .1 .1 .1 .1 .0) (q .1 .1 .1 .1 .0) i, (agree (p .1 .1 .1 .1 .1) (q .1 .1 .1 .1 .1) i, tt))))))))));
-}
+sapwoodle-run-determined = of-machine (λ κs a. tt) sapwoodle-run-is
 
 pub sapwoodle-save-determined : SapwoodleSaveDetermined
-sapwoodle-save-determined = record {
-  taken = λ κs a. tt;
-  equal = λ κs a x y p q. same (agree (p .0) (q .0))
-      (λ i. (tt, (tt, (tt, (tt, (agree (p .1 .0) (q .1 .0) i, (agree (p .1 .1) (q .1 .1) i, tt)))))));
-}
+sapwoodle-save-determined = of-machine (λ κs a. tt) sapwoodle-save-is
 
 pub sapwoodle-load-determined : SapwoodleLoadDetermined
-sapwoodle-load-determined = record {
-  taken = λ κs a. tt;
-  equal = λ κs a x y p q. same (agree (p .0) (q .0))
-      (λ i. (tt, (tt, (agree (p .1 .0) (q .1 .0) i, (agree (p .1 .1 .0) (q .1 .1 .0) i, (agree (p .1 .1 .1 .0) (q .1 .1 .1 .0) i, (agree (p .1 .1 .1 .1) (q .1 .1 .1 .1) i, tt)))))));
-}
+sapwoodle-load-determined = of-machine (λ κs a. tt) sapwoodle-load-is
 
 pub sapwoodle-driver-begin-determined : SapwoodleDriverBeginDetermined
-sapwoodle-driver-begin-determined = record {
-  taken = λ κs a. tt;
-  equal = λ κs a x y p q. same (agree (p .0) (q .0))
-      (λ i. (tt, (tt, (tt, (tt, (tt, (tt, (agree (p .1) (q .1) i, tt))))))));
-}
+sapwoodle-driver-begin-determined = of-machine (λ κs a. tt) sapwoodle-driver-begin-is
 
 pub sapwoodle-driver-next-determined : SapwoodleDriverNextDetermined
-sapwoodle-driver-next-determined = record {
-  taken = λ κs a. tt;
-  equal = λ κs a x y p q. same (agree (p .0) (q .0))
-      (λ i. (agree (p .1 .0) (q .1 .0) i, (tt, (agree (p .1 .1 .0) (q .1 .1 .0) i, (agree (p .1 .1 .1 .0) (q .1 .1 .1 .0) i, (agree (p .1 .1 .1 .1 .0) (q .1 .1 .1 .1 .0) i, (agree (p .1 .1 .1 .1 .1) (q .1 .1 .1 .1 .1) i, tt)))))));
-}
+sapwoodle-driver-next-determined = of-machine (λ κs a. tt) sapwoodle-driver-next-is
 
 pub sapwoodle-bench-run-determined : SapwoodleBenchRunDetermined
-sapwoodle-bench-run-determined = record {
-  taken = λ κs a. tt;
-  equal = λ κs a x y p q. same (agree (p .0) (q .0))
-      (λ i. (tt, (tt, (tt, (tt, (tt, (tt, (tt, (tt, (agree (p .1 .0) (q .1 .0) i, (agree (p .1 .1 .0) (q .1 .1 .0) i .cells, (agree (p .1 .1 .0) (q .1 .1 .0) i .ident, (agree (p .1 .1 .1 .0) (q .1 .1 .1 .0) i, (agree (p .1 .1 .1 .1 .0) (q .1 .1 .1 .1 .0) i, (agree (p .1 .1 .1 .1 .1 .0) (q .1 .1 .1 .1 .1 .0) i, (agree (p .1 .1 .1 .1 .1 .1 .0) (q .1 .1 .1 .1 .1 .1 .0) i, (agree (p .1 .1 .1 .1 .1 .1 .1) (q .1 .1 .1 .1 .1 .1 .1) i, tt)))))))))))))))));
-}
+sapwoodle-bench-run-determined = of-machine (λ κs a. tt) sapwoodle-bench-run-is
 
 pub sapwoodle-trace-determined : SapwoodleTraceDetermined
-sapwoodle-trace-determined = record {
-  taken = λ κs a. tt;
-  equal = λ κs a x y p q. same (agree (p .0) (q .0))
-      (λ i. (tt, (agree (p .1 .0) (q .1 .0) i, (agree (p .1 .1) (q .1 .1) i, tt))));
-}
+sapwoodle-trace-determined = of-machine (λ κs a. tt) sapwoodle-trace-is

@@ -1,2 +1,3 @@
 pub mod Determined
 pub mod Functions
+pub mod Machines

@@ -1,0 +1,63 @@
+-- Each contract allows the machine's answer alone. `p` is what the contract says of an answer, one part for each clause, in the clauses'
+-- order; what is left is a row of the parameters.
+-- Assumes nothing.
+use mathlib.Core.Path.{refl}
+use Rattle.determined.specs.Machines.{DeliverIs, StepIs, RunIs, SaveIs, LoadIs, TraceIs, BeginIs, NextIsOurDriver, BenchRecordIsOurBench, BenchRunIsOurBench, SapwoodleDeliverIs, SapwoodleStepIs, SapwoodleRunIs, SapwoodleSaveIs, SapwoodleLoadIs, SapwoodleDriverBeginIs, SapwoodleDriverNextIs, SapwoodleBenchRunIs, SapwoodleTraceIs}
+use Rattle.determined.proofs.Answers.{same}
+
+pub deliver-is : DeliverIs
+deliver-is = λ κs a x p. same (p .0) (λ i. (tt, (p .1 .0 i, (p .1 .1 i, tt))))
+
+pub step-is : StepIs
+step-is = λ κs a x p. same (p .0) (λ i. (tt, (tt, (tt, (p .1 .0 i, (p .1 .1 i, (tt, tt)))))))
+
+pub run-is : RunIs
+run-is = λ κs a x p. same (p .0) (λ i. (tt, (tt, (tt, (p .1 .0 i .cells, (p .1 .0 i .ident, (tt, (p .1 .1 i, tt))))))))
+
+pub save-is : SaveIs
+save-is = λ κs a x p. same (p .0) (λ i. (tt, (tt, (tt, (tt, (p .1 i, tt))))))
+
+pub load-is : LoadIs
+load-is = λ κs a x p. same (p .0) (λ i. (tt, (tt, (p .1 .0 i, (p .1 .1 i, tt)))))
+
+pub trace-is : TraceIs
+trace-is = λ κs a x p. same (p .0) (λ i. (tt, (p .1 i, tt)))
+
+pub begin-is : BeginIs
+begin-is = λ κs a x p. same p refl
+
+pub next-is-our-driver : NextIsOurDriver
+next-is-our-driver = λ κs a x p. same (p .0) (λ i. (tt, (tt, (p .1 i, tt))))
+
+pub bench-record-is-our-bench : BenchRecordIsOurBench
+bench-record-is-our-bench = λ κs a x p. same (λ i. record { report = p .0 i; sent = p .1 .1 .1 .0 i }) (λ i. (tt, (tt, (tt, (tt, (p .1 .0 i .cells, (p .1 .0 i .ident, (p .1 .1 .0 i, (p .1 .1 .1 .1 .0 i, (p .1 .1 .1 .1 .1 i, tt))))))))))
+
+pub bench-run-is-our-bench : BenchRunIsOurBench
+bench-run-is-our-bench = λ κs a x p. same (p .0) (λ i. (tt, (tt, (tt, (tt, (p .1 .0 i .cells, (p .1 .0 i .ident, (p .1 .1 i, tt))))))))
+
+pub sapwoodle-deliver-is : SapwoodleDeliverIs
+sapwoodle-deliver-is = λ κs a x p. same (p .0) (λ i. (tt, (p .1 .0 i, (p .1 .1 .0 i, (p .1 .1 .1 i, tt)))))
+
+pub sapwoodle-step-is : SapwoodleStepIs
+sapwoodle-step-is = λ κs a x p. same (p .0) (λ i. (tt, (tt, (p .1 .0 i, (p .1 .1 .0 i, (p .1 .1 .1 .0 i, (tt, (p .1 .1 .1 .1 .0 i, (p .1 .1 .1 .1 .1 i, tt)))))))))
+
+pub sapwoodle-run-is : SapwoodleRunIs
+sapwoodle-run-is = λ κs a x p. same (p .0) (λ i. (tt, (tt, (p .1 .0 i, (p .1 .1 .0 i .cells, (p .1 .1 .0 i .ident, (tt, (p .1 .1 .1 .0 i, (p .1 .1 .1 .1 .0 i, (p .1 .1 .1 .1 .1 i, tt))))))))))
+
+pub sapwoodle-save-is : SapwoodleSaveIs
+sapwoodle-save-is = λ κs a x p. same (p .0) (λ i. (tt, (tt, (tt, (tt, (p .1 .0 i, (p .1 .1 i, tt)))))))
+
+pub sapwoodle-load-is : SapwoodleLoadIs
+sapwoodle-load-is = λ κs a x p. same (p .0) (λ i. (tt, (tt, (p .1 .0 i, (p .1 .1 .0 i, (p .1 .1 .1 .0 i, (p .1 .1 .1 .1 i, tt)))))))
+
+pub sapwoodle-driver-begin-is : SapwoodleDriverBeginIs
+sapwoodle-driver-begin-is = λ κs a x p. same (p .0) (λ i. (tt, (tt, (tt, (tt, (tt, (tt, (p .1 i, tt))))))))
+
+pub sapwoodle-driver-next-is : SapwoodleDriverNextIs
+sapwoodle-driver-next-is = λ κs a x p. same (p .0) (λ i. (p .1 .0 i, (tt, (p .1 .1 .0 i, (p .1 .1 .1 .0 i, (p .1 .1 .1 .1 .0 i, (p .1 .1 .1 .1 .1 i, tt)))))))
+
+pub sapwoodle-bench-run-is : SapwoodleBenchRunIs
+sapwoodle-bench-run-is = λ κs a x p. same (p .0) (λ i. (tt, (tt, (tt, (tt, (tt, (tt, (tt, (tt, (p .1 .0 i, (p .1 .1 .0 i .cells, (p .1 .1 .0 i .ident, (p .1 .1 .1 .0 i, (p .1 .1 .1 .1 .0 i, (p .1 .1 .1 .1 .1 .0 i, (p .1 .1 .1 .1 .1 .1 .0 i, (p .1 .1 .1 .1 .1 .1 .1 i, tt)))))))))))))))))
+
+pub sapwoodle-trace-is : SapwoodleTraceIs
+sapwoodle-trace-is = λ κs a x p. same (p .0) (λ i. (tt, (p .1 .0 i, (p .1 .1 i, tt))))

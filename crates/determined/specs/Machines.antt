@@ -1,0 +1,185 @@
+-- From the promises to the code without the eye: what a contract allows, read as Determined.antt reads it, is what the machine answers
+-- and leaves of which the promises speak. `a .0`, `a .1 .0`, .. are the function's parameters in order; behind `left` stands, parameter by
+-- parameter, what is left in each buffer and variable lent for a change, and `tt` for any other.
+-- Assumes nothing.
+use mathlib.Core.Path.{_≡_}
+use contract.Lifetimes.{Lfts}
+use denote.Triple.Entry.{Args}
+use denote.Triple.Clauses.{Ended}
+use Rattle.parts.specs.Refusals.{verdictNumberOf}
+use Rattle.chip.specs.Memory.{mem}
+use Rattle.chip.specs.Calls.{deliverOf, stepOf, runOf}
+use Rattle.image.specs.Calls.{saving, loading}
+use Rattle.trace.specs.Trace.{traceOf, layingOf}
+use Rattle.driver.specs.Step.{beginOf}
+use Rattle.driver.specs.Machine.{ourDriver}
+use Rattle.bench.specs.Tape.{laidOf}
+use Rattle.bench_promises.specs.Calls.{ourBench}
+use lib.ListN.{length}
+use Rattle.sapwoodle.specs.Chips.{stepping, running, delivering}
+use Rattle.sapwoodle.specs.Images.{savingBytes, loadingBytes}
+use Rattle.sapwoodle.specs.Drivers.{requestOf, beginning, asking}
+use Rattle.sapwoodle.specs.Runs.{benching}
+use Rattle.chip.proofs.deliver as deliver
+use Rattle.chip.proofs.step as step
+use Rattle.chip.proofs.run as chip-run
+use Rattle.image.proofs.save as save
+use Rattle.image.proofs.load as load
+use Rattle.trace.proofs.trace as trace
+use Rattle.driver.proofs.begin as begin
+use Rattle.driver.proofs.next as next
+use Rattle.bench.proofs.record as bench-record
+use Rattle.bench.proofs.run as bench-run
+use Rattle.sapwoodle.proofs.chips.sapwoodle_deliver as sapwoodle-deliver
+use Rattle.sapwoodle.proofs.chips.sapwoodle_step as sapwoodle-step
+use Rattle.sapwoodle.proofs.chips.sapwoodle_run as sapwoodle-run
+use Rattle.sapwoodle.proofs.images.sapwoodle_save as sapwoodle-save
+use Rattle.sapwoodle.proofs.images.sapwoodle_load as sapwoodle-load
+use Rattle.sapwoodle.proofs.drivers.sapwoodle_driver_begin as sapwoodle-driver-begin
+use Rattle.sapwoodle.proofs.drivers.sapwoodle_driver_next as sapwoodle-driver-next
+use Rattle.sapwoodle.proofs.runs.sapwoodle_bench_run as sapwoodle-bench-run
+use Rattle.sapwoodle.proofs.sapwoodle_trace as sapwoodle-trace
+use Rattle.determined.specs.Determined.{Learnt, AnswerTo, Allows}
+
+-- every answer that a contract allows is the one of f
+abbrev pub Is : (e : Ended) → Learnt e → ((κs : Lfts (e .signature .lifetimes)) (a : Args (e .signature) κs) → AnswerTo e κs a) → Type 0
+Is e learnt f = (κs : Lfts (e .signature .lifetimes)) (a : Args (e .signature) κs) (x : AnswerTo e κs a) → Allows e learnt κs a x → x ≡ f κs a
+
+-- ---- the chip
+
+abbrev pub DeliverIs : Type 0
+DeliverIs =
+    Is deliver.ended deliver.Reads.Learnt
+    (λ κs a.
+    let m = deliverOf (a .0) (mem (a .1 .0 .now) (a .1 .1 .0 .now)) in
+    record { result = m .answer; left = (tt, (m .mem .cells, (m .mem .ident, tt))) })
+
+abbrev pub StepIs : Type 0
+StepIs =
+    Is step.ended step.Reads.Learnt
+    (λ κs a.
+    let m = stepOf (a .0) (a .1 .0) (a .1 .1 .0) (mem (a .1 .1 .1 .0 .now) (a .1 .1 .1 .1 .0 .now)) (a .1 .1 .1 .1 .1 .0) in
+    record { result = m .answer; left = (tt, (tt, (tt, (m .mem .cells, (m .mem .ident, (tt, tt)))))) })
+
+abbrev pub RunIs : Type 0
+RunIs =
+    Is chip-run.ended chip-run.Reads.Learnt
+    (λ κs a.
+    let m = runOf (a .0) (a .1 .0) (a .1 .1 .0) (mem (a .1 .1 .1 .0 .now) (a .1 .1 .1 .1 .0 .now)) (a .1 .1 .1 .1 .1 .0 .now) (a .1 .1 .1 .1 .1 .1 .0 .now) in
+    record { result = m .answer; left = (tt, (tt, (tt, (m .mem .cells, (m .mem .ident, (tt, (m .answers, tt))))))) })
+
+-- ---- image and trace
+
+abbrev pub SaveIs : Type 0
+SaveIs =
+    Is save.ended save.Reads.Learnt
+    (λ κs a.
+    let m = saving (a .0) (a .1 .0) (mem (a .1 .1 .0 .now) (a .1 .1 .1 .0 .now)) (a .1 .1 .1 .1 .0 .now) in
+    record { result = m .answer; left = (tt, (tt, (tt, (tt, (m .out, tt))))) })
+
+abbrev pub LoadIs : Type 0
+LoadIs =
+    Is load.ended load.Reads.Learnt
+    (λ κs a.
+    let m = loading (a .0 .now) (a .1 .0) (mem (a .1 .1 .0 .now) (a .1 .1 .1 .0 .now)) in
+    record { result = m .answer; left = (tt, (tt, (m .stored .cells, (m .stored .ident, tt)))) })
+
+abbrev pub TraceIs : Type 0
+TraceIs =
+    Is trace.ended trace.Reads.Learnt
+    (λ κs a.
+    let m = layingOf (a .1 .0 .now) (traceOf (a .0 .now)) in
+    record { result = m .answer; left = (tt, (m .out, tt)) })
+
+-- ---- the driver
+
+abbrev pub BeginIs : Type 0
+BeginIs = Is begin.ended begin.Reads.Learnt (λ κs a. record { result = beginOf (a .0); left = (tt, tt) })
+
+abbrev pub NextIsOurDriver : Type 0
+NextIsOurDriver =
+    Is next.ended next.Reads.Learnt
+    (λ κs a. record { result = ourDriver .next (a .0) (a .1 .0) (a .1 .1 .0 .now); left = (tt, (tt, (ourDriver .leaves (a .0) (a .1 .0) (a .1 .1 .0 .now), tt))) })
+
+-- ---- driver and chip together
+
+abbrev pub BenchRunIsOurBench : Type 0
+BenchRunIsOurBench =
+    Is bench-run.ended bench-run.Reads.Learnt
+    (λ κs a. record {
+      result = ourBench .report (a .0) (a .1 .0) (a .1 .1 .0) (a .1 .1 .1 .0) (mem (a .1 .1 .1 .1 .0 .now) (a .1 .1 .1 .1 .1 .0 .now)) (a .1 .1 .1 .1 .1 .1 .0 .now);
+      left = (tt, (tt, (tt, (tt, (ourBench .memory (a .0) (a .1 .0) (a .1 .1 .0) (a .1 .1 .1 .0) (mem (a .1 .1 .1 .1 .0 .now) (a .1 .1 .1 .1 .1 .0 .now)) (a .1 .1 .1 .1 .1 .1 .0 .now) .cells, (ourBench .memory (a .0) (a .1 .0) (a .1 .1 .0) (a .1 .1 .1 .0) (mem (a .1 .1 .1 .1 .0 .now) (a .1 .1 .1 .1 .1 .0 .now)) (a .1 .1 .1 .1 .1 .1 .0 .now) .ident, (ourBench .buffer (a .0) (a .1 .0) (a .1 .1 .0) (a .1 .1 .1 .0) (mem (a .1 .1 .1 .1 .0 .now) (a .1 .1 .1 .1 .1 .0 .now)) (a .1 .1 .1 .1 .1 .1 .0 .now), tt)))))));
+    })
+
+abbrev pub BenchRecordIsOurBench : Type 0
+BenchRecordIsOurBench =
+    Is bench-record.ended bench-record.Reads.Learnt
+    (λ κs a. record {
+      result = record { report = ourBench .report (a .0) (a .1 .0) (a .1 .1 .0) (a .1 .1 .1 .0) (mem (a .1 .1 .1 .1 .0 .now) (a .1 .1 .1 .1 .1 .0 .now)) (a .1 .1 .1 .1 .1 .1 .0 .now); sent = length (ourBench .events (a .0) (a .1 .0) (a .1 .1 .0) (a .1 .1 .1 .0) (mem (a .1 .1 .1 .1 .0 .now) (a .1 .1 .1 .1 .1 .0 .now)) (a .1 .1 .1 .1 .1 .1 .0 .now)) };
+      left = (tt, (tt, (tt, (tt, (ourBench .memory (a .0) (a .1 .0) (a .1 .1 .0) (a .1 .1 .1 .0) (mem (a .1 .1 .1 .1 .0 .now) (a .1 .1 .1 .1 .1 .0 .now)) (a .1 .1 .1 .1 .1 .1 .0 .now) .cells, (ourBench .memory (a .0) (a .1 .0) (a .1 .1 .0) (a .1 .1 .1 .0) (mem (a .1 .1 .1 .1 .0 .now) (a .1 .1 .1 .1 .1 .0 .now)) (a .1 .1 .1 .1 .1 .1 .0 .now) .ident, (ourBench .buffer (a .0) (a .1 .0) (a .1 .1 .0) (a .1 .1 .1 .0) (mem (a .1 .1 .1 .1 .0 .now) (a .1 .1 .1 .1 .1 .0 .now)) (a .1 .1 .1 .1 .1 .1 .0 .now), (laidOf (a .1 .1 .1 .1 .1 .1 .1 .0 .now) (ourBench .events (a .0) (a .1 .0) (a .1 .1 .0) (a .1 .1 .1 .0) (mem (a .1 .1 .1 .1 .0 .now) (a .1 .1 .1 .1 .1 .0 .now)) (a .1 .1 .1 .1 .1 .1 .0 .now)), (laidOf (a .1 .1 .1 .1 .1 .1 .1 .1 .0 .now) (ourBench .levels (a .0) (a .1 .0) (a .1 .1 .0) (a .1 .1 .1 .0) (mem (a .1 .1 .1 .1 .0 .now) (a .1 .1 .1 .1 .1 .0 .now)) (a .1 .1 .1 .1 .1 .1 .0 .now)), tt)))))))));
+    })
+
+-- ---- the calls over bytes
+
+abbrev pub SapwoodleDeliverIs : Type 0
+SapwoodleDeliverIs =
+    Is sapwoodle-deliver.ended sapwoodle-deliver.Reads.Learnt
+    (λ κs a.
+    let m = delivering (a .0) (a .1 .0 .now) (mem (a .1 .1 .0 .now) (a .1 .1 .1 .0 .now)) in
+    record { result = m .number; left = (tt, (m .state, (m .stored .cells, (m .stored .ident, tt)))) })
+
+abbrev pub SapwoodleStepIs : Type 0
+SapwoodleStepIs =
+    Is sapwoodle-step.ended sapwoodle-step.Reads.Learnt
+    (λ κs a.
+    let m = stepping (a .0) (a .1 .0) (a .1 .1 .0 .now) (mem (a .1 .1 .1 .0 .now) (a .1 .1 .1 .1 .0 .now)) (a .1 .1 .1 .1 .1 .0) in
+    record { result = m .number; left = (tt, (tt, (m .state, (m .stored .cells, (m .stored .ident, (tt, (m .level, (m .cycles, tt)))))))) })
+
+abbrev pub SapwoodleRunIs : Type 0
+SapwoodleRunIs =
+    Is sapwoodle-run.ended sapwoodle-run.Reads.Learnt
+    (λ κs a.
+    let m = running (a .0) (a .1 .0) (a .1 .1 .0 .now) (mem (a .1 .1 .1 .0 .now) (a .1 .1 .1 .1 .0 .now)) (a .1 .1 .1 .1 .1 .0 .now) (a .1 .1 .1 .1 .1 .1 .0 .now) in
+    record { result = m .number; left = (tt, (tt, (m .state, (m .stored .cells, (m .stored .ident, (tt, (m .answers, (m .cycles, (m .place, tt))))))))) })
+
+abbrev pub SapwoodleSaveIs : Type 0
+SapwoodleSaveIs =
+    Is sapwoodle-save.ended sapwoodle-save.Reads.Learnt
+    (λ κs a.
+    let m = savingBytes (a .0) (a .1 .0 .now) (mem (a .1 .1 .0 .now) (a .1 .1 .1 .0 .now)) (a .1 .1 .1 .1 .0 .now) in
+    record { result = m .number; left = (tt, (tt, (tt, (tt, (m .out, (m .written, tt)))))) })
+
+abbrev pub SapwoodleLoadIs : Type 0
+SapwoodleLoadIs =
+    Is sapwoodle-load.ended sapwoodle-load.Reads.Learnt
+    (λ κs a.
+    let m = loadingBytes (a .0 .now) (a .1 .0) (a .1 .1 .0 .now) (mem (a .1 .1 .1 .0 .now) (a .1 .1 .1 .1 .0 .now)) in
+    record { result = m .number; left = (tt, (tt, (m .state, (m .stored .cells, (m .stored .ident, (m .part, tt)))))) })
+
+abbrev pub SapwoodleDriverBeginIs : Type 0
+SapwoodleDriverBeginIs =
+    Is sapwoodle-driver-begin.ended sapwoodle-driver-begin.Reads.Learnt
+    (λ κs a.
+    let m = beginning (requestOf (a .0) (a .1 .0) (a .1 .1 .0) (a .1 .1 .1 .0) (a .1 .1 .1 .1 .0) (a .1 .1 .1 .1 .1 .0)) (a .1 .1 .1 .1 .1 .1 .0 .now) in
+    record { result = m .number; left = (tt, (tt, (tt, (tt, (tt, (tt, (m .state, tt))))))) })
+
+abbrev pub SapwoodleDriverNextIs : Type 0
+SapwoodleDriverNextIs =
+    Is sapwoodle-driver-next.ended sapwoodle-driver-next.Reads.Learnt
+    (λ κs a.
+    let m = asking (a .0 .now) (a .1 .0) (a .1 .1 .0 .now) in
+    record { result = m .told .number; left = (m .state, (tt, (m .buffer, (m .told .event, (m .told .polls, (m .told .bytes, tt)))))) })
+
+abbrev pub SapwoodleBenchRunIs : Type 0
+SapwoodleBenchRunIs =
+    Is sapwoodle-bench-run.ended sapwoodle-bench-run.Reads.Learnt
+    (λ κs a.
+    let m = benching (requestOf (a .0) (a .1 .0) (a .1 .1 .0) (a .1 .1 .1 .0) (a .1 .1 .1 .1 .0) (a .1 .1 .1 .1 .1 .0)) (a .1 .1 .1 .1 .1 .1 .0) (a .1 .1 .1 .1 .1 .1 .1 .0) (a .1 .1 .1 .1 .1 .1 .1 .1 .0 .now) (mem (a .1 .1 .1 .1 .1 .1 .1 .1 .1 .0 .now) (a .1 .1 .1 .1 .1 .1 .1 .1 .1 .1 .0 .now)) (a .1 .1 .1 .1 .1 .1 .1 .1 .1 .1 .1 .0 .now) in
+    record { result = m .number; left = (tt, (tt, (tt, (tt, (tt, (tt, (tt, (tt, (m .state, (m .stored .cells, (m .stored .ident, (m .buffer, (m .polls, (m .bytes, (m .cycles, (m .clocks, tt)))))))))))))))) })
+
+abbrev pub SapwoodleTraceIs : Type 0
+SapwoodleTraceIs =
+    Is sapwoodle-trace.ended sapwoodle-trace.Reads.Learnt
+    (λ κs a.
+    let m = layingOf (a .1 .0 .now) (traceOf (a .0 .now)) in
+    record { result = verdictNumberOf (m .answer .verdict); left = (tt, (m .out, (m .answer .length, tt))) })
