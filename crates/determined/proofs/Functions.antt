@@ -3,6 +3,7 @@
 -- Assumes nothing.
 use mathlib.Core.Path.{refl}
 use Rattle.determined.specs.Functions.{
+  EveryAnswer,
   ChipPackDetermined,
   ChipHoldsDetermined,
   ChipUnpackDetermined,
@@ -276,3 +277,28 @@ sapwoodle-bench-run-determined = of-machine (λ κs a. tt) sapwoodle-bench-run-i
 
 pub sapwoodle-trace-determined : SapwoodleTraceDetermined
 sapwoodle-trace-determined = of-machine (λ κs a. tt) sapwoodle-trace-is
+
+pub every-answer : EveryAnswer
+every-answer =
+    record {
+      deliver = deliver-determined;
+      step = step-determined;
+      run = chip-run-determined;
+      look = look-determined;
+      save = save-determined;
+      load = load-determined;
+      trace = trace-determined;
+      begin = begin-determined;
+      next = next-determined;
+      bench-record = bench-record-determined;
+      bench-run = bench-run-determined;
+      sapwoodle-deliver = sapwoodle-deliver-determined;
+      sapwoodle-step = sapwoodle-step-determined;
+      sapwoodle-run = sapwoodle-run-determined;
+      sapwoodle-save = sapwoodle-save-determined;
+      sapwoodle-load = sapwoodle-load-determined;
+      sapwoodle-driver-begin = sapwoodle-driver-begin-determined;
+      sapwoodle-driver-next = sapwoodle-driver-next-determined;
+      sapwoodle-bench-run = sapwoodle-bench-run-determined;
+      sapwoodle-trace = sapwoodle-trace-determined;
+    }

@@ -2,7 +2,7 @@
 -- order; what is left is a row of the parameters.
 -- Assumes nothing.
 use mathlib.Core.Path.{refl}
-use Rattle.determined.specs.Machines.{DeliverIs, StepIs, RunIs, SaveIs, LoadIs, TraceIs, BeginIs, NextIsOurDriver, BenchRecordIsOurBench, BenchRunIsOurBench, SapwoodleDeliverIs, SapwoodleStepIs, SapwoodleRunIs, SapwoodleSaveIs, SapwoodleLoadIs, SapwoodleDriverBeginIs, SapwoodleDriverNextIs, SapwoodleBenchRunIs, SapwoodleTraceIs}
+use Rattle.determined.specs.Machines.{EveryMachine, DeliverIs, StepIs, RunIs, SaveIs, LoadIs, TraceIs, BeginIs, NextIsOurDriver, BenchRecordIsOurBench, BenchRunIsOurBench, SapwoodleDeliverIs, SapwoodleStepIs, SapwoodleRunIs, SapwoodleSaveIs, SapwoodleLoadIs, SapwoodleDriverBeginIs, SapwoodleDriverNextIs, SapwoodleBenchRunIs, SapwoodleTraceIs}
 use Rattle.determined.proofs.Answers.{same}
 
 pub deliver-is : DeliverIs
@@ -61,3 +61,27 @@ sapwoodle-bench-run-is = λ κs a x p. same (p .0) (λ i. (tt, (tt, (tt, (tt, (t
 
 pub sapwoodle-trace-is : SapwoodleTraceIs
 sapwoodle-trace-is = λ κs a x p. same (p .0) (λ i. (tt, (p .1 .0 i, (p .1 .1 i, tt))))
+
+pub every-machine : EveryMachine
+every-machine =
+    record {
+      deliver = deliver-is;
+      step = step-is;
+      run = run-is;
+      save = save-is;
+      load = load-is;
+      trace = trace-is;
+      begin = begin-is;
+      next = next-is-our-driver;
+      bench-record = bench-record-is-our-bench;
+      bench-run = bench-run-is-our-bench;
+      sapwoodle-deliver = sapwoodle-deliver-is;
+      sapwoodle-step = sapwoodle-step-is;
+      sapwoodle-run = sapwoodle-run-is;
+      sapwoodle-save = sapwoodle-save-is;
+      sapwoodle-load = sapwoodle-load-is;
+      sapwoodle-driver-begin = sapwoodle-driver-begin-is;
+      sapwoodle-driver-next = sapwoodle-driver-next-is;
+      sapwoodle-bench-run = sapwoodle-bench-run-is;
+      sapwoodle-trace = sapwoodle-trace-is;
+    }

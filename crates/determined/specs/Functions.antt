@@ -286,3 +286,27 @@ SapwoodleBenchRunDetermined = Determined sapwoodle-bench-run.ended sapwoodle-ben
 
 abbrev pub SapwoodleTraceDetermined : Type 0
 SapwoodleTraceDetermined = Determined sapwoodle-trace.ended sapwoodle-trace.Reads.Asked sapwoodle-trace.Reads.Learnt
+
+-- ---- all that users call, of the libraries and from C
+
+pub record EveryAnswer : Type 0 where
+  pub deliver : DeliverDetermined
+  pub step : StepDetermined
+  pub run : ChipRunDetermined
+  pub look : LookDetermined
+  pub save : SaveDetermined
+  pub load : LoadDetermined
+  pub trace : TraceDetermined
+  pub begin : BeginDetermined
+  pub next : NextDetermined
+  pub bench-record : BenchRecordDetermined
+  pub bench-run : BenchRunDetermined
+  pub sapwoodle-deliver : SapwoodleDeliverDetermined
+  pub sapwoodle-step : SapwoodleStepDetermined
+  pub sapwoodle-run : SapwoodleRunDetermined
+  pub sapwoodle-save : SapwoodleSaveDetermined
+  pub sapwoodle-load : SapwoodleLoadDetermined
+  pub sapwoodle-driver-begin : SapwoodleDriverBeginDetermined
+  pub sapwoodle-driver-next : SapwoodleDriverNextDetermined
+  pub sapwoodle-bench-run : SapwoodleBenchRunDetermined
+  pub sapwoodle-trace : SapwoodleTraceDetermined

@@ -183,3 +183,26 @@ SapwoodleTraceIs =
     (λ κs a.
     let m = layingOf (a .1 .0 .now) (traceOf (a .0 .now)) in
     record { result = verdictNumberOf (m .answer .verdict); left = (tt, (m .out, (m .answer .length, tt))) })
+
+-- ---- all of them
+
+pub record EveryMachine : Type 0 where
+  pub deliver : DeliverIs
+  pub step : StepIs
+  pub run : RunIs
+  pub save : SaveIs
+  pub load : LoadIs
+  pub trace : TraceIs
+  pub begin : BeginIs
+  pub next : NextIsOurDriver
+  pub bench-record : BenchRecordIsOurBench
+  pub bench-run : BenchRunIsOurBench
+  pub sapwoodle-deliver : SapwoodleDeliverIs
+  pub sapwoodle-step : SapwoodleStepIs
+  pub sapwoodle-run : SapwoodleRunIs
+  pub sapwoodle-save : SapwoodleSaveIs
+  pub sapwoodle-load : SapwoodleLoadIs
+  pub sapwoodle-driver-begin : SapwoodleDriverBeginIs
+  pub sapwoodle-driver-next : SapwoodleDriverNextIs
+  pub sapwoodle-bench-run : SapwoodleBenchRunIs
+  pub sapwoodle-trace : SapwoodleTraceIs

@@ -26,10 +26,10 @@ use Rattle.bench.specs.Calls.{benchVerdict, benchOf}
 use Rattle.pack_chip.specs.Layout.{packedChipOf, holdsChipOf, unpackedChipOf}
 use Rattle.pack_chip.specs.Promises.{ChipFits}
 use Rattle.pack_driver.specs.Layout.{driverLength, holdsDriverOf, unpackedDriverOf}
-use Rattle.sapwoodle.specs.Chips.{BytesAfterStep, BytesAfterRun, BytesAfterDeliver}
-use Rattle.sapwoodle.specs.Images.{BytesAfterSave, BytesAfterLoad}
-use Rattle.sapwoodle.specs.Drivers.{requestOf, BytesAfterBegin, toldOf, BytesAfterNext}
-use Rattle.sapwoodle.specs.Runs.{BytesAfterBench}
+use Rattle.sapwoodle.specs.Chips.{BytesAfterStep, BytesAfterRun, BytesAfterDeliver, stepping, running, delivering}
+use Rattle.sapwoodle.specs.Images.{BytesAfterSave, BytesAfterLoad, savingBytes, loadingBytes}
+use Rattle.sapwoodle.specs.Drivers.{requestOf, BytesAfterBegin, beginning, toldOf, BytesAfterNext, asking}
+use Rattle.sapwoodle.specs.Runs.{BytesAfterBench, benching}
 
 -- ======== the chip
 
@@ -254,3 +254,15 @@ BenchIsBenchs bench =
       stored = benchOf r enable d c m b .mem;
       buffer = benchOf r enable d c m b .buffer;
     }
+
+-- ======== "a call refused for bad input changes no byte": every call
+
+pub record BytesKept : Type 0 where
+  pub deliver : DeliverKeeps delivering
+  pub step : StepKeeps stepping
+  pub run : RunKeeps running
+  pub save : SaveKeeps savingBytes
+  pub load : LoadKeeps loadingBytes
+  pub begin : BeginKeeps beginning
+  pub next : NextKeeps asking
+  pub bench : BenchKeeps benching
