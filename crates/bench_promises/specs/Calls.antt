@@ -9,7 +9,6 @@ use mathlib.Core.List.{List, [], _++_}
 use lib.ListN.{length, getD, take, drop}
 use Rattle.parts.specs.declared.Refusal.{Refusal}
 use Rattle.parts.specs.declared.Refusal.the-variants.{NoData, PollsUsed}
-use Rattle.parts.specs.declared.Verdict.{Verdict}
 use Rattle.parts.specs.declared.Verdict.the-variants.{Fine, Refused as Judged}
 use Rattle.parts.specs.Table.{factsOf}
 use Rattle.parts.specs.Bytes.{AllBelow}

@@ -1,6 +1,5 @@
 -- What the demands on driver and chip together start from: "an idle chip of the named part and enable".
 -- Assumes nothing.
-use Prim.Native.Nat.{_<_}
 use mathlib.Core.Path.{_≡_}
 use lib.ListN.{length}
 use Rattle.parts.specs.Table.{factsOf, idSizeOf}

@@ -5,9 +5,8 @@ use mathlib.Core.Path.{_≡_, sym, ap, _∙_}
 use native.Mathlib.Nat.{mod-lt, mod-self, div-add-mod', mul-add-mod-self-right, mod-add-mod, add-mod-right, add-assoc}
 use native.Mathlib.Omega.{arith}
 use lib.Arith.{digits-div, digits-mod}
-use Rattle.parts.specs.declared.Facts.{Facts}
 use Rattle.line.specs.Rules.{rollOf, beforeOf, onwardOf}
-use Rattle.chip_laws.specs.Roll.{RollsInside, PageRule, LastModified}
+use Rattle.chip_laws.specs.Roll.{PageRule, LastModified}
 use Rattle.chip_laws.proofs.Range.{roll-back}
 
 module _ (P c : ℕ) (pos : 0 < P) where

@@ -33,7 +33,7 @@ use Rattle.chip.specs.Runs.{afterOf, memoryOf, levelsOf, cyclesOf}
 use Rattle.chip.specs.Calls.{heldVerdictOf, stepVerdictOf, stepVerdict, stepBy, stepMem, stepOf, scanOf, runVerdictOf, runVerdict, runBy, runMem, runAnswers}
 use Rattle.chip_laws.specs.Range.{Typed, AllTaken}
 use Rattle.chip_laws.specs.Runs.{Steps, joined, stepsOf, RunIsSteps, RunGoesOn}
-use Rattle.chip_laws.proofs.Range.{no-way, takes, range-next}
+use Rattle.chip_laws.proofs.Range.{takes, range-next}
 
 -- ---- a call's verdict is fine where nothing is wrong, and only there
 

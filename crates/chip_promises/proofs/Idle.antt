@@ -16,7 +16,7 @@ use Rattle.state.specs.declared.Chip.{Chip}
 use Rattle.state.specs.Range.{marksRightOf, pinRightOf, lockRightOf, phaseRightOf, restRightOf, inRangeOf}
 use Rattle.chip.specs.Memory.{Mem, mem, noLatch, stateOf, chipLevelOf}
 use Rattle.chip.specs.Delivery.{pinAtFirstOf, standbyOf}
-use Rattle.chip.specs.Calls.{heldVerdictOf, deliverVerdictOf, stepVerdictOf, runVerdictOf, deliverLeftOf, deliverOf, stepLeftOf, stepOf, runLeftOf, runOf, stepVerdict, runVerdict}
+use Rattle.chip.specs.Calls.{heldVerdictOf, deliverVerdictOf, stepVerdictOf, runVerdictOf, deliverOf, stepLeftOf, stepOf, runLeftOf, runOf, stepVerdict, runVerdict}
 use Rattle.chip.specs.Model.{ours}
 use Rattle.chip.specs.Runs.{levelsOf}
 use Rattle.chip_promises.specs.Idle.{RefusesByTable, RefusingBreaks, SelectTrials, ConstantBreaks}

@@ -36,7 +36,8 @@ use Rattle.chip.specs.Model.{ours}
 use Rattle.chip.specs.Runs.{afterOf, memoryOf}
 use Rattle.chip.specs.Calls.{stepOf, runOf}
 use Rattle.chip_promises.specs.Calls.{many, Ending, beforeCalls, afterRun, callBy, callsBy}
-use Rattle.chip_promises.specs.Lock.{Locked, LockHolds, RunLockHolds, CallsLockHolds}
+use Rattle.chip_promises.specs.Lock.{Locked, LockHolds, CallsLockHolds}
+use Rattle.chip_promises.specs.Forms.{RunLockHolds}
 use Rattle.chip_promises.proofs.Runs.{Invariant, Keeps, keeps, calls-keep, Any, every, every-call}
 use Rattle.chip_promises.proofs.Steps.{next-still, lockAfter, accepted-phase}
 use Rattle.chip_promises.proofs.Refused.{calls-out}

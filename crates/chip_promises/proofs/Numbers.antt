@@ -2,7 +2,7 @@
 -- Assumes nothing.
 use Prim.Native.Nat.{ℕ, zero, suc, _+_, _<_, _≤_}
 use mathlib.Core.Path.{_≡_, refl, sym, ap, _∙_}
-use mathlib.Core.Bool.{Bool, true, false, not, cond}
+use mathlib.Core.Bool.{Bool, true, false, not}
 use mathlib.Core.List.{List, [], _∷_}
 use native.Mathlib.Decide.{ℕ-discrete, decLt}
 use Rattle.chip_promises.specs.Calls.{Deliver, Step, Run}
@@ -25,8 +25,8 @@ use Rattle.chip.specs.Memory.{Mem, mem, noLatch}
 use Rattle.chip.specs.Delivery.{pinAtFirstOf, standbyOf}
 use Rattle.chip.specs.Model.{ours}
 use Rattle.chip.specs.Calls.{deliverVerdictOf, deliverOf, heldVerdictOf, stepVerdictOf, stepBy, stepOf, scanOf, runVerdictOf, runBy, runOf}
-use Rattle.chip.proofs.Laws.{Usable, fine-held, held-out, scan-later, step-behind, run-behind}
-use Rattle.chip_promises.specs.Numbers.{Lent, Named, Ready, TakenTo, DeliverNumbers, StepNumber, StepNumbers, RunNumber, RunNumbers, OneChipNumber, stepNumber, runVerdictBy, runNumber, eager, EagerBreaks}
+use Rattle.chip.proofs.Laws.{fine-held, held-out, scan-later, step-behind, run-behind}
+use Rattle.chip_promises.specs.Numbers.{Lent, Named, Ready, TakenTo, DeliverNumbers, StepNumbers, RunNumbers, OneChipNumber, stepNumber, runVerdictBy, runNumber, eager, EagerBreaks}
 
 -- ---- delivery: 1, 3
 

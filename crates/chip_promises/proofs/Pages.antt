@@ -41,9 +41,10 @@ use Rattle.chip.specs.Memory.{Mem, mem, oneOf, enteredOf, counterPageOf, commit
 use Rattle.chip.specs.Delivery.{standbyOf, deliveredOf}
 use Rattle.chip_promises.specs.States.{NotBusy}
 use Rattle.chip.specs.Model.{ours}
-use Rattle.chip.specs.Calls.{deliverLeftOf, deliverOf, stepOf, runOf}
+use Rattle.chip.specs.Calls.{deliverOf, stepOf, runOf}
 use Rattle.chip_promises.specs.Calls.{many, beforeCalls, afterRun, callBy, callsBy}
-use Rattle.chip_promises.specs.Pages.{pageOf, countOf, differingOf, PagesAtMostCycles, PagesFromDelivery, RunPages, CallsPages, CallsPagesFromDelivery, CountsEveryPage, coarse, CoarseBreaks}
+use Rattle.chip_promises.specs.Pages.{pageOf, countOf, differingOf, PagesAtMostCycles, PagesFromDelivery, CallsPagesFromDelivery, CountsEveryPage, CoarseBreaks}
+use Rattle.chip_promises.specs.Forms.{RunPages, CallsPages}
 use Rattle.chip_promises.proofs.Runs.{Invariant, Keeps, keeps, calls-keep, Any, every, every-call}
 use Rattle.chip_promises.proofs.Steps.{taken-free}
 

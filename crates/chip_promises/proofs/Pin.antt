@@ -34,7 +34,8 @@ use Rattle.chip.specs.Model.{ours}
 use Rattle.chip.specs.Runs.{afterOf, memoryOf, cyclesOf}
 use Rattle.chip.specs.Calls.{stepOf, runOf}
 use Rattle.chip_promises.specs.Calls.{many, Ending, beforeCalls, afterRun, callBy, callsBy}
-use Rattle.chip_promises.specs.Pin.{StaysHigh, KeepsHigh, PinProtects, RunPinProtects, CallsPinProtects}
+use Rattle.chip_promises.specs.Pin.{StaysHigh, KeepsHigh, PinProtects, CallsPinProtects}
+use Rattle.chip_promises.specs.Forms.{RunPinProtects}
 use Rattle.chip_promises.proofs.Runs.{Invariant, Keeps, keeps, calls-keep}
 use Rattle.chip_promises.proofs.Steps.{taken-free, taken-kept, next-still, lockAfter, pinAfter, accepted-phase}
 use Rattle.chip_promises.proofs.Refused.{calls-out}

@@ -46,9 +46,10 @@ use Rattle.chip.specs.Delivery.{pinAtFirstOf, standbyOf, deliveredOf}
 use Rattle.chip_promises.specs.States.{NotBusy}
 use Rattle.chip.specs.Model.{ours}
 use Rattle.chip.specs.Runs.{afterOf, levelsOf, cyclesOf}
-use Rattle.chip.specs.Calls.{deliverLeftOf, deliverOf, stepOf, runLeftOf, runVerdict, runOf}
+use Rattle.chip.specs.Calls.{deliverOf, stepOf, runLeftOf, runVerdict, runOf}
 use Rattle.chip_promises.specs.Calls.{Ending, beforeCalls, callsBy}
-use Rattle.chip_promises.specs.Stops.{Byte, seenByte, allAcked, addressIn, lockChosenOf, dataOf, writesOf, asksCycleOf, Seen, quiet, cycling, since, wellPlacedOf, startSeen, clockSeen, stopSeen, endSeen, pinSeen, Watch, watch, watchOf, stopOf, stopsOf, freshWatch, seenAt, watchAt, CyclesAreStops, CyclesAreStopsFromDelivery, RunCyclesAreStops, CallsCyclesAreStops, CallsCyclesAreStopsFromDelivery}
+use Rattle.chip_promises.specs.Stops.{Byte, seenByte, allAcked, addressIn, lockChosenOf, dataOf, writesOf, asksCycleOf, Seen, quiet, cycling, since, wellPlacedOf, startSeen, clockSeen, stopSeen, endSeen, pinSeen, Watch, watch, watchOf, stopOf, stopsOf, freshWatch, seenAt, watchAt, CyclesAreStops, CyclesAreStopsFromDelivery, CallsCyclesAreStops, CallsCyclesAreStopsFromDelivery}
+use Rattle.chip_promises.specs.Forms.{RunCyclesAreStops}
 use Rattle.chip_promises.proofs.Runs.{Invariant, Keeps, keeps, calls-keep, Any, every, every-call}
 use Rattle.chip_promises.proofs.Steps.{taken-free, Kept, taken-kept, next-still}
 

@@ -4,6 +4,7 @@ pub mod Pages
 pub mod Lock
 pub mod Pin
 pub mod Stops
+pub mod Forms
 pub mod Refused
 pub mod Numbers
 pub mod Histories

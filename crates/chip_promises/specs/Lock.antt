@@ -22,14 +22,8 @@ LockHolds M =
     (f : Facts) (enable : ℕ) (c : Chip) (m : Mem) (es : List ℕ) → StateInRange f c → Locked c
     → Locked (afterOf (M f enable) c es) × (memoryOf (M f enable) c m es .ident ≡ m .ident)
 
--- One call of any function that is called as `run` is, on a locked chip, accepted or not: the chip that it answers is locked, and the
--- identification buffer keeps its bytes.
-abbrev pub RunLockHolds : Run → Type 0
-RunLockHolds R =
-    (part enable : ℕ) (c : Chip) (m : Mem) (es answers : List ℕ) → Locked c
-    → Locked (R part enable c m es answers .answer .chip) × (R part enable c m es answers .mem .ident ≡ m .ident)
-
--- Any series of calls.
+-- Any series of calls of functions that are called as `step` and `run` are, on a locked chip, accepted or not: the chip is locked at the end,
+-- and the identification buffer keeps its bytes.
 abbrev pub CallsLockHolds : Step → Run → Type 0
 CallsLockHolds S R =
     (part enable : ℕ) (c : Chip) (m : Mem) (calls : List Call) → Locked c

@@ -55,18 +55,6 @@ PagesFromDelivery M =
 -- ---- of any functions that are called as `deliver`, `step` and `run` are: the cycles are those that they report, the pages those of
 -- the buffers they leave
 
--- One call of `run`, from any chip in which no cycle runs, against the buffers as they were.
-abbrev pub RunPages : Run → Type 0
-RunPages R =
-    (part enable : ℕ) (c : Chip) (m : Mem) (es answers : List ℕ) → NotBusy (c .line .phase)
-    → differingOf (factsOf part) (R part enable c m es answers .mem) m ≤ R part enable c m es answers .answer .cycles
-
--- Any series of calls, from any chip in which no cycle runs, against the buffers as they were before the first.
-abbrev pub CallsPages : Step → Run → Type 0
-CallsPages S R =
-    (part enable : ℕ) (c : Chip) (m : Mem) (calls : List Call) → NotBusy (c .line .phase)
-    → differingOf (factsOf part) (callsBy S R part enable (beforeCalls c m) calls .mem) m ≤ callsBy S R part enable (beforeCalls c m) calls .cycles
-
 -- Any series of calls on what `deliver` answers and leaves, against the buffers as it leaves them.
 abbrev pub CallsPagesFromDelivery : Deliver → Step → Run → Type 0
 CallsPagesFromDelivery D S R =

@@ -40,17 +40,8 @@ PinProtects M =
     × (afterOf (M f enable) c es .line .core .locked ≡ c .line .core .locked)
     × (cyclesOf (M f enable) c es ≡ 0)
 
--- One call of any function that is called as `run` is, on such a chip, accepted or not: both buffers keep their bytes, the lock is as
--- before, and no cycle is reported.
-abbrev pub RunPinProtects : Run → Type 0
-RunPinProtects R =
-    (part enable : ℕ) (c : Chip) (m : Mem) (es answers : List ℕ)
-    → c .line .core .pin ≡ High → NotBusy (c .line .phase) → Every KeepsHigh es
-    → (R part enable c m es answers .mem ≡ m)
-    × (R part enable c m es answers .answer .chip .line .core .locked ≡ c .line .core .locked)
-    × (R part enable c m es answers .answer .cycles ≡ 0)
-
--- Any series of such calls.
+-- Any series of calls of functions that are called as `step` and `run` are, on such a chip, accepted or not: both buffers keep their bytes,
+-- the lock is as before, and no cycle is reported.
 abbrev pub CallsPinProtects : Step → Run → Type 0
 CallsPinProtects S R =
     (part enable : ℕ) (c : Chip) (m : Mem) (calls : List Call)

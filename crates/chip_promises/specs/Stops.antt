@@ -183,13 +183,6 @@ CyclesAreStopsFromDelivery M =
 
 -- ---- of any functions that are called as `deliver`, `step` and `run` are
 
--- One call of `run`: the field `cycles` of its answer, by the levels that it leaves in the answer buffer.
-abbrev pub RunCyclesAreStops : Run → Type 0
-RunCyclesAreStops R =
-    (part enable : ℕ) (c : Chip) (m : Mem) (es answers : List ℕ) → NoTransfer (c .line .phase)
-    → R part enable c m es answers .answer .verdict ≡ Fine
-    → R part enable c m es answers .answer .cycles ≡ stopsOf (factsOf part) (watchAt c) es (R part enable c m es answers .answers)
-
 -- Any series of calls: the cycles they report in all, by the history they leave, wherever in it one call ends and the next begins.
 abbrev pub CallsCyclesAreStops : Step → Run → Type 0
 CallsCyclesAreStops S R =

@@ -1,10 +1,9 @@
 -- All demands are kept: each field is a promise that is proved in the crate that its name comes from.
 -- Assumes nothing.
 use mathlib.Core.Path.{_≡_, refl}
-use mathlib.Core.Bool.{Bool, true, false}
+use mathlib.Core.Bool.{true, false}
 use Prim.Native.Nat.{ℕ, _+_, _<_, _≤_}
 use mathlib.Core.Logic.{_⊎_}
-use lib.ListN.{getD}
 use Rattle.parts.proofs.Tests.{either}
 use Rattle.chip.specs.Memory.{cellsOf}
 use Rattle.chip_laws.proofs.Bytes.{byte-in, byte-out}

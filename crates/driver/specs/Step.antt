@@ -8,7 +8,6 @@ use lib.ListN.{length, getD, set}
 use lib.Dec.{eqb, leb, ltb}
 use Rattle.parts.specs.declared.Refusal.{Refusal}
 use Rattle.parts.specs.declared.Refusal.the-variants.{BadState, NoSelect, NoData, PollsUsed}
-use Rattle.parts.specs.declared.Verdict.the-variants.{Fine, Refused as Judged}
 use Rattle.parts.specs.Table.{factsOf}
 use Rattle.parts.specs.Refusals.{isFine}
 use Rattle.driver.specs.Split.{toPageEndOf}

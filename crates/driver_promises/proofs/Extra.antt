@@ -1,6 +1,6 @@
 -- Smaller laws of the driver: identification writes, select codes, and what a write does to its buffer.
 -- Assumes nothing.
-use Prim.Native.Nat.{ℕ, _+_, _-_, _%_, _≤_, _<_}
+use Prim.Native.Nat.{ℕ, _+_, _-_, _%_, _≤_}
 use mathlib.Core.Path.{_≡_, refl, ap, subst}
 use mathlib.Core.Bool.{Bool, true, false, cond, false≢true}
 use mathlib.Core.List.{List}
@@ -21,7 +21,7 @@ use Rattle.driver.specs.declared.Driver.{Driver}
 use Rattle.driver.specs.Request.{fromOf, roomOf, judgeOf, kOf}
 use Rattle.driver.specs.Step.{selectNameOf, selectAt, rangeOf, slotRight, phaseRight, slotWhole, wholeOf, byteKeptOf, badStateOf, driverNextOf, bufferOf, fresh}
 use Rattle.driver.proofs.Facts.{good-request, good-counts}
-use Rattle.driver_promises.specs.Promises.{Accepted, OnIdent, OnePart, SevenBits}
+use Rattle.driver_promises.specs.Promises.{OnIdent, OnePart, SevenBits}
 use Rattle.driver_promises.proofs.Split.{one-page}
 
 -- an identification write is one part

@@ -18,7 +18,6 @@ use Rattle.line.specs.declared.Cycle.{Cycle}
 use Rattle.line.specs.declared.Cycle.the-variants.{Writing, Locking}
 use Rattle.line.specs.declared.Phase.{Phase}
 use Rattle.line.specs.declared.Phase.the-variants.{Idle, Receive, Send, Busy}
-use Rattle.line.specs.declared.Core.{Core}
 use Rattle.line.specs.declared.Line.{Line}
 use Rattle.state.specs.declared.Chip.{Chip}
 

@@ -7,7 +7,7 @@ use mathlib.Core.List.{List, []}
 use native.Mathlib.Omega.{arith}
 use lib.ListN.{length, getD, replicate}
 use lib.Dec.{eqb}
-use borrow.Author.Tests.{eq-eqb, ne-eqb, eqb-true}
+use borrow.Author.Tests.{eq-eqb, eqb-true}
 use Rattle.parts.specs.declared.Refusal.{Refusal}
 use Rattle.parts.specs.declared.Refusal.the-variants.{BadState}
 use Rattle.parts.specs.declared.Verdict.{Verdict}
@@ -33,7 +33,7 @@ use Rattle.pack_driver.proofs.Kept.{small-all, packs-small, driver-packs-back, 
 use Rattle.pack_driver.proofs.Range.{driver-refuses-others, stays-small}
 use Rattle.sapwoodle.specs.declared.drivers.Told.{Told}
 use Rattle.sapwoodle.specs.Drivers.{readsOf, placeOf, budgetOf, requestOf, beginVerdictIn, driverBytesAfterBegin, beginning, toldOf, driverBytesAfterNext, asking}
-use Rattle.sapwoodle.specs.Promises.{BeginKeeps, NextKeeps, BeginIsDrivers, BeginHolds, NextIsDrivers, NextRefuses4, refusingBegin, refusingNext, RefusingBeginBreaks, RefusingNextBreaks}
+use Rattle.sapwoodle.specs.Promises.{BeginKeeps, NextKeeps, BeginIsDrivers, BeginHolds, NextIsDrivers, NextRefuses4, RefusingBeginBreaks, RefusingNextBreaks}
 use Rattle.sapwoodle.proofs.drivers.Laws.{roomless-refused}
 use Rattle.sapwoodle.proofs.drivers.Steps.{move-well}
 
