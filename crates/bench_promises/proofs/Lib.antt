@@ -18,3 +18,4 @@ pub mod Rest
 pub mod Recount
 pub mod Idle
 pub mod Trials
+pub mod Accepted

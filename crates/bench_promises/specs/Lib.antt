@@ -5,3 +5,4 @@ pub mod Calls
 pub mod Numbers
 pub mod Idle
 pub mod Trials
+pub mod Accepted

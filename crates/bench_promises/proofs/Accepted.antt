@@ -1,0 +1,306 @@
+-- No call of a run is refused for the state, so the run of calls is the run.
+-- Assumes nothing.
+use Prim.Native.Nat.{ℕ, zero, suc, _+_, _<_}
+use mathlib.Core.Path.{_≡_, refl, sym, _∙_, ap, subst}
+use mathlib.Core.Bool.{Bool, true, false, false≢true}
+use mathlib.Core.List.{List, [], _∷_, _++_}
+use lib.ListN.{length, replicate}
+use native.Mathlib.Omega.{arith}
+use borrow.Author.Tests.{lt-ltb, eq-eqb}
+use Rattle.parts.specs.declared.Refusal.the-variants.{BadState}
+use Rattle.parts.specs.declared.Verdict.{Verdict}
+use Rattle.parts.specs.declared.Verdict.the-variants.{Fine}
+use Rattle.parts.specs.Table.{factsOf, idSizeOf, enableRightOf, buffersRightOf}
+use Rattle.parts.specs.Events.{eventOf}
+use Rattle.parts.specs.Refusals.{isFine, numberOf, soonerOf}
+use Rattle.parts.specs.Bytes.{AllBelow}
+use Rattle.parts.proofs.Claims.{refused-not}
+use Rattle.line.specs.declared.Target.{Target}
+use Rattle.line.specs.declared.Target.the-variants.{Array as TheArray, Ident as TheIdent}
+use Rattle.line.specs.declared.Cycle.the-variants.{Writing}
+use Rattle.line.specs.declared.Phase.the-variants.{Idle, Busy}
+use Rattle.line.specs.Rules.{rollOf, beforeOf, onwardOf, enabledOf, namedOf, decodeOf, addressStartOf, selectedOf, loadArrayOf, loadIdOf, loadedOf, refusesOf, latchedOf, filledOf, lockedByOf, takenOf, receivedOf, receiveActOf, receiveLevelOf, movedOf, sentOf, sendLevelOf, clockedOf, clockActOf, clockLevelOf, startedOf, startActOf, asksOf, placedOf, stoppedOf, stopActOf, stopBegunOf, endedByOf, endedOf, endActOf, nextOf, actOf, levelOf, begunOf}
+use Rattle.state.specs.declared.Chip.{Chip}
+use Rattle.chip.specs.Memory.{Mem, mem, noLatch, cellsOf, oneOf, counterPageOf, committedOf, cycleStoredOf, storedOf, storeOf, shownOf, seenOf, stateOf, chipLevelOf}
+use Rattle.chip.specs.Model.{Model, ours}
+use Rattle.chip.specs.Calls.{stepBy, stepMem, stepVerdict, stepOf}
+use Rattle.chip.specs.Delivery.{pinAtFirstOf, standbyOf}
+use Rattle.chip.specs.Onward.{ignoresOf}
+use Rattle.chip_laws.proofs.Range.{standby-in-range}
+use Rattle.chip_laws.proofs.Runs.{store-lengths}
+use Rattle.driver.specs.declared.Place.the-variants.{Array}
+use Rattle.driver.specs.declared.Request.{Request}
+use Rattle.driver.specs.declared.Failed.{Failed}
+use Rattle.driver.specs.declared.Failed.the-variants.{AtSelect, AtData, AtPolls}
+use Rattle.driver.specs.declared.Driver.{Driver}
+use Rattle.driver.specs.declared.Answer.{Answer}
+use Rattle.driver.specs.declared.Answer.the-variants.{Send, Done, Refused}
+use Rattle.driver.specs.Request.{kOf, allowedOf, beyondAt, limitOf, judgeOf}
+use Rattle.driver.specs.Split.{toPageEndOf, pagesMetOf}
+use Rattle.driver.specs.Step.{refusalOf, selectAt, wireOf, bitOf, shiftOf, readyOf, bitsAt, leadAt, lowAt, dataAt, pollMoveOf, answeredOf, takeAt, heardMoveOf, bitsMoveOf, driverStepOf, countsRight, rangeOf, driverNextOf, byteKeptOf, bufferOf}
+use Rattle.driver.specs.Machine.{ourDriver}
+use Rattle.driver.proofs.Facts.{range-good}
+use Rattle.driver_promises.proofs.View.{at}
+use Rattle.driver_promises.proofs.Inv.{in-range}
+use Rattle.bench.specs.Together.{System, startOf, clockOf, ends, answeredBy, askedOf, cycleEndedOf, togetherOf}
+use Rattle.bench.specs.Held.{Fit}
+use Rattle.bench.proofs.Laws.{Small, small, fine-step, fit-on}
+use Rattle.bench_promises.specs.Together.{answerOf, Safe, ReadRight}
+use Rattle.bench_promises.specs.Ends.{Complete}
+use Rattle.bench_promises.specs.Accepted.{BeginsInRange, BeginAccepted, Accepts, StepsAccepted, steppedBy, nextCalledOf, endCalledOf, callsOf, byCalls, ourRun, CallsAreRun, TrueOfCalls, CallsWriteSafe, CallsReadRight, CallsWriteEnd, refusingEnds, RefusingEndsBreaks}
+use Rattle.bench_promises.proofs.Whole.{Holds, G, sane, holds}
+use Rattle.bench_promises.proofs.Stored.{spoken, writes-safe, reads-right}
+use Rattle.bench_promises.proofs.Live.{writes-end}
+
+-- ---- what `step` needs of the chip and its memory: every event of a run keeps it
+
+module _ (part en : ℕ) where
+  abbrev M : Model
+  M = ours (factsOf part) en
+
+  abbrev Fits : System → Type 0
+  Fits s = Fit part en (s .chip) (length (s .mem .cells)) (length (s .mem .ident))
+
+  fits-on : (c : Chip) (m : Mem) (e : ℕ) → e < 5 → Fit part en c (length (m .cells)) (length (m .ident))
+      → Fit part en (M .next c e) (length (M .store c m e .cells)) (length (M .store c m e .ident))
+  fits-on c m e h t =
+      let l = store-lengths (factsOf part) c m (eventOf e) in
+      rw (l .0, l .1) (fit-on part en c (length (m .cells)) (length (m .ident)) t e h)
+
+  taken : (s : System) (e : ℕ) → e < 5 → Fits s → stepVerdict part en (s .chip) (s .mem) e ≡ Fine
+  taken s e h t = fine-step part en (s .chip) (length (s .mem .cells)) (length (s .mem .ident)) t e h
+
+  -- the answer's own verdict
+  told : (c : Chip) (m : Mem) (e : ℕ) → stepVerdict part en c m e ≡ Fine → stepOf part en c m e .answer .verdict ≡ Fine
+  told c m e h = ap (λ (v : Verdict). stepBy M c m e v .verdict) h
+
+  -- ---- one asking
+
+  answered-fits : (s : System) (d : Driver) (b : List ℕ) (a : Answer) → Small a → Fits s → Fits (answeredBy M s d b a)
+  answered-fits s d b (Send e) h t = fits-on (s .chip) (s .mem) e (omega arith) t
+  answered-fits s d b (Done q n) h t = t
+  answered-fits s d b (Refused f q n) h t = t
+
+  answered-same : (s : System) (d : Driver) (b : List ℕ) (a : Answer) → Small a → Fits s → steppedBy stepOf part en s d b a ≡ answeredBy M s d b a
+  answered-same s d b (Send e) h t =
+      ap
+      (λ (v : Verdict).
+      record {
+        driver = d;
+        level = stepBy M (s .chip) (s .mem) e v .level;
+        buffer = b;
+        chip = stepBy M (s .chip) (s .mem) e v .chip;
+        mem = stepMem M (s .chip) (s .mem) e v;
+        cycles = s .cycles + stepBy M (s .chip) (s .mem) e v .cycles;
+        clocks = s .clocks + clockOf e;
+      })
+      (taken s e (omega arith) t)
+  answered-same s d b (Done q n) h t = refl
+  answered-same s d b (Refused f q n) h t = refl
+
+  module _ (s : System) (t : Fits s) where
+    asked-fits : Fits (askedOf ourDriver M s)
+    unfolding askedOf
+    asked-fits =
+        answered-fits s (driverNextOf (s .driver) (s .level) (s .buffer) .driver) (bufferOf (s .driver) (s .level) (s .buffer)) (answerOf s) (small (s .driver) (s .level) (s .buffer)) t
+
+    asked-same : nextCalledOf stepOf part en ourDriver s ≡ askedOf ourDriver M s
+    unfolding nextCalledOf askedOf
+    asked-same =
+        answered-same s (driverNextOf (s .driver) (s .level) (s .buffer) .driver) (bufferOf (s .driver) (s .level) (s .buffer)) (answerOf s) (small (s .driver) (s .level) (s .buffer)) t
+
+    -- ---- one end of a cycle, which begins none
+    ended-fits : Fits (cycleEndedOf M s)
+    unfolding cycleEndedOf
+    ended-fits = fits-on (s .chip) (s .mem) ends (omega arith) t
+
+    none-begun : s .cycles + begunOf (s .chip .line) (eventOf ends) ≡ s .cycles
+    unfolding begunOf eventOf
+    none-begun = omega arith
+
+    ended-same : endCalledOf stepOf part en s ≡ cycleEndedOf M s
+    unfolding endCalledOf cycleEndedOf
+    ended-same =
+        ap
+        (λ (v : Verdict).
+        record {
+          driver = s .driver;
+          level = s .level;
+          buffer = s .buffer;
+          chip = stepBy M (s .chip) (s .mem) ends v .chip;
+          mem = stepMem M (s .chip) (s .mem) ends v;
+          cycles = s .cycles + stepBy M (s .chip) (s .mem) ends v .cycles;
+          clocks = s .clocks;
+        })
+        (taken s ends (omega arith) t)
+        ∙ ap
+        (λ (n : ℕ).
+        record {
+          driver = s .driver;
+          level = s .level;
+          buffer = s .buffer;
+          chip = M .next (s .chip) ends;
+          mem = M .store (s .chip) (s .mem) ends;
+          cycles = n;
+          clocks = s .clocks;
+        })
+        none-begun
+
+  -- ---- any choices
+
+  all-fit : (bs : List Bool) (s : System) → Fits s → Fits (togetherOf ourDriver M bs s)
+  unfolding togetherOf
+  all-fit [] s t = t
+  all-fit (true ∷ bs) s t = all-fit bs (askedOf ourDriver M s) (asked-fits s t)
+  all-fit (false ∷ bs) s t = all-fit bs (cycleEndedOf M s) (ended-fits s t)
+
+  all-same : (bs : List Bool) (s : System) → Fits s → callsOf stepOf part en ourDriver bs s ≡ togetherOf ourDriver M bs s
+  unfolding togetherOf callsOf
+  all-same [] s t = refl
+  all-same (true ∷ bs) s t = ap (callsOf stepOf part en ourDriver bs) (asked-same s t) ∙ all-same bs (askedOf ourDriver M s) (asked-fits s t)
+  all-same (false ∷ bs) s t = ap (callsOf stepOf part en ourDriver bs) (ended-same s t) ∙ all-same bs (cycleEndedOf M s) (ended-fits s t)
+
+-- ---- from the start
+
+module _ (r : Request) (xs : List ℕ) (c : Chip) (m : Mem) (b : BeginsInRange r xs c m) where
+  start-fits : Fits (r .part) (r .enable) (startOf r xs c m)
+  unfolding enableRightOf buffersRightOf
+  start-fits =
+      let g = sane r xs c m (b .begins) .good in
+      let o = b .begins .idle in
+      record {
+        known = g .known;
+        enabled = lt-ltb _ _ (g .enable);
+        lent = rw (eq-eqb _ _ (o .cells), eq-eqb _ _ (o .ident)) refl;
+        ranged = b .ranged;
+        typed = b .typed;
+      }
+
+  module _ (bs : List Bool) where
+    abbrev Y : System
+    Y = togetherOf ourDriver (ours (factsOf (r .part)) (r .enable)) bs (startOf r xs c m)
+
+    fits : Fits (r .part) (r .enable) Y
+    fits = all-fit (r .part) (r .enable) bs (startOf r xs c m) start-fits
+
+    H : Holds (G r xs c m (b .begins)) Y
+    H = holds r xs c m (b .begins) bs
+
+    driver-is : at r (Y .driver .phase) (Y .driver .counts) ≡ Y .driver
+    driver-is = ap (λ (q : Request). at q (Y .driver .phase) (Y .driver .counts)) (sym (H .request))
+
+    driver-in : rangeOf (Y .driver) (length (Y .buffer)) ≡ true
+    driver-in =
+        subst (λ (d : Driver). rangeOf d (length (Y .buffer)) ≡ true) driver-is
+        (range-good (at r (Y .driver .phase) (Y .driver .counts)) (length (Y .buffer)) (ap isFine (b .begins .accepted .fine))
+        (in-range r (Y .driver .phase) (Y .driver .counts) (length (Y .buffer)) (H .size) (H .inv)))
+
+    -- a driver that has begun refuses with 9, 10 or 11
+    not-four : (f : Failed) → BadState ≡ refusalOf f → ⊥
+    not-four AtSelect e = omega (arith, ap numberOf e)
+    not-four AtData e = omega (arith, ap numberOf e)
+    not-four AtPolls e = omega (arith, ap numberOf e)
+
+    accepts : Accepts stepOf r Y
+    accepts =
+        record {
+          sent = λ e a. told (r .part) (r .enable) (Y .chip) (Y .mem) e (taken (r .part) (r .enable) Y e (few e a) fits);
+          ended = told (r .part) (r .enable) (Y .chip) (Y .mem) ends (taken (r .part) (r .enable) Y ends (omega arith) fits);
+          ranged = driver-in;
+          asked = λ q n e. (let z = spoken r xs c m (b .begins) bs (Refused BadState q n) e in not-four (z .0) (z .2));
+        }
+      where
+        few : (e : ℕ) → answerOf Y ≡ Send e → e < 5
+        few e a = let h : e < 4 = subst Small a (small (Y .driver) (Y .level) (Y .buffer)) in omega arith
+
+-- ---- the statements
+
+pub begin-accepted : BeginAccepted
+begin-accepted r xs c m b = ap (λ (v : Verdict). record { verdict = v; driver = startOf r xs c m .driver }) (b .accepted .fine)
+
+pub steps-accepted : StepsAccepted stepOf ourRun
+steps-accepted r xs c m bs b = accepts r xs c m b bs
+
+pub calls-are-run : CallsAreRun ourDriver stepOf
+calls-are-run r xs c m bs b = all-same (r .part) (r .enable) bs (startOf r xs c m) (start-fits r xs c m b)
+
+pub true-of-calls : TrueOfCalls ourDriver stepOf
+true-of-calls P r xs c m bs b h = subst P (sym (calls-are-run r xs c m bs b)) h
+
+pub calls-accepted : StepsAccepted stepOf (byCalls ourDriver stepOf)
+calls-accepted r xs c m bs b = true-of-calls (Accepts stepOf r) r xs c m bs b (steps-accepted r xs c m bs b)
+
+-- ---- the demands on writes and reads
+
+pub calls-write-safe : CallsWriteSafe ourDriver stepOf
+calls-write-safe r xs c m bs w b = true-of-calls (Safe r xs c m) r xs c m bs b (writes-safe r xs c m bs w (b .begins))
+
+pub calls-read-right : CallsReadRight ourDriver stepOf
+calls-read-right r xs c m bs w b = true-of-calls (ReadRight r xs c m) r xs c m bs b (reads-right r xs c m bs w (b .begins))
+
+pub calls-write-end : CallsWriteEnd ourDriver stepOf
+calls-write-end r xs c m bs w b u t h = true-of-calls (Complete r) r xs c m bs b (writes-end r xs c m bs w (b .begins) u t h)
+
+-- ---- a chip that refuses the end of a cycle
+
+-- one byte at 0 of part 0
+abbrev one : Request
+one = record { part = 0; enable = 0; place = Array (record { 0 = 0 }); reads = false; length = 1; budget = 1 }
+
+abbrev chip₀ : Chip
+chip₀ = standbyOf (factsOf 0) false
+
+abbrev mem₀ : Mem
+mem₀ = mem (replicate 2048 255) (replicate 16 255)
+
+abbrev byte : List ℕ
+byte = 90 ∷ []
+
+same-bytes : (n : ℕ) → AllBelow 256 (replicate n 255)
+same-bytes zero = tt
+same-bytes (suc n) = (omega arith, same-bytes n)
+
+both : (t : Target) → AllBelow 256 (cellsOf t mem₀)
+both TheArray = same-bytes 2048
+both TheIdent = same-bytes 16
+
+begins : BeginsInRange one byte chip₀ mem₀
+unfolding judgeOf soonerOf factsOf idSizeOf enableRightOf beyondAt limitOf standbyOf
+begins =
+    let s = standby-in-range 0 false (λ e. absurd (false≢true e)) in
+    record {
+      begins = record { accepted = record { fine = refl; size = refl }; bytes = (omega arith, tt); idle = record { idle = refl; cells = refl; ident = refl; bytes = both } };
+      typed = s .1;
+      ranged = s .0;
+    }
+
+-- Start, the 27 clocks of select, address and data, Stop: the cycle runs
+abbrev asks : List Bool
+asks = replicate 29 true
+
+abbrev after : List Bool → System
+after bs = ourRun (factsOf 0) 0 bs (startOf one byte chip₀ mem₀)
+
+computed : (after asks .chip .line .phase ≡ Busy (Writing TheArray)) × (after (asks ++ (false ∷ [])) .chip .line .phase ≡ Idle)
+unfolding factsOf eventOf soonerOf enableRightOf rollOf beforeOf onwardOf enabledOf namedOf decodeOf addressStartOf selectedOf loadArrayOf loadIdOf loadedOf refusesOf latchedOf filledOf lockedByOf takenOf receivedOf receiveActOf receiveLevelOf movedOf sentOf sendLevelOf clockedOf clockActOf clockLevelOf startedOf startActOf asksOf placedOf stoppedOf stopActOf stopBegunOf endedByOf endedOf endActOf nextOf actOf levelOf begunOf noLatch oneOf counterPageOf committedOf cycleStoredOf storedOf storeOf shownOf seenOf stateOf chipLevelOf pinAtFirstOf standbyOf beyondAt limitOf judgeOf allowedOf kOf toPageEndOf pagesMetOf selectAt wireOf bitOf shiftOf readyOf bitsAt leadAt lowAt dataAt pollMoveOf answeredOf takeAt heardMoveOf bitsMoveOf driverStepOf countsRight rangeOf driverNextOf byteKeptOf bufferOf askedOf cycleEndedOf togetherOf
+computed = (refl, refl)
+
+-- the last choice, an end, changes nothing in the chip
+end-refused : (bs : List Bool) (s : System) → callsOf refusingEnds 0 0 ourDriver (bs ++ (false ∷ [])) s .chip ≡ callsOf refusingEnds 0 0 ourDriver bs s .chip
+unfolding callsOf endCalledOf
+end-refused [] s = refl
+end-refused (true ∷ bs) s = end-refused bs (nextCalledOf refusingEnds 0 0 ourDriver s)
+end-refused (false ∷ bs) s = end-refused bs (endCalledOf refusingEnds 0 0 s)
+
+still-busy : CallsAreRun ourDriver refusingEnds → after (asks ++ (false ∷ [])) .chip .line .phase ≡ after asks .chip .line .phase
+still-busy p =
+    ap (λ (s : System). s .chip .line .phase) (sym (p one byte chip₀ mem₀ (asks ++ (false ∷ [])) begins))
+    ∙ (ap (λ (k : Chip). k .line .phase) (end-refused asks (startOf one byte chip₀ mem₀))
+    ∙ ap (λ (s : System). s .chip .line .phase) (p one byte chip₀ mem₀ asks begins))
+
+pub refusing-ends-breaks : RefusingEndsBreaks
+refusing-ends-breaks =
+    record {
+      accepted = λ p. refused-not (p one byte chip₀ mem₀ [] begins .ended);
+      same = λ p. omega (arith, ap ignoresOf (sym (computed .1) ∙ (still-busy p ∙ computed .0)));
+    }

@@ -1,0 +1,141 @@
+-- Demands 2 and 3, of calls: a user makes a run of driver and chip by `begin` and `next` of the driver and `step` of the chip alone. Of
+-- a chip in range none of these calls is refused for the state at any moment, so the run of calls is the run of Together.antt and
+-- Ends.antt, and every demand on that run is one on what calls answer and leave. Each statement is a type over any such calls.
+-- Assumes nothing.
+use Prim.Native.Nat.{ℕ, _+_, _<_}
+use mathlib.Core.Path.{_≡_}
+use mathlib.Core.Bool.{Bool, true, false, cond}
+use mathlib.Core.List.{List, [], _∷_}
+use lib.ListN.{length}
+use lib.Dec.{eqb}
+use Rattle.parts.specs.declared.Refusal.the-variants.{BadState, BadEvent}
+use Rattle.parts.specs.declared.Verdict.the-variants.{Fine}
+use Rattle.parts.specs.Table.{factsOf}
+use Rattle.state.specs.declared.Chip.{Chip}
+use Rattle.state.specs.Range.{inRangeOf}
+use Rattle.chip.specs.Memory.{Mem}
+use Rattle.chip.specs.Model.{ours}
+use Rattle.chip.specs.Calls.{stepOf}
+use Rattle.chip_laws.specs.Range.{Typed}
+use Rattle.chip_promises.specs.Calls.{Step}
+use Rattle.chip_promises.specs.Idle.{refusingStep}
+use Rattle.driver.specs.declared.Request.{Request}
+use Rattle.driver.specs.declared.Driver.{Driver}
+use Rattle.driver.specs.declared.Answer.{Answer}
+use Rattle.driver.specs.declared.Answer.the-variants.{Send, Done, Refused}
+use Rattle.driver.specs.Step.{rangeOf, beginOf}
+use Rattle.driver.specs.Machine.{Machine, ourDriver}
+use Rattle.driver_promises.specs.Run.{boundOf}
+use Rattle.bench.specs.Together.{System, startOf, clockOf, ends, togetherOf}
+use Rattle.bench_promises.specs.Together.{Runs, Begins, answerOf, askings, Safe, ReadRight, systemAfter}
+use Rattle.bench_promises.specs.Ends.{Writable, InTime, Complete}
+
+-- an accepted request on an idle chip, which is in range; `Typed` is what the types say of every chip that code can hold
+pub record BeginsInRange (r : Request) (xs : List ℕ) (c : Chip) (m : Mem) : Type 0 where
+  pub begins : Begins r xs c m
+  pub typed : Typed c
+  pub ranged : inRangeOf (factsOf (r .part)) c ≡ true
+
+-- ---- no call is refused for the state
+
+-- `begin` is not refused, and answers the driver that the run starts with
+abbrev pub BeginAccepted : Type 0
+BeginAccepted = (r : Request) (xs : List ℕ) (c : Chip) (m : Mem) → Begins r xs c m → beginOf r ≡ record { verdict = Fine; driver = startOf r xs c m .driver }
+
+-- at one moment
+pub record Accepts (S : Step) (r : Request) (s : System) : Type 0 where
+  -- `step` takes the event that the driver sends next, and the end of a cycle, whether one runs or not
+  pub sent : (e : ℕ) → answerOf s ≡ Send e → S (r .part) (r .enable) (s .chip) (s .mem) e .answer .verdict ≡ Fine
+  pub ended : S (r .part) (r .enable) (s .chip) (s .mem) ends .answer .verdict ≡ Fine
+  -- the driver is in range with its buffer, and `next` does not answer refusal 4
+  pub ranged : rangeOf (s .driver) (length (s .buffer)) ≡ true
+  pub asked : (q n : ℕ) → answerOf s ≡ Refused BadState q n → ⊥
+
+-- at every moment of every run
+abbrev pub StepsAccepted : Step → Runs → Type 0
+StepsAccepted S run = (r : Request) (xs : List ℕ) (c : Chip) (m : Mem) (bs : List Bool) → BeginsInRange r xs c m → Accepts S r (systemAfter run r xs c m bs)
+
+-- ---- the same interleaving, of calls only
+
+module _ (S : Step) (part enable : ℕ) where
+  -- the event that the driver sends is given to `step`; what that call answers and leaves is taken, also where it is refused
+  abbrev pub steppedBy : System → Driver → List ℕ → Answer → System
+  steppedBy s d b (Send e) =
+      record {
+        driver = d;
+        level = S part enable (s .chip) (s .mem) e .answer .level;
+        buffer = b;
+        chip = S part enable (s .chip) (s .mem) e .answer .chip;
+        mem = S part enable (s .chip) (s .mem) e .mem;
+        cycles = s .cycles + S part enable (s .chip) (s .mem) e .answer .cycles;
+        clocks = s .clocks + clockOf e;
+      }
+  steppedBy s d b (Done polls bytes) = s
+  steppedBy s d b (Refused f polls bytes) = s
+
+  -- one call of `next`
+  unfoldable pub nextCalledOf : Machine → System → System
+  nextCalledOf D s =
+      steppedBy s (D .next (s .driver) (s .level) (s .buffer) .driver) (D .leaves (s .driver) (s .level) (s .buffer)) (D .next (s .driver) (s .level) (s .buffer) .answer)
+
+  -- the end of a cycle is given to `step`; the driver is told nothing of it
+  unfoldable pub endCalledOf : System → System
+  endCalledOf s =
+      record {
+        driver = s .driver;
+        level = s .level;
+        buffer = s .buffer;
+        chip = S part enable (s .chip) (s .mem) ends .answer .chip;
+        mem = S part enable (s .chip) (s .mem) ends .mem;
+        cycles = s .cycles + S part enable (s .chip) (s .mem) ends .answer .cycles;
+        clocks = s .clocks;
+      }
+
+  -- any interleaving: true calls `next`, false is an end
+  unfoldable pub callsOf : Machine → List Bool → System → System
+  callsOf D [] s = s
+  callsOf D (true ∷ bs) s = callsOf D bs (nextCalledOf D s)
+  callsOf D (false ∷ bs) s = callsOf D bs (endCalledOf s)
+
+-- the part is the one that the driver's request names
+abbrev pub byCalls : Machine → Step → Runs
+byCalls D S f enable bs s = callsOf S (s .driver .request .part) enable D bs s
+
+-- the run that the demands speak of
+abbrev pub ourRun : Runs
+ourRun f enable = togetherOf ourDriver (ours f enable)
+
+-- the run of calls is that run
+abbrev pub CallsAreRun : Machine → Step → Type 0
+CallsAreRun D S = (r : Request) (xs : List ℕ) (c : Chip) (m : Mem) (bs : List Bool) → BeginsInRange r xs c m
+    → systemAfter (byCalls D S) r xs c m bs ≡ systemAfter ourRun r xs c m bs
+
+-- ---- so whatever is true at a moment of that run is true of calls
+
+abbrev pub TrueOfCalls : Machine → Step → Type 1
+TrueOfCalls D S = (P : System → Type 0) (r : Request) (xs : List ℕ) (c : Chip) (m : Mem) (bs : List Bool) → BeginsInRange r xs c m
+    → P (systemAfter ourRun r xs c m bs) → P (systemAfter (byCalls D S) r xs c m bs)
+
+module _ (D : Machine) (S : Step) where
+  -- `WritesSafe`, `ReadsRight` and `WritesEnd`
+  abbrev pub CallsWriteSafe : Type 0
+  CallsWriteSafe = (r : Request) (xs : List ℕ) (c : Chip) (m : Mem) (bs : List Bool) → r .reads ≡ false → BeginsInRange r xs c m
+      → Safe r xs c m (systemAfter (byCalls D S) r xs c m bs)
+
+  abbrev pub CallsReadRight : Type 0
+  CallsReadRight = (r : Request) (xs : List ℕ) (c : Chip) (m : Mem) (bs : List Bool) → r .reads ≡ true → BeginsInRange r xs c m
+      → ReadRight r xs c m (systemAfter (byCalls D S) r xs c m bs)
+
+  abbrev pub CallsWriteEnd : Type 0
+  CallsWriteEnd = (r : Request) (xs : List ℕ) (c : Chip) (m : Mem) (bs : List Bool) → r .reads ≡ false → BeginsInRange r xs c m
+      → Writable (r .place) (c .line .core) → InTime (factsOf (r .part)) (r .enable) bs (startOf r xs c m) → boundOf r < askings bs
+      → Complete r (systemAfter (byCalls D S) r xs c m bs)
+
+-- ---- a chip that refuses midway: as ours, but the end of a cycle is refused with 5
+
+abbrev pub refusingEnds : Step
+refusingEnds part enable c m e = cond (eqb e ends) (refusingStep (BadEvent 0) part enable c m e) (stepOf part enable c m e)
+
+pub record RefusingEndsBreaks : Type 0 where
+  pub accepted : StepsAccepted refusingEnds ourRun → ⊥
+  pub same : CallsAreRun ourDriver refusingEnds → ⊥
