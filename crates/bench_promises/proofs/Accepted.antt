@@ -9,26 +9,27 @@ use native.Mathlib.Omega.{arith}
 use borrow.Author.Tests.{lt-ltb, eq-eqb}
 use Rattle.parts.specs.declared.Refusal.the-variants.{BadState}
 use Rattle.parts.specs.declared.Verdict.{Verdict}
-use Rattle.parts.specs.declared.Verdict.the-variants.{Fine}
+use Rattle.parts.specs.declared.Verdict.the-variants.{Fine, Refused as Judged}
 use Rattle.parts.specs.Table.{factsOf, idSizeOf, enableRightOf, buffersRightOf}
 use Rattle.parts.specs.Events.{eventOf}
 use Rattle.parts.specs.Refusals.{isFine, numberOf, soonerOf}
 use Rattle.parts.specs.Bytes.{AllBelow}
-use Rattle.parts.proofs.Claims.{refused-not}
+use Rattle.parts.proofs.Claims.{refused-not, sooner-fine}
 use Rattle.line.specs.declared.Target.{Target}
 use Rattle.line.specs.declared.Target.the-variants.{Array as TheArray, Ident as TheIdent}
 use Rattle.line.specs.declared.Cycle.the-variants.{Writing}
 use Rattle.line.specs.declared.Phase.the-variants.{Idle, Busy}
-use Rattle.line.specs.Rules.{rollOf, beforeOf, onwardOf, enabledOf, namedOf, decodeOf, addressStartOf, selectedOf, loadArrayOf, loadIdOf, loadedOf, refusesOf, latchedOf, filledOf, lockedByOf, takenOf, receivedOf, receiveActOf, receiveLevelOf, movedOf, sentOf, sendLevelOf, clockedOf, clockActOf, clockLevelOf, startedOf, startActOf, asksOf, placedOf, stoppedOf, stopActOf, stopBegunOf, endedByOf, endedOf, endActOf, nextOf, actOf, levelOf, begunOf}
+use Rattle.line.specs.Rules.{enabledOf, namedOf, decodeOf, addressStartOf, selectedOf, loadArrayOf, loadedOf, refusesOf, latchedOf, filledOf, lockedByOf, takenOf, receivedOf, receiveActOf, receiveLevelOf, movedOf, clockedOf, clockActOf, clockLevelOf, startedOf, startActOf, asksOf, placedOf, stoppedOf, endedByOf, endedOf, endActOf, nextOf, actOf, levelOf, begunOf}
 use Rattle.state.specs.declared.Chip.{Chip}
-use Rattle.chip.specs.Memory.{Mem, mem, noLatch, cellsOf, oneOf, counterPageOf, committedOf, cycleStoredOf, storedOf, storeOf, shownOf, seenOf, stateOf, chipLevelOf}
+use Rattle.state.specs.Range.{inRangeOf}
+use Rattle.chip.specs.Memory.{Mem, mem, cellsOf, seenOf, stateOf, chipLevelOf}
 use Rattle.chip.specs.Model.{Model, ours}
-use Rattle.chip.specs.Calls.{stepBy, stepMem, stepVerdict, stepOf}
-use Rattle.chip.specs.Delivery.{pinAtFirstOf, standbyOf}
+use Rattle.chip.specs.Calls.{heldVerdictOf, stepVerdictOf, stepBy, stepMem, stepVerdict, stepOf}
+use Rattle.chip.specs.Delivery.{pinAtFirstOf, standbyOf, deliveredIdOf, deliveredOf}
 use Rattle.chip.specs.Onward.{ignoresOf}
+use Rattle.chip.proofs.Laws.{held-fine}
 use Rattle.chip_laws.proofs.Range.{standby-in-range}
 use Rattle.chip_laws.proofs.Runs.{store-lengths}
-use Rattle.driver.specs.declared.Place.the-variants.{Array}
 use Rattle.driver.specs.declared.Request.{Request}
 use Rattle.driver.specs.declared.Failed.{Failed}
 use Rattle.driver.specs.declared.Failed.the-variants.{AtSelect, AtData, AtPolls}
@@ -37,7 +38,7 @@ use Rattle.driver.specs.declared.Answer.{Answer}
 use Rattle.driver.specs.declared.Answer.the-variants.{Send, Done, Refused}
 use Rattle.driver.specs.Request.{kOf, allowedOf, beyondAt, limitOf, judgeOf}
 use Rattle.driver.specs.Split.{toPageEndOf, pagesMetOf}
-use Rattle.driver.specs.Step.{refusalOf, selectAt, wireOf, bitOf, shiftOf, readyOf, bitsAt, leadAt, lowAt, dataAt, pollMoveOf, answeredOf, takeAt, heardMoveOf, bitsMoveOf, driverStepOf, countsRight, rangeOf, driverNextOf, byteKeptOf, bufferOf}
+use Rattle.driver.specs.Step.{refusalOf, selectAt, wireOf, bitOf, shiftOf, readyOf, bitsAt, leadAt, lowAt, dataAt, pollMoveOf, heardMoveOf, bitsMoveOf, driverStepOf, countsRight, rangeOf, driverNextOf, byteKeptOf, bufferOf, fresh}
 use Rattle.driver.specs.Machine.{ourDriver}
 use Rattle.driver.proofs.Facts.{range-good}
 use Rattle.driver_promises.proofs.View.{at}
@@ -47,7 +48,8 @@ use Rattle.bench.specs.Held.{Fit}
 use Rattle.bench.proofs.Laws.{Small, small, fine-step, fit-on}
 use Rattle.bench_promises.specs.Together.{answerOf, Safe, ReadRight}
 use Rattle.bench_promises.specs.Ends.{Complete}
-use Rattle.bench_promises.specs.Accepted.{BeginsInRange, BeginAccepted, Accepts, StepsAccepted, steppedBy, nextCalledOf, endCalledOf, callsOf, byCalls, ourRun, CallsAreRun, TrueOfCalls, CallsWriteSafe, CallsReadRight, CallsWriteEnd, refusingEnds, RefusingEndsBreaks}
+use Rattle.bench_promises.specs.Trials.{fiveBytes, fiveAt30}
+use Rattle.bench_promises.specs.Accepted.{BeginsInRange, BeginAccepted, Accepts, StepsAccepted, steppedBy, nextCalledOf, endCalledOf, callsOf, byCalls, ourRun, CallsAreRun, TrueOfCalls, CallsWriteSafe, CallsReadRight, CallsWriteEnd, refusingEnds, nineLeft, RefusedMidwayBreaks}
 use Rattle.bench_promises.proofs.Whole.{Holds, G, sane, holds}
 use Rattle.bench_promises.proofs.Stored.{spoken, writes-safe, reads-right}
 use Rattle.bench_promises.proofs.Live.{writes-end}
@@ -243,64 +245,83 @@ calls-write-end r xs c m bs w b u t h = true-of-calls (Complete r) r xs c m bs b
 
 -- ---- a chip that refuses the end of a cycle
 
--- one byte at 0 of part 0
-abbrev one : Request
-one = record { part = 0; enable = 0; place = Array (record { 0 = 0 }); reads = false; length = 1; budget = 1 }
-
+-- the driver's trial: five bytes at 30 of a part 2 as delivered
 abbrev chip₀ : Chip
-chip₀ = standbyOf (factsOf 0) false
+chip₀ = standbyOf (factsOf 2) false
 
 abbrev mem₀ : Mem
-mem₀ = mem (replicate 2048 255) (replicate 16 255)
-
-abbrev byte : List ℕ
-byte = 90 ∷ []
+mem₀ = deliveredOf 2
 
 same-bytes : (n : ℕ) → AllBelow 256 (replicate n 255)
 same-bytes zero = tt
 same-bytes (suc n) = (omega arith, same-bytes n)
 
-both : (t : Target) → AllBelow 256 (cellsOf t mem₀)
-both TheArray = same-bytes 2048
-both TheIdent = same-bytes 16
-
-begins : BeginsInRange one byte chip₀ mem₀
-unfolding judgeOf soonerOf factsOf idSizeOf enableRightOf beyondAt limitOf standbyOf
+begins : BeginsInRange fiveAt30 fiveBytes chip₀ mem₀
+unfolding judgeOf soonerOf factsOf idSizeOf enableRightOf beyondAt limitOf standbyOf deliveredOf deliveredIdOf
 begins =
-    let s = standby-in-range 0 false (λ e. absurd (false≢true e)) in
+    let s = standby-in-range 2 false (λ e. absurd (false≢true e)) in
     record {
-      begins = record { accepted = record { fine = refl; size = refl }; bytes = (omega arith, tt); idle = record { idle = refl; cells = refl; ident = refl; bytes = both } };
+      begins = record { accepted = record { fine = refl; size = refl }; bytes = below; idle = record { idle = refl; cells = refl; ident = refl; bytes = stored } };
       typed = s .1;
       ranged = s .0;
     }
+  where
+    below : AllBelow 256 fiveBytes
+    below = (omega arith, (omega arith, (omega arith, (omega arith, (omega arith, tt)))))
 
--- Start, the 27 clocks of select, address and data, Stop: the cycle runs
+    stored : (t : Target) → AllBelow 256 (cellsOf t mem₀)
+    stored TheArray = same-bytes 8192
+    stored TheIdent = tt
+
+-- Start, the 45 clocks of select, address and the two bytes of the first page, Stop: its cycle runs
 abbrev asks : List Bool
-asks = replicate 29 true
+asks = replicate 47 true
 
 abbrev after : List Bool → System
-after bs = ourRun (factsOf 0) 0 bs (startOf one byte chip₀ mem₀)
+after bs = ourRun (factsOf 2) 0 bs (startOf fiveAt30 fiveBytes chip₀ mem₀)
 
 computed : (after asks .chip .line .phase ≡ Busy (Writing TheArray)) × (after (asks ++ (false ∷ [])) .chip .line .phase ≡ Idle)
-unfolding factsOf eventOf soonerOf enableRightOf rollOf beforeOf onwardOf enabledOf namedOf decodeOf addressStartOf selectedOf loadArrayOf loadIdOf loadedOf refusesOf latchedOf filledOf lockedByOf takenOf receivedOf receiveActOf receiveLevelOf movedOf sentOf sendLevelOf clockedOf clockActOf clockLevelOf startedOf startActOf asksOf placedOf stoppedOf stopActOf stopBegunOf endedByOf endedOf endActOf nextOf actOf levelOf begunOf noLatch oneOf counterPageOf committedOf cycleStoredOf storedOf storeOf shownOf seenOf stateOf chipLevelOf pinAtFirstOf standbyOf beyondAt limitOf judgeOf allowedOf kOf toPageEndOf pagesMetOf selectAt wireOf bitOf shiftOf readyOf bitsAt leadAt lowAt dataAt pollMoveOf answeredOf takeAt heardMoveOf bitsMoveOf driverStepOf countsRight rangeOf driverNextOf byteKeptOf bufferOf askedOf cycleEndedOf togetherOf
+unfolding factsOf eventOf soonerOf enableRightOf enabledOf namedOf decodeOf addressStartOf selectedOf loadArrayOf loadedOf refusesOf latchedOf filledOf lockedByOf takenOf receivedOf receiveActOf receiveLevelOf movedOf clockedOf clockActOf clockLevelOf startedOf startActOf asksOf placedOf stoppedOf endedByOf endedOf endActOf nextOf actOf levelOf seenOf stateOf chipLevelOf pinAtFirstOf standbyOf beyondAt limitOf judgeOf allowedOf kOf toPageEndOf pagesMetOf selectAt wireOf bitOf shiftOf readyOf bitsAt leadAt lowAt dataAt pollMoveOf heardMoveOf bitsMoveOf driverStepOf countsRight rangeOf driverNextOf byteKeptOf bufferOf askedOf cycleEndedOf togetherOf
 computed = (refl, refl)
 
 -- the last choice, an end, changes nothing in the chip
-end-refused : (bs : List Bool) (s : System) → callsOf refusingEnds 0 0 ourDriver (bs ++ (false ∷ [])) s .chip ≡ callsOf refusingEnds 0 0 ourDriver bs s .chip
+end-refused : (bs : List Bool) (s : System) → callsOf refusingEnds 2 0 ourDriver (bs ++ (false ∷ [])) s .chip ≡ callsOf refusingEnds 2 0 ourDriver bs s .chip
 unfolding callsOf endCalledOf
 end-refused [] s = refl
-end-refused (true ∷ bs) s = end-refused bs (nextCalledOf refusingEnds 0 0 ourDriver s)
-end-refused (false ∷ bs) s = end-refused bs (endCalledOf refusingEnds 0 0 s)
+end-refused (true ∷ bs) s = end-refused bs (nextCalledOf refusingEnds 2 0 ourDriver s)
+end-refused (false ∷ bs) s = end-refused bs (endCalledOf refusingEnds 2 0 s)
 
 still-busy : CallsAreRun ourDriver refusingEnds → after (asks ++ (false ∷ [])) .chip .line .phase ≡ after asks .chip .line .phase
 still-busy p =
-    ap (λ (s : System). s .chip .line .phase) (sym (p one byte chip₀ mem₀ (asks ++ (false ∷ [])) begins))
-    ∙ (ap (λ (k : Chip). k .line .phase) (end-refused asks (startOf one byte chip₀ mem₀))
-    ∙ ap (λ (s : System). s .chip .line .phase) (p one byte chip₀ mem₀ asks begins))
+    ap (λ (s : System). s .chip .line .phase) (sym (p fiveAt30 fiveBytes chip₀ mem₀ (asks ++ (false ∷ [])) begins))
+    ∙ (ap (λ (k : Chip). k .line .phase) (end-refused asks (startOf fiveAt30 fiveBytes chip₀ mem₀))
+    ∙ ap (λ (s : System). s .chip .line .phase) (p fiveAt30 fiveBytes chip₀ mem₀ asks begins))
 
-pub refusing-ends-breaks : RefusingEndsBreaks
-refusing-ends-breaks =
+-- a step that is not refused has a chip in range
+says : (M : Model) (c : Chip) (m : Mem) (e : ℕ) (v : Verdict) → stepBy M c m e v .verdict ≡ v
+says M c m e Fine = refl
+says M c m e (Judged r) = refl
+
+ranged : (part en : ℕ) (c : Chip) (m : Mem) (e : ℕ) → stepOf part en c m e .answer .verdict ≡ Fine → inRangeOf (factsOf part) c ≡ true
+unfolding stepVerdictOf
+ranged part en c m e h =
+    let v = sym (says (ours (factsOf part) en) c m e (stepVerdict part en c m e)) ∙ h in
+    held-fine part en c (length (m .cells)) (length (m .ident)) (sooner-fine (heldVerdictOf part en c (length (m .cells)) (length (m .ident))) _ v .0) .ranged
+
+nine-out : inRangeOf (factsOf 2) (nineLeft chip₀) ≡ false
+unfolding inRangeOf factsOf standbyOf
+nine-out = refl
+
+six-out : rangeOf (fresh fiveAt30) 6 ≡ false
+unfolding rangeOf countsRight judgeOf soonerOf factsOf enableRightOf beyondAt limitOf
+six-out = refl
+
+pub refused-midway-breaks : RefusedMidwayBreaks
+unfolding togetherOf
+refused-midway-breaks =
     record {
-      accepted = λ p. refused-not (p one byte chip₀ mem₀ [] begins .ended);
-      same = λ p. omega (arith, ap ignoresOf (sym (computed .1) ∙ (still-busy p ∙ computed .0)));
+      ends-accepted = λ p. refused-not (p fiveAt30 fiveBytes chip₀ mem₀ [] begins .ended);
+      ends-same = λ p. omega (arith, ap ignoresOf (sym (computed .1) ∙ (still-busy p ∙ computed .0)));
+      overfull = λ p. false≢true (sym nine-out ∙ ranged 2 0 (nineLeft chip₀) mem₀ ends (p fiveAt30 fiveBytes chip₀ mem₀ [] begins .ended));
+      overlong = λ p. false≢true (sym six-out ∙ p fiveAt30 fiveBytes chip₀ mem₀ [] begins .ranged);
     }

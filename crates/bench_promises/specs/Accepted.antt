@@ -76,7 +76,8 @@ module _ (S : Step) (part enable : ℕ) where
   -- one call of `next`
   unfoldable pub nextCalledOf : Machine → System → System
   nextCalledOf D s =
-      steppedBy s (D .next (s .driver) (s .level) (s .buffer) .driver) (D .leaves (s .driver) (s .level) (s .buffer)) (D .next (s .driver) (s .level) (s .buffer) .answer)
+      steppedBy s (D .next (s .driver) (s .level) (s .buffer) .driver) (D .leaves (s .driver) (s .level) (s .buffer))
+      (D .next (s .driver) (s .level) (s .buffer) .answer)
 
   -- the end of a cycle is given to `step`; the driver is told nothing of it
   unfoldable pub endCalledOf : System → System
@@ -131,11 +132,30 @@ module _ (D : Machine) (S : Step) where
       → Writable (r .place) (c .line .core) → InTime (factsOf (r .part)) (r .enable) bs (startOf r xs c m) → boundOf r < askings bs
       → Complete r (systemAfter (byCalls D S) r xs c m bs)
 
--- ---- a chip that refuses midway: as ours, but the end of a cycle is refused with 5
+-- ---- what is refused midway
 
+-- the chip: as ours, but the end of a cycle is refused with 5
 abbrev pub refusingEnds : Step
 refusingEnds part enable c m e = cond (eqb e ends) (refusingStep (BadEvent 0) part enable c m e) (stepOf part enable c m e)
 
-pub record RefusingEndsBreaks : Type 0 where
-  pub accepted : StepsAccepted refusingEnds ourRun → ⊥
-  pub same : CallsAreRun ourDriver refusingEnds → ⊥
+-- runs as ours, but with another chip and another buffer
+abbrev pub spoiled : (Chip → Chip) → (List ℕ → List ℕ) → System → System
+spoiled f g s =
+    record { driver = s .driver; level = s .level; buffer = g (s .buffer); chip = f (s .chip); mem = s .mem; cycles = s .cycles; clocks = s .clocks }
+
+-- nine bits of a byte to come: the chip is out of range
+abbrev pub nineLeft : Chip → Chip
+nineLeft c = record { line = record { core = c .line .core; phase = c .line .phase; left = 9; shift = c .line .shift }; latch = c .latch }
+
+abbrev pub overfullRun : Runs
+overfullRun f enable bs s = spoiled nineLeft (λ b. b) (ourRun f enable bs s)
+
+-- a byte too many: the driver is out of range with its buffer
+abbrev pub overlongRun : Runs
+overlongRun f enable bs s = spoiled (λ c. c) (λ b. 0 ∷ b) (ourRun f enable bs s)
+
+pub record RefusedMidwayBreaks : Type 0 where
+  pub ends-accepted : StepsAccepted refusingEnds ourRun → ⊥
+  pub ends-same : CallsAreRun ourDriver refusingEnds → ⊥
+  pub overfull : StepsAccepted stepOf overfullRun → ⊥
+  pub overlong : StepsAccepted stepOf overlongRun → ⊥
