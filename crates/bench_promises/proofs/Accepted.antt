@@ -4,7 +4,8 @@ use Prim.Native.Nat.{ℕ, zero, suc, _+_, _<_}
 use mathlib.Core.Path.{_≡_, refl, sym, _∙_, ap, subst}
 use mathlib.Core.Bool.{Bool, true, false, false≢true}
 use mathlib.Core.List.{List, [], _∷_, _++_}
-use lib.ListN.{length, replicate}
+use lib.ListN.{length, getD, replicate}
+use lib.Dec.{eqb, ltb}
 use native.Mathlib.Omega.{arith}
 use borrow.Author.Tests.{lt-ltb, eq-eqb}
 use Rattle.parts.specs.declared.Refusal.the-variants.{BadState}
@@ -14,6 +15,7 @@ use Rattle.parts.specs.Table.{factsOf, idSizeOf, enableRightOf, buffersRightOf}
 use Rattle.parts.specs.Events.{eventOf}
 use Rattle.parts.specs.Refusals.{isFine, numberOf, soonerOf}
 use Rattle.parts.specs.Bytes.{AllBelow}
+use Rattle.parts.proofs.Laws.{branch}
 use Rattle.parts.proofs.Claims.{refused-not, sooner-fine}
 use Rattle.line.specs.declared.Target.{Target}
 use Rattle.line.specs.declared.Target.the-variants.{Array as TheArray, Ident as TheIdent}
@@ -22,7 +24,7 @@ use Rattle.line.specs.declared.Phase.the-variants.{Idle, Busy}
 use Rattle.line.specs.Rules.{enabledOf, namedOf, decodeOf, addressStartOf, selectedOf, loadArrayOf, loadedOf, refusesOf, latchedOf, filledOf, lockedByOf, takenOf, receivedOf, receiveActOf, receiveLevelOf, movedOf, clockedOf, clockActOf, clockLevelOf, startedOf, startActOf, asksOf, placedOf, stoppedOf, endedByOf, endedOf, endActOf, nextOf, actOf, levelOf, begunOf}
 use Rattle.state.specs.declared.Chip.{Chip}
 use Rattle.state.specs.Range.{inRangeOf}
-use Rattle.chip.specs.Memory.{Mem, mem, cellsOf, seenOf, stateOf, chipLevelOf}
+use Rattle.chip.specs.Memory.{Mem, cellsOf, seenOf, stateOf, chipLevelOf}
 use Rattle.chip.specs.Model.{Model, ours}
 use Rattle.chip.specs.Calls.{heldVerdictOf, stepVerdictOf, stepBy, stepMem, stepVerdict, stepOf}
 use Rattle.chip.specs.Delivery.{pinAtFirstOf, standbyOf, deliveredIdOf, deliveredOf}
@@ -33,26 +35,76 @@ use Rattle.chip_laws.proofs.Runs.{store-lengths}
 use Rattle.driver.specs.declared.Request.{Request}
 use Rattle.driver.specs.declared.Failed.{Failed}
 use Rattle.driver.specs.declared.Failed.the-variants.{AtSelect, AtData, AtPolls}
+use Rattle.driver.specs.declared.Slot.{Slot}
+use Rattle.driver.specs.declared.Slot.the-variants.{Select, High, Low, Data, Poll, Turn, Take}
+use Rattle.driver.specs.declared.Phase.{Phase}
+use Rattle.driver.specs.declared.Phase.the-variants.{Ready, Bits, Heard, Rest, Over}
+use Rattle.driver.specs.declared.Counts.{Counts}
 use Rattle.driver.specs.declared.Driver.{Driver}
+use Rattle.driver.specs.declared.Move.{Move}
+use Rattle.driver.specs.declared.Asked.{Asked}
 use Rattle.driver.specs.declared.Answer.{Answer}
 use Rattle.driver.specs.declared.Answer.the-variants.{Send, Done, Refused}
 use Rattle.driver.specs.Request.{kOf, allowedOf, beyondAt, limitOf, judgeOf}
 use Rattle.driver.specs.Split.{toPageEndOf, pagesMetOf}
-use Rattle.driver.specs.Step.{refusalOf, selectAt, wireOf, bitOf, shiftOf, readyOf, bitsAt, leadAt, lowAt, dataAt, pollMoveOf, heardMoveOf, bitsMoveOf, driverStepOf, countsRight, rangeOf, driverNextOf, byteKeptOf, bufferOf, fresh}
+use Rattle.driver.specs.Step.{refusalOf, selectAt, wireOf, slotByteOf, bitOf, sendThen, followOf, shiftOf, readyOf, bitsAt, leadAt, lowAt, dataAt, pollMoveOf, answeredOf, takeAt, heardAt, heardMoveOf, bitsMoveOf, moveAt, driverStepOf, countsRight, rangeOf, driverNextOf, byteKeptOf, bufferOf, fresh}
 use Rattle.driver.specs.Machine.{ourDriver}
 use Rattle.driver.proofs.Facts.{range-good}
 use Rattle.driver_promises.proofs.View.{at}
 use Rattle.driver_promises.proofs.Inv.{in-range}
 use Rattle.bench.specs.Together.{System, startOf, clockOf, ends, answeredBy, askedOf, cycleEndedOf, togetherOf}
 use Rattle.bench.specs.Held.{Fit}
-use Rattle.bench.proofs.Laws.{Small, small, fine-step, fit-on}
+use Rattle.bench.specs.Tape.{sendsOf}
+use Rattle.bench.proofs.Laws.{Small, small, quiet, fine-step, fit-on}
 use Rattle.bench_promises.specs.Together.{answerOf, Safe, ReadRight}
 use Rattle.bench_promises.specs.Ends.{Complete}
 use Rattle.bench_promises.specs.Trials.{fiveBytes, fiveAt30}
-use Rattle.bench_promises.specs.Accepted.{BeginsInRange, BeginAccepted, Accepts, StepsAccepted, steppedBy, nextCalledOf, endCalledOf, callsOf, byCalls, ourRun, CallsAreRun, TrueOfCalls, CallsWriteSafe, CallsReadRight, CallsWriteEnd, refusingEnds, nineLeft, RefusedMidwayBreaks}
+use Rattle.bench_promises.specs.Accepted.{BeginsInRange, BeginAccepted, Accepts, StepsAccepted, finishedBy, steppedBy, nextCalledOf, endCalledOf, callsOf, byCalls, ourRun, CallsAreRun, TrueOfCalls, CallsWriteSafe, CallsReadRight, CallsWriteEnd, refusingEnds, nineLeft, RefusedMidwayBreaks}
 use Rattle.bench_promises.proofs.Whole.{Holds, G, sane, holds}
 use Rattle.bench_promises.proofs.Stored.{spoken, writes-safe, reads-right}
 use Rattle.bench_promises.proofs.Live.{writes-end}
+
+-- ---- a driver that sends nothing stays as it is
+
+abbrev Sends : Move → Type 0
+Sends m = sendsOf (m .answer) ≡ true
+
+heard-sends : (d : Driver) (level clock : ℕ) (slot : Slot) → Sends (heardAt d slot level clock)
+unfolding leadAt lowAt dataAt pollMoveOf answeredOf takeAt
+heard-sends d level clock Select = branch Sends (eqb level 0) (λ _. refl) (λ _. refl)
+heard-sends d level clock High = branch Sends (eqb level 0) (λ _. refl) (λ _. refl)
+heard-sends d level clock Low = branch Sends (eqb level 0) (λ _. branch Sends (d .request .reads) (λ _. refl) (λ _. refl)) (λ _. refl)
+heard-sends d level clock Data = branch Sends (eqb level 0) (λ _. branch Sends (eqb (d .counts .at) _) (λ _. refl) (λ _. refl)) (λ _. refl)
+heard-sends d level clock Poll = branch Sends (eqb level 0) (λ _. refl) (λ _. branch Sends (ltb (d .counts .tries) _) (λ _. refl) (λ _. refl))
+heard-sends d level clock Turn = branch Sends (eqb level 0) (λ _. refl) (λ _. refl)
+heard-sends d level clock Take = branch Sends (eqb (d .counts .at) (d .request .length)) (λ _. refl) (λ _. refl)
+
+module _ (d : Driver) (level value : ℕ) where
+  abbrev Stays : Phase → Move → Type 0
+  Stays p m = sendsOf (m .answer) ≡ false → (m .phase ≡ p) × (m .counts ≡ d .counts)
+
+  sending : (p : Phase) (m : Move) → Sends m → Stays p m
+  sending p m s h = absurd (false≢true (sym h ∙ s))
+
+  move-stays : (p : Phase) → Stays p (moveAt p d level value)
+  unfolding readyOf bitsMoveOf bitsAt heardMoveOf pollMoveOf
+  move-stays Ready = branch (Stays Ready) (eqb (d .counts .at) (d .request .length)) (λ _ h. (refl, refl)) (λ _. sending Ready (sendThen 2 (Bits Select 0) (d .counts)) refl)
+  move-stays (Bits slot b) = sending (Bits slot b) (moveAt (Bits slot b) d level value) (branch Sends (ltb b 8) (λ _. refl) (λ _. refl))
+  move-stays (Heard slot) = sending (Heard slot) (moveAt (Heard slot) d level value) (heard-sends d level (bitOf (slotByteOf (wireOf d value) (followOf slot (factsOf (d .request .part) .wide))) 0) slot)
+  move-stays Rest = sending Rest (moveAt Rest d level value) refl
+  move-stays (Over f) = λ h. (refl, refl)
+
+  step-stays : sendsOf (driverStepOf d level value .answer) ≡ false → driverStepOf d level value .driver ≡ d
+  unfolding driverStepOf
+  step-stays h =
+      let e = move-stays (d .phase) h in
+      ap (λ (p : Phase). record { request = d .request; phase = p; counts = moveAt (d .phase) d level value .counts }) (e .0)
+      ∙ ap (λ (k : Counts). record { request = d .request; phase = d .phase; counts = k }) (e .1)
+
+next-stays : (d : Driver) (level : ℕ) (b : List ℕ) → sendsOf (driverNextOf d level b .answer) ≡ false → driverNextOf d level b .driver ≡ d
+unfolding driverNextOf
+next-stays d level b =
+    branch (λ (a : Asked). sendsOf (a .answer) ≡ false → a .driver ≡ d) (rangeOf d (length b)) (λ _. step-stays d level (getD b (d .counts .at) 0)) (λ _ h. refl)
 
 -- ---- what `step` needs of the chip and its memory: every event of a run keeps it
 
@@ -83,8 +135,9 @@ module _ (part en : ℕ) where
   answered-fits s d b (Done q n) h t = t
   answered-fits s d b (Refused f q n) h t = t
 
-  answered-same : (s : System) (d : Driver) (b : List ℕ) (a : Answer) → Small a → Fits s → steppedBy stepOf part en s d b a ≡ answeredBy M s d b a
-  answered-same s d b (Send e) h t =
+  answered-same : (s : System) (d : Driver) (b : List ℕ) (a : Answer) → Small a → (sendsOf a ≡ false → (d ≡ s .driver) × (b ≡ s .buffer)) → Fits s
+      → steppedBy stepOf part en s d b a ≡ answeredBy M s d b a
+  answered-same s d b (Send e) h k t =
       ap
       (λ (v : Verdict).
       record {
@@ -97,8 +150,8 @@ module _ (part en : ℕ) where
         clocks = s .clocks + clockOf e;
       })
       (taken s e (omega arith) t)
-  answered-same s d b (Done q n) h t = refl
-  answered-same s d b (Refused f q n) h t = refl
+  answered-same s d b (Done q n) h k t = let e = k refl in ap (λ (x : Driver). finishedBy s x b) (e .0) ∙ ap (finishedBy s (s .driver)) (e .1)
+  answered-same s d b (Refused f q n) h k t = let e = k refl in ap (λ (x : Driver). finishedBy s x b) (e .0) ∙ ap (finishedBy s (s .driver)) (e .1)
 
   module _ (s : System) (t : Fits s) where
     asked-fits : Fits (askedOf ourDriver M s)
@@ -109,7 +162,8 @@ module _ (part en : ℕ) where
     asked-same : nextCalledOf stepOf part en ourDriver s ≡ askedOf ourDriver M s
     unfolding nextCalledOf askedOf
     asked-same =
-        answered-same s (driverNextOf (s .driver) (s .level) (s .buffer) .driver) (bufferOf (s .driver) (s .level) (s .buffer)) (answerOf s) (small (s .driver) (s .level) (s .buffer)) t
+        answered-same s (driverNextOf (s .driver) (s .level) (s .buffer) .driver) (bufferOf (s .driver) (s .level) (s .buffer)) (answerOf s) (small (s .driver) (s .level) (s .buffer))
+        (λ h. (next-stays (s .driver) (s .level) (s .buffer) h, quiet (s .driver) (s .level) (s .buffer) h)) t
 
     -- ---- one end of a cycle, which begins none
     ended-fits : Fits (cycleEndedOf M s)

@@ -57,8 +57,13 @@ StepsAccepted S run = (r : Request) (xs : List ℕ) (c : Chip) (m : Mem) (bs : L
 
 -- ---- the same interleaving, of calls only
 
+-- a driver that has finished: nothing is given to the chip
+abbrev pub finishedBy : System → Driver → List ℕ → System
+finishedBy s d b = record { driver = d; level = s .level; buffer = b; chip = s .chip; mem = s .mem; cycles = s .cycles; clocks = s .clocks }
+
 module _ (S : Step) (part enable : ℕ) where
-  -- the event that the driver sends is given to `step`; what that call answers and leaves is taken, also where it is refused
+  -- what `next` answers and leaves is taken; an event that it sends is given to `step`, and what that call answers and leaves is taken
+  -- too, also where it is refused
   abbrev pub steppedBy : System → Driver → List ℕ → Answer → System
   steppedBy s d b (Send e) =
       record {
@@ -70,8 +75,8 @@ module _ (S : Step) (part enable : ℕ) where
         cycles = s .cycles + S part enable (s .chip) (s .mem) e .answer .cycles;
         clocks = s .clocks + clockOf e;
       }
-  steppedBy s d b (Done polls bytes) = s
-  steppedBy s d b (Refused f polls bytes) = s
+  steppedBy s d b (Done polls bytes) = finishedBy s d b
+  steppedBy s d b (Refused f polls bytes) = finishedBy s d b
 
   -- one call of `next`
   unfoldable pub nextCalledOf : Machine → System → System
