@@ -49,6 +49,7 @@ use Rattle.bench_promises.proofs.Late.{turns-refused}
 use Rattle.bench_promises.proofs.Shut.{shut-refused}
 use Rattle.bench_promises.proofs.Range.{stays-in-range}
 use Rattle.bench_promises.proofs.Replay.{replayed}
+use Rattle.bench_promises.proofs.Tape.{driven}
 use Rattle.chip.specs.Model.{ours}
 
 -- ---- a call that is not refused
@@ -132,7 +133,7 @@ module _ (n : ℕ) (turns : n ≡ enough) (r : Request) (d : ℕ) (c : Chip) (m 
   last =
       let e : suc (n - 1) ≡ n = omega (arith, spare) in
       ap (λ (i : ℕ). lastOf ourDriver (ours (factsOf (r .part)) (r .enable)) d i (Done 0 0) (startOf r ws c m)) (sym (e ∙ turns))
-      ∙ (last-answer (factsOf (r .part)) (r .enable) d (n - 1) (Done 0 0) (startOf r ws c m) early
+      ∙ (last-answer (ours (factsOf (r .part)) (r .enable)) d (n - 1) (Done 0 0) (startOf r ws c m) early
       ∙ (ap (λ (i : ℕ). answerOf (turnsOf ourDriver (ours (factsOf (r .part)) (r .enable)) d i (startOf r ws c m))) e
       ∙ ap answerOf (choices-same (factsOf (r .part)) (r .enable) d n (startOf r ws c m))))
 
@@ -378,5 +379,6 @@ bench-promises =
       reads-back = reads-back;
       protects = λ r d c m ys k w u n. protects enough refl r d c m ys k w u n;
       refuses = untouched;
+      drives = driven;
       replays = replayed;
     }

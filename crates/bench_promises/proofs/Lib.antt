@@ -3,7 +3,9 @@ pub mod Wrote
 pub mod Codes
 pub mod Rel
 pub mod Keep
+pub mod Steps
 pub mod Whole
+pub mod Driven
 pub mod Cycles
 pub mod Stored
 pub mod Live
@@ -12,6 +14,7 @@ pub mod Late
 pub mod Range
 pub mod Shut
 pub mod Replay
+pub mod Tape
 pub mod Calls
 pub mod Numbers
 pub mod Rest

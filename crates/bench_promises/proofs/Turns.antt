@@ -58,7 +58,7 @@ use Rattle.bench_promises.proofs.Whole.{Holds, Stepped, stepped, asked-
 use Rattle.line.specs.declared.Phase.{Phase as ChipPhase}
 use Rattle.bench_promises.proofs.Live.{write-ends}
 use Rattle.parts.specs.Events.{eventOf}
-use Rattle.chip.specs.Model.{ours}
+use Rattle.chip.specs.Model.{Model, ours}
 use Rattle.chip_promises.specs.States.{NotBusy}
 
 -- ---- a run with d as choices
@@ -92,26 +92,26 @@ module _ (f : Facts) (en d : ℕ) where
       (λ e. k ∙ ap (λ (z : System). togetherOf ourDriver (ours f en) bs z) (turn-plain y e))
 
 -- ---- the driver's last answer
-module _ (f : Facts) (en d : ℕ) where
-  rests : (s : System) (e : Driver) (b : List ℕ) (a : Answer) → Finished a → answeredBy (ours f en) s e b a ≡ s
+module _ (M : Model) (d : ℕ) where
+  rests : (s : System) (e : Driver) (b : List ℕ) (a : Answer) → Finished a → answeredBy M s e b a ≡ s
   rests s e b (Send x) h = absurd h
   rests s e b (Done q n) h = refl
   rests s e b (Refused x q n) h = refl
 
-  asked-rests : (s : System) → Finished (answerOf s) → askedOf ourDriver (ours f en) s ≡ s
+  asked-rests : (s : System) → Finished (answerOf s) → askedOf ourDriver M s ≡ s
   unfolding askedOf
   asked-rests s h = rests s (driverNextOf (s .driver) (s .level) (s .buffer) .driver) (bufferOf (s .driver) (s .level) (s .buffer)) (answerOf s) h
 
   -- an end of the cycle is nothing to the driver
-  turn-rests : (s : System) → Finished (answerOf s) → answerOf (turnOf ourDriver (ours f en) d s) ≡ answerOf s
+  turn-rests : (s : System) → Finished (answerOf s) → answerOf (turnOf ourDriver M d s) ≡ answerOf s
   unfolding turnOf cycleEndedOf
-  turn-rests s h = branch (λ (t : System). answerOf (askedOf ourDriver (ours f en) t) ≡ answerOf s) (endDueOf d s) (λ _. ap answerOf (asked-rests (cycleEndedOf (ours f en) s) h)) (λ _. ap answerOf (asked-rests s h))
+  turn-rests s h = branch (λ (t : System). answerOf (askedOf ourDriver M t) ≡ answerOf s) (endDueOf d s) (λ _. ap answerOf (asked-rests (cycleEndedOf M s) h)) (λ _. ap answerOf (asked-rests s h))
 
   -- it has finished before the last turn: asked once more it would answer the same
-  pub last-answer : (k : ℕ) (a : Answer) (s : System) → Finished (answerOf (turnsOf ourDriver (ours f en) d k s)) → lastOf ourDriver (ours f en) d (suc k) a s ≡ answerOf (turnsOf ourDriver (ours f en) d (suc k) s)
+  pub last-answer : (k : ℕ) (a : Answer) (s : System) → Finished (answerOf (turnsOf ourDriver M d k s)) → lastOf ourDriver M d (suc k) a s ≡ answerOf (turnsOf ourDriver M d (suc k) s)
   unfolding lastOf turnsOf
   last-answer zero a s h = sym (turn-rests s h)
-  last-answer (suc k) a s h = last-answer k (answerOf s) (turnOf ourDriver (ours f en) d s) h
+  last-answer (suc k) a s h = last-answer k (answerOf s) (turnOf ourDriver M d s) h
 
 pub turns-chosen : TurnsChosen (λ f en. togetherOf ourDriver (ours f en)) (λ f en. turnsOf ourDriver (ours f en))
 turns-chosen r xs c m d n =

@@ -3,37 +3,31 @@
 use Prim.Native.Nat.{ℕ, _+_}
 use mathlib.Core.Path.{_≡_, refl, sym, _∙_, ap, subst}
 use mathlib.Core.Bool.{Bool, true, false, cond}
-use mathlib.Core.List.{List, [], _∷_, _++_}
-use lib.ListN.{length, length-append}
+use mathlib.Core.List.{List, [], _∷_}
+use lib.ListN.{length}
 use native.Mathlib.Omega.{arith}
 use Rattle.parts.specs.Table.{factsOf}
 use Rattle.parts.specs.Refusals.{isFine}
 use Rattle.state.specs.declared.Chip.{Chip}
 use Rattle.chip.specs.Memory.{Mem, cellsOf, withCells}
 use Rattle.driver.specs.declared.Request.{Request}
-use Rattle.driver.specs.declared.Phase.the-variants.{Ready}
-use Rattle.driver.specs.declared.Driver.{Driver}
 use Rattle.driver.specs.declared.Answer.{Answer}
 use Rattle.driver.specs.declared.Answer.the-variants.{Send, Done, Refused}
-use Rattle.driver.specs.declared.Move.{Move}
-use Rattle.driver.specs.declared.Asked.{Asked}
-use Rattle.driver.specs.Step.{driverNextOf, bufferOf, fresh}
+use Rattle.driver.specs.Step.{bufferOf}
 use Rattle.driver.specs.Machine.{ourDriver}
 use Rattle.driver.proofs.Facts.{good-request, buffer-length}
 use Rattle.driver.specs.Machine.{ourDriver}
-use Rattle.driver_promises.specs.Run.{DriverHeld, begun, told, afterAll, Finished}
 use Rattle.driver_promises.specs.Run
 use Rattle.driver_promises.specs.Promises.{Accepted}
-use Rattle.driver_promises.proofs.View.{at, Way, steps}
-use Rattle.driver_promises.proofs.Inv.{Inv, in-range, room-in, inv-step}
-use Rattle.driver_promises.proofs.Story.{ran}
-use Rattle.driver_promises.proofs.Promises.{promises}
+use Rattle.driver_promises.proofs.View.{at}
+use Rattle.driver_promises.proofs.Inv.{Inv, inv-step}
 use Rattle.bench.specs.Together.{System, startOf, answeredBy, askedOf, cycleEndedOf, togetherOf}
 use Rattle.bench_promises.specs.Ground.{targetOf}
 use Rattle.bench_promises.specs.Together.{Begins, askings}
 use Rattle.bench_promises.proofs.Wrote.{with-same}
 use Rattle.bench_promises.proofs.Rel.{Given, F, Buffer, Rel}
 use Rattle.bench_promises.proofs.Keep.{Sane, Next, keeps, end-keeps}
+use Rattle.bench_promises.proofs.Steps.{Step, step, ask-elim, Told, start-drives, ask-told}
 use Rattle.parts.specs.Events.{eventOf}
 use Rattle.parts.proofs.Bytes.{below-at}
 use Rattle.chip.specs.Model.{ours}
@@ -42,25 +36,12 @@ use Rattle.chip.specs.Model.{ours}
 abbrev pub givenOf : Request → List ℕ → Chip → Mem → Given
 givenOf r xs c m = record { request = r; bytes = xs; stored = m; pin = c .line .core .pin; locked = c .line .core .locked }
 
-abbrev pub heldOf : System → DriverHeld
-heldOf s = record { driver = s .driver; buffer = s .buffer }
-
 -- what holds at every moment
 pub record Holds (g : Given) (s : System) : Type 0 where
   pub request : s .driver .request ≡ g .request
   pub inv : Inv (g .request) (s .driver .phase) (s .driver .counts)
   pub size : length (s .buffer) ≡ g .request .length
   pub rel : Rel g (s .driver .phase) (s .driver .counts) (s .buffer) (s .chip .line) (s .chip .latch) (s .mem) (s .level)
-
--- the driver of the system is the driver of its own run, over the levels that it was told
-pub record Told (r : Request) (xs : List ℕ) (n : ℕ) (s : System) : Type 0 where
-  pub levels : List ℕ
-  pub count : length levels ≡ n
-  pub run : heldOf s ≡ afterAll ourDriver (begun r xs) levels
-
-after-more : (h : DriverHeld) (ls : List ℕ) (l : ℕ) → afterAll ourDriver h (ls ++ (l ∷ [])) ≡ told ourDriver (afterAll ourDriver h ls) l
-after-more h [] l = refl
-after-more h (x ∷ ls) l = after-more (told ourDriver h x) ls l
 
 module _ (g : Given) (s : Sane g) where
   abbrev r : Request
@@ -70,28 +51,15 @@ module _ (g : Given) (s : Sane g) where
   ask y = askedOf ourDriver (ours (F g) (r .enable)) y
 
   -- the step of the driver in the system
-  pub record Stepped (y : System) : Type 0 where
-    pub move : Move
-    pub way : Way r (y .driver .counts) (y .level) (y .buffer) (y .driver .phase) move (bufferOf (y .driver) (y .level) (y .buffer))
-    pub asked : driverNextOf (y .driver) (y .level) (y .buffer) ≡ record { answer = move .answer; driver = at r (move .phase) (move .counts) }
+  abbrev pub Stepped : System → Type 0
+  Stepped y = Step r y
 
   pub stepped : (y : System) → Holds g y → Stepped y
-  stepped y h =
-      let d = y .driver in
-      let t = steps r (d .phase) (d .counts) (y .level) (y .buffer) (h .inv .good) (in-range r (d .phase) (d .counts) (length (y .buffer)) (h .size) (h .inv)) (room-in (d .phase) r (d .counts) (h .inv)) in
-      let e : at r (d .phase) (d .counts) ≡ d = ap (λ (q : Request). at q (d .phase) (d .counts)) (sym (h .request)) in
-      record {
-        move = t .move;
-        way = subst (λ (k : Driver). Way r (d .counts) (y .level) (y .buffer) (d .phase) (t .move) (bufferOf k (y .level) (y .buffer))) e (t .way);
-        asked = ap (λ (k : Driver). driverNextOf k (y .level) (y .buffer)) (sym e) ∙ t .asked;
-      }
+  stepped y h = step r y (record { request = h .request; inv = h .inv; size = h .size })
 
-  -- whatever is to hold after an asking, by the move that was made
   pub asked-elim : (Q : System → Type 0) (y : System) (t : Stepped y)
       → Q (answeredBy (ours (F g) (r .enable)) y (at r (t .move .phase) (t .move .counts)) (bufferOf (y .driver) (y .level) (y .buffer)) (t .move .answer)) → Q (ask y)
-  unfolding askedOf
-  asked-elim Q y t q =
-      subst (λ (a : Asked). Q (answeredBy (ours (F g) (r .enable)) y (a .driver) (bufferOf (y .driver) (y .level) (y .buffer)) (a .answer))) (sym (t .asked)) q
+  asked-elim = ask-elim r (ours (F g) (r .enable))
 
   pub asked-holds : (y : System) → Holds g y → Holds g (ask y)
   asked-holds y h = go (stepped y h)
@@ -127,35 +95,12 @@ module _ (g : Given) (s : Sane g) where
   holds-all (false ∷ bs) y h = holds-all bs (cycleEndedOf (ours (F g) (r .enable)) y) (ended-holds y h)
 
   -- ---- the tie
-  pub asked-told : (xs : List ℕ) → Accepted r xs → (n : ℕ) (y : System) → Told r xs n y → Told r xs (n + 1) (ask y)
-  unfolding askedOf
-  asked-told xs a n y t = by (driverNextOf (y .driver) (y .level) (y .buffer) .answer) refl
-    where
-      ls : List ℕ
-      ls = t .levels ++ (y .level ∷ [])
-
-      long : length ls ≡ n + 1
-      long = length-append (t .levels) (y .level ∷ []) ∙ ap (λ (k : ℕ). k + 1) (t .count)
-
-      goes : told ourDriver (heldOf y) (y .level) ≡ afterAll ourDriver (begun r xs) ls
-      goes = ap (λ (h : DriverHeld). told ourDriver h (y .level)) (t .run) ∙ sym (after-more (begun r xs) (t .levels) (y .level))
-
-      stays : Finished (driverNextOf (y .driver) (y .level) (y .buffer) .answer) → heldOf y ≡ afterAll ourDriver (begun r xs) ls
-      stays f =
-          let e = promises .one-each r xs a (t .levels) (y .level) .again (subst (λ (h : DriverHeld). Finished (Rattle.driver_promises.specs.Run.answerTo ourDriver h (y .level))) (t .run) f) .0 in
-          t .run ∙ (sym e ∙ sym (after-more (begun r xs) (t .levels) (y .level)))
-
-      by : (k : Answer) → driverNextOf (y .driver) (y .level) (y .buffer) .answer ≡ k → Told r xs (n + 1) (answeredBy (ours (F g) (r .enable)) y (driverNextOf (y .driver) (y .level) (y .buffer) .driver) (bufferOf (y .driver) (y .level) (y .buffer)) k)
-      by (Send e) z = record { levels = ls; count = long; run = goes }
-      by (Done q k) z = record { levels = ls; count = long; run = stays (subst Finished (sym z) tt) }
-      by (Refused f q k) z = record { levels = ls; count = long; run = stays (subst Finished (sym z) tt) }
-
   pub told-all : (xs : List ℕ) → Accepted r xs → (bs : List Bool) (n : ℕ) (y : System) → Told r xs n y → Told r xs (n + askings bs) (togetherOf ourDriver (ours (F g) (r .enable)) bs y)
   unfolding togetherOf cycleEndedOf eventOf
   told-all xs a [] n y t = subst (λ (k : ℕ). Told r xs k y) (omega arith) t
   told-all xs a (true ∷ bs) n y t =
       let e : n + 1 + askings bs ≡ n + (askings bs + 1) = omega arith in
-      subst (λ (k : ℕ). Told r xs k (togetherOf ourDriver (ours (F g) (r .enable)) bs (ask y))) e (told-all xs a bs (n + 1) (ask y) (asked-told xs a n y t))
+      subst (λ (k : ℕ). Told r xs k (togetherOf ourDriver (ours (F g) (r .enable)) bs (ask y))) e (told-all xs a bs (n + 1) (ask y) (ask-told r xs a (ours (F g) (r .enable)) n y t))
   told-all xs a (false ∷ bs) n y t = told-all xs a bs n (cycleEndedOf (ours (F g) (r .enable)) y) (record { levels = t .levels; count = t .count; run = t .run })
 
 -- ---- from the start
@@ -165,11 +110,6 @@ module _ (r : Request) (xs : List ℕ) (c : Chip) (m : Mem) (b : Begins r xs c m
 
   pub sane : Sane G
   sane = record { good = good-request r (ap isFine (b .accepted .fine)); bytes = below-at xs (b .bytes); stored = below-at (cellsOf (targetOf (r .place)) m) (b .idle .bytes (targetOf (r .place))) }
-
-  start-inv : Inv r Ready (fresh r .counts)
-  start-inv =
-      let R = ran r xs (ap isFine (b .accepted .fine)) (b .accepted .size) [] in
-      subst (λ (h : DriverHeld). Inv r (h .driver .phase) (h .driver .counts)) (sym (R .is)) (R .story .inv)
 
   stored-first : (t : Bool) → m ≡ cond t m (withCells (targetOf (r .place)) (cellsOf (targetOf (r .place)) m) m)
   stored-first true = refl
@@ -183,7 +123,7 @@ module _ (r : Request) (xs : List ℕ) (c : Chip) (m : Mem) (b : Begins r xs c m
   start-holds =
       record {
         request = refl;
-        inv = start-inv;
+        inv = start-drives r xs (b .accepted) (startOf r xs c m) refl refl .inv;
         size = b .accepted .size;
         rel = record { pin = refl; lock = refl; buffer = buffer-first (r .reads); place = record { phase = b .idle .idle; mem = stored-first (r .reads) } };
       }

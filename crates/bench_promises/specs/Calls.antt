@@ -27,6 +27,7 @@ use Rattle.bench.specs.Calls.{benchVerdict, benchOf}
 use Rattle.bench_promises.specs.Ground.{targetOf}
 use Rattle.bench_promises.specs.Together.{otherOf}
 use Rattle.bench_promises.specs.Ends.{Writable, Shut}
+use Rattle.bench_promises.specs.Tape.{Driven}
 
 -- a run of driver and model: what it answers, the two memories and the lent buffer after it. The first number is the chip's enable,
 -- the second is d
@@ -150,5 +151,8 @@ pub record BenchPromises (B : Bench) : Type 0 where
   pub protects : (r : Request) (d : ℕ) (c : Chip) (m : Mem) (ys : List ℕ) → Called r d c m ys → r .reads ≡ false → Shut (r .place) (c .line .core) → 1 ≤ r .length → Protected B r (r .enable) d c m ys
   -- also of a chip at another enable
   pub refuses : (r : Request) (en d : ℕ) (c : Chip) (m : Mem) (ys : List ℕ) (x : Refusal) → benchVerdict r en d c m ys ≡ Judged x → Untouched B r en d c m ys x
+  -- of every call that is not refused before it begins, on any chip: the run is our driver's, so all that it promises over any levels holds
+  pub drives : (r : Request) (en d : ℕ) (c : Chip) (m : Mem) (ys : List ℕ) → benchVerdict r en d c m ys ≡ Fine
+      → Driven r ys (B .report r en d c m ys) (B .buffer r en d c m ys) (B .events r en d c m ys) (B .levels r en d c m ys)
   -- of every call, refused or not
   pub replays : (r : Request) (en d : ℕ) (c : Chip) (m : Mem) (ys : List ℕ) → Replayed B r en d c m ys

@@ -1,6 +1,7 @@
 pub mod Ground
 pub mod Together
 pub mod Ends
+pub mod Tape
 pub mod Calls
 pub mod Numbers
 pub mod Idle

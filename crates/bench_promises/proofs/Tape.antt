@@ -1,0 +1,94 @@
+-- The tape of the run: every call that is not refused is our driver's run, on any chip.
+-- Assumes nothing.
+use Prim.Native.Nat.{ℕ, suc, _+_, _-_, _<_}
+use mathlib.Core.Path.{_≡_, refl, sym, _∙_, ap, subst}
+use mathlib.Core.List.{List, _++_, append-nil}
+use lib.ListN.{length, take, drop, length-take}
+use native.Mathlib.Omega.{arith}
+use Rattle.parts.specs.declared.Verdict.{Verdict}
+use Rattle.parts.specs.declared.Verdict.the-variants.{Fine}
+use Rattle.parts.specs.Table.{factsOf}
+use Rattle.state.specs.declared.Chip.{Chip}
+use Rattle.chip.specs.Memory.{Mem}
+use Rattle.chip.specs.Model.{Model, ours}
+use Rattle.driver.specs.declared.Request.{Request}
+use Rattle.driver.specs.declared.Answer.{Answer}
+use Rattle.driver.specs.declared.Answer.the-variants.{Send, Done, Refused}
+use Rattle.driver.specs.Machine.{ourDriver}
+use Rattle.driver_promises.specs.Run.{DriverHeld, sentBy, answerTo, Finished, boundOf}
+use Rattle.driver_promises.specs.Promises.{Accepted}
+use Rattle.bench.specs.Together.{System, startOf, turnsOf, lastOf, enough}
+use Rattle.bench.specs.Tape.{tapeEventsOf, tapeLevelsOf}
+use Rattle.bench.specs.Calls.{finalOf, reportBy, BenchLeft, benchBy, benchVerdict, benchOf}
+use Rattle.bench.proofs.Laws.{granted, run-length}
+use Rattle.bench_promises.specs.Together.{answerOf}
+use Rattle.bench_promises.specs.Tape.{Reports, Driven}
+use Rattle.bench_promises.proofs.Steps.{start-drives}
+use Rattle.bench_promises.proofs.Driven.{walks, turns-ended}
+use Rattle.bench_promises.proofs.Turns.{last-answer, spare-turn}
+
+reports : (y : System) (a : Answer) → Finished a → Reports a (reportBy y a)
+reports y (Send e) f = absurd f
+reports y (Done q n) f = (refl, refl, refl)
+reports y (Refused x q n) f = (refl, refl, refl)
+
+nothing : (a : Answer) (es : List ℕ) → Finished a → es ++ sentBy a ≡ es
+nothing (Send e) es f = absurd f
+nothing (Done q n) es f = append-nil es
+nothing (Refused x q n) es f = append-nil es
+
+-- n turns, a name so that nobody counts them; the driver has finished before the last
+module _ (r : Request) (xs : List ℕ) (a : Accepted r xs) (M : Model) (d n : ℕ) (c : Chip) (m : Mem) (spare : boundOf r + 1 < n) where
+  abbrev Y : System
+  Y = turnsOf ourDriver M d n (startOf r xs c m)
+
+  last : lastOf ourDriver M d n (Done 0 0) (startOf r xs c m) ≡ answerOf Y
+  last =
+      let e : suc (n - 1) ≡ n = omega (arith, spare) in
+      let f = turns-ended r xs a M d (n - 1) c m (omega (arith, spare)) .finished in
+      ap (λ (i : ℕ). lastOf ourDriver M d i (Done 0 0) (startOf r xs c m)) (sym e)
+      ∙ (last-answer M d (n - 1) (Done 0 0) (startOf r xs c m) f ∙ ap (λ (i : ℕ). answerOf (turnsOf ourDriver M d i (startOf r xs c m))) e)
+
+module _ (r : Request) (ys : List ℕ) (a : Accepted r (take (r .length) ys)) (M : Model) (d n : ℕ) (c : Chip) (m : Mem) (spare : boundOf r + 1 < n) where
+  abbrev first : System
+  first = startOf r (take (r .length) ys) c m
+
+  abbrev Z : System
+  Z = turnsOf ourDriver M d n first
+
+  its-own : Driven r ys (reportBy Z (lastOf ourDriver M d n (Done 0 0) first)) (Z .buffer ++ drop (r .length) ys) (tapeEventsOf ourDriver M d n first) (tapeLevelsOf ourDriver M d n first)
+  its-own =
+      let xs = take (r .length) ys in
+      let w = walks r M d n first (start-drives r xs a first refl refl) in
+      let e = turns-ended r xs a M d n c m (omega (arith, spare)) in
+      let h = w .after ∙ e .stays in
+      record {
+        events = sym (w .events ∙ nothing (answerOf Z) _ (e .finished));
+        answer = λ l. subst (λ (k : Answer). Reports k (reportBy Z (lastOf ourDriver M d n (Done 0 0) first))) (sym (ap (λ (k : DriverHeld). answerTo ourDriver k l) h ∙ e .same l))
+            (subst (λ (k : Answer). Reports (answerOf Z) (reportBy Z k)) (sym (last r xs a M d n c m spare)) (reports Z (answerOf Z) (e .finished)));
+        buffer = ap (λ (k : DriverHeld). k .buffer ++ drop (r .length) ys) (sym h);
+      }
+
+module _ (r : Request) (en d : ℕ) (c : Chip) (m : Mem) (ys : List ℕ) (fine : benchVerdict r en d c m ys ≡ Fine) where
+  abbrev M₀ : Model
+  M₀ = ours (factsOf (r .part)) en
+
+  pub accepted : Accepted r (take (r .length) ys)
+  accepted =
+      let n = length (m .cells) in
+      let i = length (m .ident) in
+      record { fine = granted r en d c n i (length ys) fine .asked; size = omega (arith, length-take (r .length) ys, run-length r en d c n i (length ys) fine) }
+
+  abbrev DrivenBy : BenchLeft → Type 0
+  DrivenBy x = Driven r ys (x .report) (x .buffer) (x .events) (x .levels)
+
+  by-turns : (n : ℕ) → n ≡ enough → DrivenBy (benchBy ourDriver M₀ r d c m ys Fine)
+  unfolding finalOf
+  by-turns n e =
+      let s = startOf r (take (r .length) ys) c m in
+      let spare : boundOf r + 1 < n = subst (λ (i : ℕ). boundOf r + 1 < i) (sym e) (spare-turn r (take (r .length) ys) accepted) in
+      subst (λ (i : ℕ). Driven r ys (reportBy (turnsOf ourDriver M₀ d i s) (lastOf ourDriver M₀ d i (Done 0 0) s)) (turnsOf ourDriver M₀ d i s .buffer ++ drop (r .length) ys) (tapeEventsOf ourDriver M₀ d i s) (tapeLevelsOf ourDriver M₀ d i s)) e
+      (its-own r ys accepted M₀ d n c m spare)
+
+  pub driven : DrivenBy (benchOf r en d c m ys)
+  driven = subst (λ (v : Verdict). DrivenBy (benchBy ourDriver M₀ r d c m ys v)) (sym fine) (by-turns enough refl)
