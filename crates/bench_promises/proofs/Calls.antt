@@ -1,6 +1,6 @@
 -- The run of driver and model keeps its promises.
 -- Assumes nothing.
-use Prim.Native.Nat.{ℕ, suc, _+_, _-_, _≤_, _<_}
+use Prim.Native.Nat.{ℕ, suc, _+_, _-_, _*_, _≤_, _<_}
 use mathlib.Core.Path.{_≡_, refl, sym, _∙_, ap, subst}
 use mathlib.Core.Bool.{Bool, true, false, cond, not, false≢true}
 use mathlib.Core.Logic.{_⊎_, inl, inr, ⊎-elim}
@@ -29,9 +29,9 @@ use Rattle.chip_laws.specs.Range.{Typed}
 use Rattle.driver.specs.declared.Request.{Request}
 use Rattle.driver.specs.declared.Answer.{Answer}
 use Rattle.driver.specs.declared.Answer.the-variants.{Send, Done, Refused}
-use Rattle.driver.specs.Request.{fromOf, roomOf, thereOf, beyondAt, limitOf, judgeOf, allowedOf}
+use Rattle.driver.specs.Request.{fromOf, roomOf, thereOf, beyondAt, limitOf, judgeOf, allowedOf, kOf}
 use Rattle.driver.specs.Machine.{ourDriver}
-use Rattle.driver_promises.specs.Run.{Finished, boundOf}
+use Rattle.driver_promises.specs.Run.{Finished, addressBytes, boundOf}
 use Rattle.bench.specs.declared.Report.{Report}
 use Rattle.bench.specs.Together.{System, startOf, togetherOf, turnsOf, lastOf, enough}
 use Rattle.bench.specs.Calls.{otherLengthOf, shortOf, lateOf, finalOf, reportBy, BenchLeft, benchBy, benchVerdict, benchOf}
@@ -46,10 +46,11 @@ use Rattle.bench_promises.proofs.Rel.{Buffer}
 use Rattle.bench_promises.proofs.Whole.{G, sane, holds}
 use Rattle.bench_promises.proofs.Turns.{choices, choices-asked, choices-same, turns-end, last-answer, spare-turn}
 use Rattle.bench_promises.proofs.Late.{turns-refused}
+use Rattle.bench_promises.proofs.Exact.{polls-exact}
 use Rattle.bench_promises.proofs.Shut.{shut-refused}
 use Rattle.bench_promises.proofs.Range.{stays-in-range}
 use Rattle.bench_promises.proofs.Replay.{replayed}
-use Rattle.bench_promises.proofs.Tape.{driven}
+use Rattle.bench_promises.proofs.Tape.{driven, done-clocks}
 use Rattle.chip.specs.Model.{ours}
 
 -- ---- a call that is not refused
@@ -267,7 +268,16 @@ module _ (n : ℕ) (turns : n ≡ enough) (r : Request) (d : ℕ) (c : Chip) (m 
   ends w u h =
       let z : Complete r Y = subst (Complete r) (choices-same (factsOf (r .part)) (r .enable) d n (startOf r ws c m)) (turns-end r ws c m d n w (begins r d c m ys k) u (low-d r d c m ys k) (omega (arith, budget-is w)) over-bound) in
       let p : benchOf r (r .enable) d c m ys .report ≡ reportBy Y (Done (z .polls) (r .length)) = report-is ∙ ap (reportBy Y) (z .done) in
-      record { done = ap (λ (y : Report). y .verdict) p; bytes = ap (λ (y : Report). y .bytes) p; cycles = ap (λ (y : Report). y .cycles) p ∙ z .cycles }
+      let q : benchOf r (r .enable) d c m ys .report .polls ≡ kOf r * d = ap (λ (y : Report). y .polls) p ∙ polls-exact r ws c m d n w (begins r d c m ys k) u (low-d r d c m ys k) (omega (arith, budget-is w)) (z .polls) (r .length) (z .done) in
+      let v = driven r (r .enable) d c m ys (k .fine) in
+      record {
+        done = ap (λ (y : Report). y .verdict) p;
+        bytes = ap (λ (y : Report). y .bytes) p;
+        cycles = ap (λ (y : Report). y .cycles) p ∙ z .cycles;
+        polls = q;
+        clocks = sym (replayed r (r .enable) d c m ys .clocks)
+            ∙ (done-clocks r ys _ _ _ _ (begins r d c m ys k .accepted) w v (ap (λ (y : Report). y .verdict) p) ∙ ap (λ (i : ℕ). 9 * (kOf r * (1 + addressBytes r) + r .length + i)) q);
+      }
 
   uses-up : r .reads ≡ false → Writable (r .place) (c .line .core) → 1 ≤ r .length → r .budget < d → UsedUp ourBench r (r .enable) d c m ys
   uses-up w u o h =

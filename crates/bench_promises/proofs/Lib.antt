@@ -11,6 +11,7 @@ pub mod Stored
 pub mod Live
 pub mod Turns
 pub mod Late
+pub mod Exact
 pub mod Range
 pub mod Shut
 pub mod Replay

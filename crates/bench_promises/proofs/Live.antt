@@ -6,7 +6,6 @@ use mathlib.Core.Bool.{Bool, true, false, _||_, false≢true}
 use mathlib.Core.Logic.{inl, inr}
 use mathlib.Core.List.{List, [], _∷_}
 use native.Mathlib.Omega.{arith}
-use borrow.Author.Tests.{ne-eqb, lt-ltb}
 use Rattle.parts.specs.declared.Event.the-variants.{Ends}
 use Rattle.parts.specs.declared.Refusal.the-variants.{NoData}
 use Rattle.parts.specs.Refusals.{numberOf}
@@ -48,6 +47,7 @@ use Rattle.bench_promises.specs.Ends.{Writable, pollNumberOf, InTime, Co
 use Rattle.bench_promises.proofs.Hears.{end-free}
 use Rattle.bench_promises.proofs.Rel.{refusing, Given, F, T, selectB, Pending, InBits, InHeard, Rel}
 use Rattle.bench_promises.proofs.Keep.{Sane, Same, After′, k-poll, k-polled, k-deaf, k-select, select-lt, no-nack}
+use Rattle.bench_promises.proofs.Steps.{again-next}
 use Rattle.bench_promises.proofs.Whole.{Holds, Stepped, stepped, asked-elim, asked-holds, ended-holds, G, sane, start-holds}
 use Rattle.bench_promises.proofs.Cycles.{Cyc}
 use Rattle.line.specs.declared.Recv.the-variants.{Select as SelectByte}
@@ -133,9 +133,6 @@ module _ (g : Given) (s : Sane g) (free : refusing (T g) (g .pin) (g .locked) �
         go (inl p) = k-deaf g s ch m (λ n k y w q. c .tries ≡ allowedOf r → w ≡ 0) (c .at) (c .seen) 1 (omega arith) p (λ e. absurd (deaf-absurd p (t e)))
         go (inr p) = k-select g s ch m (λ n k y w q. c .tries ≡ allowedOf r → w ≡ 0) b (c .seen) h (p .taking) (λ n z q e. refl)
 
-    again-next : 0 < v → c .tries < allowedOf r → pollNext (Heard Poll) (c .tries) (allowedOf r) v ≡ c .tries + 1
-    again-next h o = simp (ne-eqb v 0 (λ e. omega arith), lt-ltb (c .tries) (allowedOf r) o)
-
     lives : {p : Phase} {mv : Move} {zs : List ℕ} → Inv r p c → Rel g p c ys l (ch .latch) m v → Live p r c l v → (pollNext p (c .tries) (allowedOf r) v ≡ allowedOf r → NotBusy (l .phase)) → Way r c v ys p mv zs → NextLive mv (mv .answer)
     unfolding wireOf
     lives i o t f (w-done e) = tt
@@ -172,7 +169,7 @@ module _ (g : Given) (s : Sane g) (free : refusing (T g) (g .pin) (g .locked) �
     lives i o t f (w-again z h) = go (o .place)
       where
         go : InHeard g Poll c l (ch .latch) m v → After′ g s ch m (λ n k y w q. c .tries + 1 ≡ allowedOf r → n .phase ≡ Receive SelectByte) 2
-        go (inl (p, k)) = l-poll o p (λ e. f (again-next z h ∙ e))
+        go (inl (p, k)) = l-poll o p (λ e. f (again-next (c .tries) (allowedOf r) v z h ∙ e))
         go (inr (p, k)) = absurd (omega arith)
     lives i o t f (w-give z h) = let q = i .common .tries in let e = t (omega arith) in absurd (omega arith)
     lives i o t f (w-page z) = tt

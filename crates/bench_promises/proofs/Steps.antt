@@ -1,13 +1,16 @@
 -- The driver in a run with any chip: it keeps what it keeps on its own, so every law of the driver carries over.
 -- Assumes nothing.
-use Prim.Native.Nat.{ℕ, _+_}
+use Prim.Native.Nat.{ℕ, _+_, _<_}
 use mathlib.Core.Path.{_≡_, refl, sym, _∙_, ap, subst}
 use mathlib.Core.List.{List, [], _∷_, _++_}
 use lib.ListN.{length, length-append}
+use native.Mathlib.Omega.{arith}
+use borrow.Author.Tests.{ne-eqb, lt-ltb}
 use Rattle.parts.specs.Refusals.{isFine}
 use Rattle.chip.specs.Model.{Model}
 use Rattle.driver.specs.declared.Request.{Request}
-use Rattle.driver.specs.declared.Phase.the-variants.{Ready}
+use Rattle.driver.specs.declared.Slot.the-variants.{Poll}
+use Rattle.driver.specs.declared.Phase.the-variants.{Ready, Heard}
 use Rattle.driver.specs.declared.Driver.{Driver}
 use Rattle.driver.specs.declared.Answer.{Answer}
 use Rattle.driver.specs.declared.Answer.the-variants.{Send, Done, Refused}
@@ -23,7 +26,7 @@ use Rattle.driver_promises.proofs.View.{at, Way, steps}
 use Rattle.driver_promises.proofs.Inv.{Inv, in-range, room-in, inv-step}
 use Rattle.driver_promises.proofs.Story.{ran}
 use Rattle.driver_promises.proofs.Promises.{promises}
-use Rattle.bench.specs.Together.{System, answeredBy, askedOf}
+use Rattle.bench.specs.Together.{System, answeredBy, askedOf, pollNext}
 
 abbrev pub heldOf : System → DriverHeld
 heldOf s = record { driver = s .driver; buffer = s .buffer }
@@ -70,6 +73,10 @@ module _ (r : Request) where
             by (Send e) i = record { request = refl; inv = i; size = buffer-length (y .driver) (y .level) (y .buffer) ∙ h .size }
             by (Done q k) i = h
             by (Refused f q k) i = h
+
+-- a poll that was missed, and was not the last allowed: the next has the next number
+pub again-next : (t a v : ℕ) → 0 < v → t < a → pollNext (Heard Poll) t a v ≡ t + 1
+again-next t a v h o = simp (ne-eqb v 0 (λ e. omega arith), lt-ltb t a o)
 
 -- ---- the tie: the driver of the system is the driver of its own run, over the levels that it was told
 pub record Told (r : Request) (xs : List ℕ) (n : ℕ) (s : System) : Type 0 where

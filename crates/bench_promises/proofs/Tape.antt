@@ -1,28 +1,35 @@
 -- The tape of the run: every call that is not refused is our driver's run, on any chip.
 -- Assumes nothing.
-use Prim.Native.Nat.{ℕ, suc, _+_, _-_, _<_}
+use Prim.Native.Nat.{ℕ, suc, _+_, _-_, _*_, _<_}
 use mathlib.Core.Path.{_≡_, refl, sym, _∙_, ap, subst}
-use mathlib.Core.List.{List, _++_, append-nil}
+use mathlib.Core.Bool.{Bool, true, false, cond, false≢true}
+use mathlib.Core.List.{List, [], _∷_, _++_, append-nil}
 use lib.ListN.{length, take, drop, length-take}
+use lib.Dec.{eqb, ltb}
 use native.Mathlib.Omega.{arith}
+use borrow.Author.Tests.{eqb-true, le-ltb}
 use Rattle.parts.specs.declared.Verdict.{Verdict}
 use Rattle.parts.specs.declared.Verdict.the-variants.{Fine}
 use Rattle.parts.specs.Table.{factsOf}
+use Rattle.parts.specs.Refusals.{isFine}
 use Rattle.state.specs.declared.Chip.{Chip}
 use Rattle.chip.specs.Memory.{Mem}
 use Rattle.chip.specs.Model.{Model, ours}
 use Rattle.driver.specs.declared.Request.{Request}
 use Rattle.driver.specs.declared.Answer.{Answer}
 use Rattle.driver.specs.declared.Answer.the-variants.{Send, Done, Refused}
+use Rattle.driver.specs.Request.{kOf}
 use Rattle.driver.specs.Machine.{ourDriver}
-use Rattle.driver_promises.specs.Run.{DriverHeld, sentBy, answerTo, Finished, boundOf}
-use Rattle.driver_promises.specs.Promises.{Accepted}
+use Rattle.driver_promises.specs.Run.{DriverHeld, sentBy, answerTo, Finished, clocksIn, addressBytes, boundOf}
+use Rattle.driver_promises.specs.Promises.{Accepted, sent, answers, DoneOf}
+use Rattle.driver_promises.proofs.Promises.{promises}
+use Rattle.bench.specs.declared.Report.{Report}
 use Rattle.bench.specs.Together.{System, startOf, turnsOf, lastOf, enough}
 use Rattle.bench.specs.Tape.{tapeEventsOf, tapeLevelsOf}
 use Rattle.bench.specs.Calls.{finalOf, reportBy, BenchLeft, benchBy, benchVerdict, benchOf}
 use Rattle.bench.proofs.Laws.{granted, run-length}
 use Rattle.bench_promises.specs.Together.{answerOf}
-use Rattle.bench_promises.specs.Tape.{Reports, Driven}
+use Rattle.bench_promises.specs.Tape.{withoutEnds, toldOf, Reports, Driven}
 use Rattle.bench_promises.proofs.Steps.{start-drives}
 use Rattle.bench_promises.proofs.Driven.{walks, turns-ended}
 use Rattle.bench_promises.proofs.Turns.{last-answer, spare-turn}
@@ -92,3 +99,29 @@ module _ (r : Request) (en d : ℕ) (c : Chip) (m : Mem) (ys : List ℕ) (fine :
 
   pub driven : DrivenBy (benchOf r en d c m ys)
   driven = subst (λ (v : Verdict). DrivenBy (benchBy ourDriver M₀ r d c m ys v)) (sym fine) (by-turns enough refl)
+
+-- ---- the clocks of a write that is done
+
+without-clocks : (es : List ℕ) → clocksIn (withoutEnds es) ≡ clocksIn es
+without-clocks [] = refl
+without-clocks (e ∷ es) = go (eqb e 4) refl (without-clocks es)
+  where
+    go : (b : Bool) → eqb e 4 ≡ b → clocksIn (withoutEnds es) ≡ clocksIn es → clocksIn (cond b (withoutEnds es) (e ∷ withoutEnds es)) ≡ cond (ltb e 2) 1 0 + clocksIn es
+    go true z k = let f = eqb-true e 4 z in omega (arith, ap {B = ℕ} (λ (t : Bool). cond t 1 0) (le-ltb e 2 (omega arith)))
+    go false z k = omega arith
+
+pub done-clocks : (r : Request) (ys : List ℕ) (p : Report) (left es ls : List ℕ) → Accepted r (take (r .length) ys) → r .reads ≡ false → Driven r ys p left es ls → p .verdict ≡ Fine
+    → clocksIn es ≡ 9 * (kOf r * (1 + addressBytes r) + r .length + p .polls)
+done-clocks r ys p left es ls a w v f =
+    sym (without-clocks es) ∙ (ap clocksIn (v .events) ∙ go (answers ourDriver r xs (toldOf es ls) 0) refl (v .answer 0))
+  where
+    xs : List ℕ
+    xs = take (r .length) ys
+
+    go : (k : Answer) → answers ourDriver r (take (r .length) ys) (toldOf es ls) 0 ≡ k → Reports k p
+        → clocksIn (sent ourDriver r (take (r .length) ys) (toldOf es ls) 0) ≡ 9 * (kOf r * (1 + addressBytes r) + r .length + p .polls)
+    go (Send e) z k = absurd k
+    go (Done q n) z k =
+        let t = promises .done-all r (take (r .length) ys) a (toldOf es ls) 0 q n z .plan in
+        subst (λ (b : Bool). DoneOf ourDriver r (take (r .length) ys) (toldOf es ls) 0 b q) w t .clocks ∙ ap (λ (i : ℕ). 9 * (kOf r * (1 + addressBytes r) + r .length + i)) (sym (k .1))
+    go (Refused x q n) z k = absurd (false≢true (ap isFine (sym (k .0) ∙ f)))

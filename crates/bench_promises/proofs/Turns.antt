@@ -9,7 +9,7 @@ use lib.ListN.{length}
 use lib.Dec.{eqb, ltb}
 use native.Mathlib.Omega.{arith}
 use native.Mathlib.Nat.{div-lt-iff-lt-mul, mod-le, mul-le-mul}
-use borrow.Author.Tests.{eqb-false, ne-eqb, lt-ltb, ltb-true}
+use borrow.Author.Tests.{eqb-false, ltb-true}
 use Rattle.parts.specs.declared.Facts.{Facts}
 use Rattle.parts.specs.declared.Event.the-variants.{Ends}
 use Rattle.parts.specs.Table.{factsOf, idSizeOf, addressBytesOf}
@@ -54,6 +54,7 @@ use Rattle.bench_promises.proofs.Hears.{end-free, end-busy}
 use Rattle.bench_promises.proofs.Wrote.{less-or-same}
 use Rattle.bench_promises.proofs.Rel.{Given, F, selectB, Pending, InBits, InHeard, Rel}
 use Rattle.bench_promises.proofs.Keep.{Sane, Same, After′, k-poll, k-polled, k-deaf, k-select, select-lt}
+use Rattle.bench_promises.proofs.Steps.{again-next}
 use Rattle.bench_promises.proofs.Whole.{Holds, Stepped, stepped, asked-elim, asked-holds, ended-holds, G, sane, start-holds}
 use Rattle.line.specs.declared.Phase.{Phase as ChipPhase}
 use Rattle.bench_promises.proofs.Live.{write-ends}
@@ -67,7 +68,7 @@ module _ (f : Facts) (en d : ℕ) where
   choices zero y = []
   choices (suc n) y = cond (endDueOf d y) (false ∷ true ∷ choices n (turnOf ourDriver (ours f en) d y)) (true ∷ choices n (turnOf ourDriver (ours f en) d y))
 
-  turn-due : (y : System) → endDueOf d y ≡ true → turnOf ourDriver (ours f en) d y ≡ askedOf ourDriver (ours f en) (cycleEndedOf (ours f en) y)
+  pub turn-due : (y : System) → endDueOf d y ≡ true → turnOf ourDriver (ours f en) d y ≡ askedOf ourDriver (ours f en) (cycleEndedOf (ours f en) y)
   unfolding turnOf
   turn-due y e = ap (λ (t : Bool). askedOf ourDriver (ours f en) (cond t (cycleEndedOf (ours f en) y) y)) e
 
@@ -181,9 +182,6 @@ module _ (g : Given) (s : Sane g) where
     same : {p : Phase} → Rel g p c ys l (ch .latch) m v → Same g s ch m l
     same o = record { pin = o .pin; lock = o .lock }
 
-    again-next : 0 < v → c .tries < allowedOf r → pollNext (Heard Poll) (c .tries) (allowedOf r) v ≡ c .tries + 1
-    again-next h o = simp (ne-eqb v 0 (λ e. omega arith), lt-ltb (c .tries) (allowedOf r) o)
-
     module _ (d : ℕ) (pos : 1 ≤ d) where
       abbrev NextEarly : Move → Answer → Type 0
       NextEarly mv (Send e) = After′ g s ch m (λ n k y w q. Early d (mv .phase) (mv .counts) n) e
@@ -247,7 +245,7 @@ module _ (g : Given) (s : Sane g) where
       early i o t f (w-again z h) = go (o .place)
         where
           go : InHeard g Poll c l (ch .latch) m v → After′ g s ch m (λ n k y w q. d ≤ c .tries + 1 → NotBusy (n .phase)) 2
-          go (inl (p, k)) = e-poll o p t (λ e. f (again-next z h ∙ e))
+          go (inl (p, k)) = e-poll o p t (λ e. f (again-next (c .tries) (allowedOf r) v z h ∙ e))
           go (inr (p, k)) = absurd (omega arith)
       early i o t f (w-give z h) = tt
       early i o t f (w-page z) = tt
@@ -305,11 +303,11 @@ module _ (g : Given) (s : Sane g) where
         go Rest t e o = t (omega arith)
         go (Over f) t e o = absurd (omega arith)
 
-    end-rests : (y : System) → NotBusy (cycleEndedOf (ours (F g) (r .enable)) y .chip .line .phase)
+    pub end-rests : (y : System) → NotBusy (cycleEndedOf (ours (F g) (r .enable)) y .chip .line .phase)
     unfolding cycleEndedOf eventOf
     end-rests y = ended-rests (F g) (r .enable) (y .chip) (y .mem)
 
-    not-due : (y : System) → endDueOf d y ≡ false → pollNumberOf y ≡ d → ⊥
+    pub not-due : (y : System) → endDueOf d y ≡ false → pollNumberOf y ≡ d → ⊥
     unfolding endDueOf
     not-due y e = eqb-false (pollNumberOf y) d e
 

@@ -16,8 +16,6 @@ use Rattle.driver.specs.declared.Answer.the-variants.{Send, Done, Refused}
 use Rattle.driver.specs.Step.{bufferOf}
 use Rattle.driver.specs.Machine.{ourDriver}
 use Rattle.driver.proofs.Facts.{good-request, buffer-length}
-use Rattle.driver.specs.Machine.{ourDriver}
-use Rattle.driver_promises.specs.Run
 use Rattle.driver_promises.specs.Promises.{Accepted}
 use Rattle.driver_promises.proofs.View.{at}
 use Rattle.driver_promises.proofs.Inv.{Inv, inv-step}

@@ -1,7 +1,7 @@
 -- The demands as promises about the public run of driver and model (crate bench): what it answers, and what it leaves in the lent
 -- buffers, on an idle chip. The run is a record of functions, so that a wrong one breaks them; `ourBench` is what its contract says.
 -- Assumes nothing.
-use Prim.Native.Nat.{ℕ, _+_, _<_, _≤_}
+use Prim.Native.Nat.{ℕ, _+_, _*_, _<_, _≤_}
 use mathlib.Core.Path.{_≡_}
 use mathlib.Core.Bool.{true, false}
 use mathlib.Core.Logic.{_⊎_}
@@ -21,7 +21,7 @@ use Rattle.chip.specs.Runs.{afterOf, memoryOf, levelsOf, cyclesOf}
 use Rattle.chip_laws.specs.Range.{Typed}
 use Rattle.driver.specs.declared.Request.{Request}
 use Rattle.driver.specs.Request.{fromOf, kOf}
-use Rattle.driver_promises.specs.Run.{clocksIn}
+use Rattle.driver_promises.specs.Run.{clocksIn, addressBytes}
 use Rattle.bench.specs.declared.Report.{Report}
 use Rattle.bench.specs.Calls.{benchVerdict, benchOf}
 use Rattle.bench_promises.specs.Ground.{targetOf}
@@ -96,6 +96,9 @@ module _ (B : Bench) (r : Request) (en d : ℕ) (c : Chip) (m : Mem) (ys : List 
     pub done : report .verdict ≡ Fine
     pub bytes : report .bytes ≡ r .length
     pub cycles : report .cycles ≡ kOf r
+    -- d polls for each page, and nine clocks for each byte on the bus: a select code and the address for each page, the data, the polls
+    pub polls : report .polls ≡ kOf r * d
+    pub clocks : report .clocks ≡ 9 * (kOf r * (1 + addressBytes r) + r .length + kOf r * d)
 
   -- "A chip that stays busy for longer than our driver polls": refusal 11
   pub record UsedUp : Type 0 where

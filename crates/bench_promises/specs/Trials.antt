@@ -19,6 +19,12 @@ use Rattle.bench.specs.Together.{System, startOf, turnsOf}
 use Rattle.chip_laws.specs.Trials.{Trial, firstWrong, chipTrials}
 use Rattle.bench_promises.specs.Together.{answerOf}
 use Rattle.chip.specs.Model.{ours}
+use Rattle.parts.specs.declared.Verdict.the-variants.{Fine}
+use Rattle.state.specs.declared.Chip.{Chip}
+use Rattle.chip.specs.Memory.{Mem}
+use Rattle.bench.specs.declared.Report.{Report}
+use Rattle.bench_promises.specs.Ends.{Writable}
+use Rattle.bench_promises.specs.Calls.{Bench, Called, BenchPromises}
 
 -- 11. "Part 2, 5 bytes at 30: 30..31, 32..34; with d = 1, 117 clocks"
 abbrev pub fiveBytes : List ℕ
@@ -58,3 +64,18 @@ driverTrials =
 -- the place of the first row that is not right, counted from 1; 0 where there is none
 abbrev pub TrialsRight : Type 0
 TrialsRight = firstWrong (chipTrials ++ driverTrials) ≡ 0
+
+-- 12. "Part 0, 2,048 bytes at 0, d = 1: 128 cycles, 21,888 clocks": of every run that keeps the promises, on every idle chip whose pin allows it
+abbrev pub wholeArray : ℕ → Request
+wholeArray budget = record { part = 0; enable = 0; place = Array (record { 0 = 0 }); reads = false; length = 2048; budget = budget }
+
+pub record WholeArrayWritten (p : Report) : Type 0 where
+  pub done : p .verdict ≡ Fine
+  pub cycles : p .cycles ≡ 128
+  pub polls : p .polls ≡ 128
+  pub clocks : p .clocks ≡ 21888
+
+abbrev pub WholeArray : Type 0
+WholeArray =
+    (B : Bench) → BenchPromises B → (budget : ℕ) (c : Chip) (m : Mem) (ys : List ℕ) → Called (wholeArray budget) 1 c m ys → Writable (wholeArray budget .place) (c .line .core)
+    → WholeArrayWritten (B .report (wholeArray budget) 0 1 c m ys)
