@@ -50,7 +50,7 @@ use Rattle.bench_promises.proofs.Exact.{polls-exact}
 use Rattle.bench_promises.proofs.Shut.{shut-refused}
 use Rattle.bench_promises.proofs.Range.{stays-in-range}
 use Rattle.bench_promises.proofs.Replay.{replayed}
-use Rattle.bench_promises.proofs.Tape.{driven, done-clocks}
+use Rattle.bench_promises.proofs.Tape.{driven, done-clocks, ends-at}
 use Rattle.chip.specs.Model.{ours}
 
 -- ---- a call that is not refused
@@ -390,5 +390,6 @@ bench-promises =
       protects = λ r d c m ys k w u n. protects enough refl r d c m ys k w u n;
       refuses = untouched;
       drives = driven;
+      ends-at = ends-at;
       replays = replayed;
     }

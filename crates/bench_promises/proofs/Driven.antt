@@ -35,7 +35,7 @@ use Rattle.bench_promises.specs.Tape.{withoutEnds, levelsHeard}
 use Rattle.bench_promises.proofs.Steps.{heldOf, Drives, step, ask-drives, Told, ask-told}
 
 -- ---- the driver sends no end
-abbrev Coded : Answer → Type 0
+abbrev pub Coded : Answer → Type 0
 Coded (Send e) = e < 4
 Coded (Done q n) = Unit {0}
 Coded (Refused f q n) = Unit {0}
@@ -83,7 +83,7 @@ module _ (e : ℕ) (h : e < 4) where
   heard true l es ls = ap (λ (t : Bool). cond t (levelsHeard es ls) (l ∷ levelsHeard es ls)) not-end
   heard false l es ls = ap (λ (t : Bool). cond t (levelsHeard es ls) (l ∷ levelsHeard es ls)) not-end
 
-dropped : (b : Bool) (x : ℕ) (es : List ℕ) → withoutEnds (tapeBy b false 4 x ++ es) ≡ withoutEnds es
+pub dropped : (b : Bool) (x : ℕ) (es : List ℕ) → withoutEnds (tapeBy b false 4 x ++ es) ≡ withoutEnds es
 dropped true x es = refl
 dropped false x es = refl
 

@@ -6,6 +6,7 @@ pub mod Keep
 pub mod Steps
 pub mod Whole
 pub mod Driven
+pub mod Placed
 pub mod Cycles
 pub mod Stored
 pub mod Live

@@ -9,7 +9,7 @@ use lib.Dec.{eqb, ltb}
 use native.Mathlib.Omega.{arith}
 use borrow.Author.Tests.{eqb-true, le-ltb}
 use Rattle.parts.specs.declared.Verdict.{Verdict}
-use Rattle.parts.specs.declared.Verdict.the-variants.{Fine}
+use Rattle.parts.specs.declared.Verdict.the-variants.{Fine, Refused as Judged}
 use Rattle.parts.specs.Table.{factsOf}
 use Rattle.parts.specs.Refusals.{isFine}
 use Rattle.state.specs.declared.Chip.{Chip}
@@ -27,11 +27,12 @@ use Rattle.bench.specs.declared.Report.{Report}
 use Rattle.bench.specs.Together.{System, startOf, turnsOf, lastOf, enough}
 use Rattle.bench.specs.Tape.{tapeEventsOf, tapeLevelsOf}
 use Rattle.bench.specs.Calls.{finalOf, reportBy, BenchLeft, benchBy, benchVerdict, benchOf}
-use Rattle.bench.proofs.Laws.{granted, run-length}
+use Rattle.bench.proofs.Laws.{granted, run-first, run-length}
 use Rattle.bench_promises.specs.Together.{answerOf}
-use Rattle.bench_promises.specs.Tape.{withoutEnds, toldOf, Reports, Driven}
+use Rattle.bench_promises.specs.Tape.{withoutEnds, toldOf, Reports, Driven, EndsAt}
 use Rattle.bench_promises.proofs.Steps.{start-drives}
 use Rattle.bench_promises.proofs.Driven.{walks, turns-ended}
+use Rattle.bench_promises.proofs.Placed.{tape-placed}
 use Rattle.bench_promises.proofs.Turns.{last-answer, spare-turn}
 
 reports : (y : System) (a : Answer) → Finished a → Reports a (reportBy y a)
@@ -125,3 +126,16 @@ done-clocks r ys p left es ls a w v f =
         let t = promises .done-all r (take (r .length) ys) a (toldOf es ls) 0 q n z .plan in
         subst (λ (b : Bool). DoneOf ourDriver r (take (r .length) ys) (toldOf es ls) 0 b q) w t .clocks ∙ ap (λ (i : ℕ). 9 * (kOf r * (1 + addressBytes r) + r .length + i)) (sym (k .1))
     go (Refused x q n) z k = absurd (false≢true (ap isFine (sym (k .0) ∙ f)))
+
+-- ---- the ends stand before poll number d
+module _ (r : Request) (en d : ℕ) (c : Chip) (m : Mem) (ys : List ℕ) where
+  pub ends-at : EndsAt d (benchOf r en d c m ys .events)
+  ends-at = go (benchVerdict r en d c m ys) refl
+    where
+      go : (v : Verdict) → benchVerdict r en d c m ys ≡ v → EndsAt d (benchBy ourDriver (ours (factsOf (r .part)) en) r d c m ys v .events)
+      go Fine f =
+          let x = startOf r (take (r .length) ys) c m in
+          let a = accepted r en d c m ys f in
+          let o = run-first r en d c (length (m .cells)) (length (m .ident)) (length ys) f in
+          tape-placed r d o (ours (factsOf (r .part)) en) enough x (start-drives r (take (r .length) ys) a x refl refl) false 0 (λ _. (refl, refl))
+      go (Judged z) f = refl

@@ -27,7 +27,7 @@ use Rattle.bench.specs.Calls.{benchVerdict, benchOf}
 use Rattle.bench_promises.specs.Ground.{targetOf}
 use Rattle.bench_promises.specs.Together.{otherOf}
 use Rattle.bench_promises.specs.Ends.{Writable, Shut}
-use Rattle.bench_promises.specs.Tape.{Driven}
+use Rattle.bench_promises.specs.Tape.{Driven, EndsAt}
 
 -- a run of driver and model: what it answers, the two memories and the lent buffer after it. The first number is the chip's enable,
 -- the second is d
@@ -158,4 +158,5 @@ pub record BenchPromises (B : Bench) : Type 0 where
   pub drives : (r : Request) (en d : ℕ) (c : Chip) (m : Mem) (ys : List ℕ) → benchVerdict r en d c m ys ≡ Fine
       → Driven r ys (B .report r en d c m ys) (B .buffer r en d c m ys) (B .events r en d c m ys) (B .levels r en d c m ys)
   -- of every call, refused or not
+  pub ends-at : (r : Request) (en d : ℕ) (c : Chip) (m : Mem) (ys : List ℕ) → EndsAt d (B .events r en d c m ys)
   pub replays : (r : Request) (en d : ℕ) (c : Chip) (m : Mem) (ys : List ℕ) → Replayed B r en d c m ys
