@@ -34,19 +34,23 @@ use Rattle.driver.specs.Machine.{ourDriver}
 use Rattle.driver_promises.specs.Run.{Finished, addressBytes, boundOf}
 use Rattle.bench.specs.declared.Report.{Report}
 use Rattle.bench.specs.Together.{System, startOf, togetherOf, turnsOf, lastOf, enough}
+use Rattle.bench.specs.Tape.{tapeEventsOf}
 use Rattle.bench.specs.Calls.{otherLengthOf, shortOf, lateOf, finalOf, reportBy, BenchLeft, benchBy, benchVerdict, benchOf}
 use Rattle.bench.proofs.Laws.{Granted, granted, granted-fine, run-first, run-length}
 use Rattle.bench_promises.specs.Ground.{targetOf}
 use Rattle.bench_promises.specs.Together.{Begins, answerOf, reportedOf, otherOf, Safe, ReadRight}
 use Rattle.bench_promises.specs.Ends.{Writable, Shut, Complete}
 use Rattle.bench_promises.specs.Calls.{ourBench, Called, Written, ReadThere, Ended, UsedUp, Protected, Untouched, readOf, BenchPromises}
+use Rattle.bench_promises.specs.Tape.{CycleEach}
 use Rattle.driver_promises.proofs.Numbers.{less-or-more}
 use Rattle.bench_promises.proofs.Stored.{room-is, all-done, write-safe, read-right, read-ends, finished}
 use Rattle.bench_promises.proofs.Rel.{Buffer}
-use Rattle.bench_promises.proofs.Whole.{G, sane, holds}
+use Rattle.bench_promises.proofs.Whole.{G, sane, start-holds, holds}
 use Rattle.bench_promises.proofs.Turns.{choices, choices-asked, choices-same, turns-end, last-answer, spare-turn}
 use Rattle.bench_promises.proofs.Late.{turns-refused}
 use Rattle.bench_promises.proofs.Exact.{polls-exact}
+use Rattle.bench_promises.proofs.Each.{Each, each-cycle, tape-each}
+use Rattle.bench_promises.proofs.Live.{not-refusing}
 use Rattle.bench_promises.proofs.Shut.{shut-refused}
 use Rattle.bench_promises.proofs.Range.{stays-in-range}
 use Rattle.bench_promises.proofs.Replay.{replayed}
@@ -279,6 +283,14 @@ module _ (n : ℕ) (turns : n ≡ enough) (r : Request) (d : ℕ) (c : Chip) (m 
             ∙ (done-clocks r ys _ _ _ _ (begins r d c m ys k .accepted) w v (ap (λ (y : Report). y .verdict) p) ∙ ap (λ (i : ℕ). 9 * (kOf r * (1 + addressBytes r) + r .length + i)) q);
       }
 
+  each : r .reads ≡ false → Writable (r .place) (c .line .core) → CycleEach (ours (factsOf (r .part)) (r .enable)) c (benchOf r (r .enable) d c m ys .events)
+  each w u =
+      let M = ours (factsOf (r .part)) (r .enable) in
+      let b = begins r d c m ys k in
+      let t = tape-each (G r ws c m b) (sane r ws c m b) (not-refusing (r .place) c u) w d (low-d r d c m ys k) n (startOf r ws c m) (start-holds r ws c m b) false 0 (λ _. (refl, refl)) in
+      each-cycle M c false (benchOf r (r .enable) d c m ys .events)
+      (subst (λ (v : Verdict). Each M c false (benchBy ourDriver M r d c m ys v .events)) (sym (k .fine)) (subst (λ (i : ℕ). Each M c false (tapeEventsOf ourDriver M d i (startOf r ws c m))) turns t))
+
   uses-up : r .reads ≡ false → Writable (r .place) (c .line .core) → 1 ≤ r .length → r .budget < d → UsedUp ourBench r (r .enable) d c m ys
   uses-up w u o h =
       let z = subst (λ (y : System). (answerOf y ≡ Refused PollsUsed (allowedOf r) 0) × (y .cycles ≡ 1)) (choices-same (factsOf (r .part)) (r .enable) d n (startOf r ws c m)) (turns-refused r ws c m d n w (begins r d c m ys k) u o (omega (arith, budget-is w)) over-bound) in
@@ -385,6 +397,7 @@ bench-promises =
       writes = λ r d c m ys k w. written enough refl r d c m ys k w;
       reads = λ r d c m ys k w. taken enough refl r d c m ys k w;
       ends = λ r d c m ys k w u h. ends enough refl r d c m ys k w u h;
+      cycle-each = λ r d c m ys k w u. each enough refl r d c m ys k w u;
       uses-up = λ r d c m ys k w u n h. uses-up enough refl r d c m ys k w u n h;
       reads-back = reads-back;
       protects = λ r d c m ys k w u n. protects enough refl r d c m ys k w u n;

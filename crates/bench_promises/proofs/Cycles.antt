@@ -59,7 +59,7 @@ module _ (g : Given) (s : Sane g) (ch : Chip) (m : Mem) (c : Counts) (ys : List 
   abbrev l : Line
   l = ch .line
 
-  abbrev Begun : Move → Answer → Type 0
+  abbrev pub Begun : Move → Answer → Type 0
   Begun mv (Send e) = begunOf l (eventOf e) ≡ rests (mv .phase)
   Begun mv (Done q n) = Unit {0}
   Begun mv (Refused f q n) = Unit {0}
@@ -68,7 +68,7 @@ module _ (g : Given) (s : Sane g) (ch : Chip) (m : Mem) (c : Counts) (ys : List 
   same o = record { pin = o .pin; lock = o .lock }
 
   -- only the Stop of a part's data begins a cycle
-  begun-is : {p : Phase} {mv : Move} {zs : List ℕ} → Inv r p c → Rel g p c ys l (ch .latch) m v → Way r c v ys p mv zs → Begun mv (mv .answer)
+  pub begun-is : {p : Phase} {mv : Move} {zs : List ℕ} → Inv r p c → Rel g p c ys l (ch .latch) m v → Way r c v ys p mv zs → Begun mv (mv .answer)
   begun-is i o (w-done e) = tt
   begun-is i o (w-open f) = start-begun l
   begun-is i o (w-bit sl b h) = clock-begins l _ (bit-lt (slotByteOf (wireOf (at r Ready c) (getD ys (c .at) 0)) sl) b)

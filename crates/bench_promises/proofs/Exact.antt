@@ -8,7 +8,6 @@ use mathlib.Core.List.{List}
 use native.Mathlib.Omega.{arith}
 use borrow.Author.Tests.{eqb-true}
 use Rattle.parts.specs.Table.{factsOf}
-use Rattle.parts.proofs.Laws.{branch}
 use Rattle.line.specs.Rules.{NoTransfer}
 use Rattle.line.specs.declared.Cycle.the-variants.{Writing}
 use Rattle.line.specs.declared.Recv.the-variants.{Select as SelectByte}
@@ -42,10 +41,10 @@ use Rattle.bench_promises.proofs.Wrote.{less-or-same}
 use Rattle.bench_promises.proofs.Rel.{refusing, Given, F, T, selectB, Pending, InBits, InHeard, Rel}
 use Rattle.bench_promises.proofs.Keep.{Sane, Same, After′, k-poll, k-polled, k-select, k-close, select-lt, no-nack}
 use Rattle.bench_promises.proofs.Steps.{again-next}
-use Rattle.bench_promises.proofs.Whole.{Holds, Stepped, stepped, asked-elim, asked-holds, ended-holds, G, sane, start-holds, holds}
+use Rattle.bench_promises.proofs.Whole.{Holds, Stepped, stepped, asked-elim, ended-holds, G, sane, start-holds, holds}
 use Rattle.bench_promises.proofs.Stored.{spoken, all-done}
 use Rattle.bench_promises.proofs.Live.{not-refusing}
-use Rattle.bench_promises.proofs.Turns.{choices, choices-same, turn-due, turn-plain, end-rests, not-due}
+use Rattle.bench_promises.proofs.Turns.{choices, choices-same, turn-due, turn-plain, turn-holds, end-rests, not-due}
 
 is-due : (d : ℕ) (y : System) → endDueOf d y ≡ true → pollNumberOf y ≡ d
 unfolding endDueOf
@@ -308,16 +307,10 @@ module _ (g : Given) (s : Sane g) (free : refusing (T g) (g .pin) (g .locked) �
           subst ExactNow (sym (turn-plain (F g) (r .enable) d y e))
           (asked-exact y h (due-plain (y .driver .phase) (y .driver .counts) (y .chip .line) (y .level) (h .inv) (t .exact) (is-next (λ (n : ℕ). n ≡ d → ⊥) (not-due g s d pos y e))) (t .spent))
 
-  turn-holds : (y : System) → Holds g y → Holds g (turnOf ourDriver (ours (F g) (r .enable)) d y)
-  unfolding turnOf
-  turn-holds y h =
-      branch (λ (t : System). Holds g (askedOf ourDriver (ours (F g) (r .enable)) t)) (endDueOf d y)
-      (λ _. asked-holds g s (cycleEndedOf (ours (F g) (r .enable)) y) (ended-holds g s y h)) (λ _. asked-holds g s y h)
-
   pub exact-all : (n : ℕ) (y : System) → Holds g y → ExactNow y → ExactNow (turnsOf ourDriver (ours (F g) (r .enable)) d n y)
   unfolding turnsOf
   exact-all zero y h t = t
-  exact-all (suc n) y h t = exact-all n (turnOf ourDriver (ours (F g) (r .enable)) d y) (turn-holds y h) (turn-exact y h t)
+  exact-all (suc n) y h t = exact-all n (turnOf ourDriver (ours (F g) (r .enable)) d y) (turn-holds g s d y h) (turn-exact y h t)
 
 -- a write that is done has sent d polls for each page
 module _ (r : Request) (xs : List ℕ) (c : Chip) (m : Mem) (d n : ℕ) (w : r .reads ≡ false) (b : Begins r xs c m) (u : Writable (r .place) (c .line .core)) (lo : 1 ≤ d) (hi : d ≤ allowedOf r) where

@@ -13,6 +13,7 @@ pub mod Live
 pub mod Turns
 pub mod Late
 pub mod Exact
+pub mod Each
 pub mod Range
 pub mod Shut
 pub mod Replay

@@ -37,7 +37,7 @@ use Rattle.bench_promises.proofs.Driven.{Coded, sends-coded, kept, drop
 
 -- ---- the Stops and polls so far, by the driver's phase
 
-abbrev slotOdd : Slot → Bool
+abbrev pub slotOdd : Slot → Bool
 slotOdd Select = false
 slotOdd High = false
 slotOdd Low = false
@@ -46,7 +46,7 @@ slotOdd Poll = true
 slotOdd Turn = false
 slotOdd Take = false
 
-abbrev oddOf : Phase → Bool
+abbrev pub oddOf : Phase → Bool
 oddOf Ready = false
 oddOf (Bits s b) = slotOdd s
 oddOf (Heard s) = slotOdd s
@@ -61,12 +61,12 @@ Placed r (Heard s) odd t c = (odd ≡ slotOdd s) × (t ≡ c .tries)
 Placed r Rest odd t c = (odd ≡ true) × (t ≡ c .tries)
 Placed r (Over f) odd t c = Unit {0}
 
-abbrev Known : Phase → Bool → ℕ → Counts → Answer → Type 0
+abbrev pub Known : Phase → Bool → ℕ → Counts → Answer → Type 0
 Known p odd t c (Send e) = (odd ≡ oddOf p) × (t ≡ c .tries)
 Known p odd t c (Done q n) = Unit {0}
 Known p odd t c (Refused f q n) = Unit {0}
 
-known : {r : Request} {c : Counts} {v : ℕ} {ys zs : List ℕ} {p : Phase} {mv : Move} (odd : Bool) (t : ℕ) → Placed r p odd t c → Way r c v ys p mv zs → Known p odd t c (mv .answer)
+pub known : {r : Request} {c : Counts} {v : ℕ} {ys zs : List ℕ} {p : Phase} {mv : Move} (odd : Bool) (t : ℕ) → Placed r p odd t c → Way r c v ys p mv zs → Known p odd t c (mv .answer)
 known odd t k (w-done e) = tt
 known odd t k (w-open n) = k n
 known odd t k (w-bit s b h) = k
@@ -186,7 +186,7 @@ module _ (r : Request) (d : ℕ) (pos : 1 ≤ d) where
     puts i (w-over f) = never
 
   -- ---- a turn: after it, and whether an end stands before the driver's event
-  abbrev Next : System → Bool → ℕ → System → Answer → Type 0
+  abbrev pub Next : System → Bool → ℕ → System → Answer → Type 0
   Next y odd t z (Send e) = Placed r (z .driver .phase) (oddAfter odd e) (triesAfter odd t e) (z .driver .counts) × (endDueOf d y ≡ (isPoll odd e && eqb (t + 1) d)) × (e < 4)
   Next y odd t z (Done q n) = Placed r (z .driver .phase) odd t (z .driver .counts) × (endDueOf d y ≡ false)
   Next y odd t z (Refused f q n) = Placed r (z .driver .phase) odd t (z .driver .counts) × (endDueOf d y ≡ false)
@@ -196,7 +196,7 @@ module _ (r : Request) (d : ℕ) (pos : 1 ≤ d) where
   due-is y h = ap (λ (q : Request). eqb (pollNext (y .driver .phase) (y .driver .counts .tries) (allowedOf q) (y .level)) d) (h .request)
 
   module _ (M : Model) where
-    turn-next : (y : System) → Drives r y → (odd : Bool) (t : ℕ) → Placed r (y .driver .phase) odd t (y .driver .counts) → Next y odd t (turnOf ourDriver M d y) (answerOf y)
+    pub turn-next : (y : System) → Drives r y → (odd : Bool) (t : ℕ) → Placed r (y .driver .phase) odd t (y .driver .counts) → Next y odd t (turnOf ourDriver M d y) (answerOf y)
     turn-next y h odd t k =
         let w = step r y h in
         let c = y .driver .counts in

@@ -269,6 +269,12 @@ module _ (g : Given) (s : Sane g) where
   next-slot Turn t a v = inl refl
   next-slot Take t a v = inl refl
 
+  pub turn-holds : (d : ℕ) (y : System) → Holds g y → Holds g (turnOf ourDriver (ours (F g) (r .enable)) d y)
+  unfolding turnOf
+  turn-holds d y h =
+      branch (λ (t : System). Holds g (askedOf ourDriver (ours (F g) (r .enable)) t)) (endDueOf d y)
+      (λ _. asked-holds g s (cycleEndedOf (ours (F g) (r .enable)) y) (ended-holds g s y h)) (λ _. asked-holds g s y h)
+
   module _ (d : ℕ) (pos : 1 ≤ d) where
     abbrev EarlyNow : System → Type 0
     EarlyNow y = Early d (y .driver .phase) (y .driver .counts) (y .chip .line)

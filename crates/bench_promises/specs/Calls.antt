@@ -27,7 +27,7 @@ use Rattle.bench.specs.Calls.{benchVerdict, benchOf}
 use Rattle.bench_promises.specs.Ground.{targetOf}
 use Rattle.bench_promises.specs.Together.{otherOf}
 use Rattle.bench_promises.specs.Ends.{Writable, Shut}
-use Rattle.bench_promises.specs.Tape.{Driven, EndsAt}
+use Rattle.bench_promises.specs.Tape.{Driven, EndsAt, CycleEach}
 
 -- a run of driver and model: what it answers, the two memories and the lent buffer after it. The first number is the chip's enable,
 -- the second is d
@@ -145,6 +145,9 @@ pub record BenchPromises (B : Bench) : Type 0 where
   pub writes : (r : Request) (d : ℕ) (c : Chip) (m : Mem) (ys : List ℕ) → Called r d c m ys → r .reads ≡ false → Written B r (r .enable) d c m ys
   pub reads : (r : Request) (d : ℕ) (c : Chip) (m : Mem) (ys : List ℕ) → Called r d c m ys → r .reads ≡ true → ReadThere B r (r .enable) d c m ys
   pub ends : (r : Request) (d : ℕ) (c : Chip) (m : Mem) (ys : List ℕ) → Called r d c m ys → r .reads ≡ false → Writable (r .place) (c .line .core) → d ≤ r .budget → Ended B r (r .enable) d c m ys
+  -- whatever d is: each part's own Stop begins a cycle, at every moment of the tape, and nothing else does
+  pub cycle-each : (r : Request) (d : ℕ) (c : Chip) (m : Mem) (ys : List ℕ) → Called r d c m ys → r .reads ≡ false → Writable (r .place) (c .line .core)
+      → CycleEach (ours (factsOf (r .part)) (r .enable)) c (B .events r (r .enable) d c m ys)
   pub uses-up : (r : Request) (d : ℕ) (c : Chip) (m : Mem) (ys : List ℕ) → Called r d c m ys → r .reads ≡ false → Writable (r .place) (c .line .core) → 1 ≤ r .length → r .budget < d → UsedUp B r (r .enable) d c m ys
   -- a write that is done and then read back, with a buffer long enough and any d from 1 to 65,535, gives the bytes that were to be
   -- written; `Typed` is what the types say of every chip that code can hold
