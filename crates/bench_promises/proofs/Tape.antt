@@ -20,7 +20,7 @@ use Rattle.driver.specs.declared.Answer.{Answer}
 use Rattle.driver.specs.declared.Answer.the-variants.{Send, Done, Refused}
 use Rattle.driver.specs.Request.{kOf}
 use Rattle.driver.specs.Machine.{ourDriver}
-use Rattle.driver_promises.specs.Run.{DriverHeld, sentBy, answerTo, Finished, clocksIn, addressBytes, boundOf}
+use Rattle.driver_promises.specs.Run.{DriverHeld, sentBy, answerTo, Finished, clocksIn, pollsIn, addressBytes, boundOf}
 use Rattle.driver_promises.specs.Promises.{Accepted, sent, answers, DoneOf}
 use Rattle.driver_promises.proofs.Promises.{promises}
 use Rattle.bench.specs.declared.Report.{Report}
@@ -126,6 +126,15 @@ done-clocks r ys p left es ls a w v f =
         let t = promises .done-all r (take (r .length) ys) a (toldOf es ls) 0 q n z .plan in
         subst (λ (b : Bool). DoneOf ourDriver r (take (r .length) ys) (toldOf es ls) 0 b q) w t .clocks ∙ ap (λ (i : ℕ). 9 * (kOf r * (1 + addressBytes r) + r .length + i)) (sym (k .1))
     go (Refused x q n) z k = absurd (false≢true (ap isFine (sym (k .0) ∙ f)))
+
+-- the polls that are reported are the polls on the tape
+pub polls-told : (r : Request) (ys : List ℕ) (p : Report) (left es ls : List ℕ) → Accepted r (take (r .length) ys) → Driven r ys p left es ls → p .polls ≡ pollsIn false (withoutEnds es)
+polls-told r ys p left es ls a v = go (answers ourDriver r (take (r .length) ys) (toldOf es ls) 0) refl (v .answer 0) ∙ ap (pollsIn false) (sym (v .events))
+  where
+    go : (k : Answer) → answers ourDriver r (take (r .length) ys) (toldOf es ls) 0 ≡ k → Reports k p → p .polls ≡ pollsIn false (sent ourDriver r (take (r .length) ys) (toldOf es ls) 0)
+    go (Send e) z k = absurd k
+    go (Done q n) z k = k .1 ∙ promises .polls-sent r (take (r .length) ys) a (toldOf es ls) 0 .done q n z
+    go (Refused x q n) z k = k .1 ∙ promises .polls-sent r (take (r .length) ys) a (toldOf es ls) 0 .refused x q n z
 
 -- ---- the ends stand before poll number d
 module _ (r : Request) (en d : ℕ) (c : Chip) (m : Mem) (ys : List ℕ) where

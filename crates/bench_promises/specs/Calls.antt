@@ -141,13 +141,30 @@ module _ (B : Bench) (r : Request) (en d : ℕ) (c : Chip) (m : Mem) (ys : List 
 abbrev pub readOf : Request → Request
 readOf r = record { part = r .part; enable = r .enable; place = r .place; reads = true; length = r .length; budget = r .budget }
 
+module _ (B : Bench) where
+  abbrev pub EndedAll : Type 0
+  EndedAll = (r : Request) (d : ℕ) (c : Chip) (m : Mem) (ys : List ℕ) → Called r d c m ys → r .reads ≡ false → Writable (r .place) (c .line .core) → d ≤ r .budget
+      → Ended B r (r .enable) d c m ys
+
+  -- every call that is not refused before it begins, on any chip, is our driver's run, so all that it promises over any levels holds
+  abbrev pub DrivenAll : Type 0
+  DrivenAll = (r : Request) (en d : ℕ) (c : Chip) (m : Mem) (ys : List ℕ) → benchVerdict r en d c m ys ≡ Fine
+      → Driven r ys (B .report r en d c m ys) (B .buffer r en d c m ys) (B .events r en d c m ys) (B .levels r en d c m ys)
+
+  -- of every call, refused or not
+  abbrev pub EndsAtAll : Type 0
+  EndsAtAll = (r : Request) (en d : ℕ) (c : Chip) (m : Mem) (ys : List ℕ) → EndsAt d (B .events r en d c m ys)
+
+  -- whatever d is: each part's own Stop begins a cycle, at every moment of the tape, and nothing else does
+  abbrev pub CycleEachAll : Type 0
+  CycleEachAll = (r : Request) (d : ℕ) (c : Chip) (m : Mem) (ys : List ℕ) → Called r d c m ys → r .reads ≡ false → Writable (r .place) (c .line .core)
+      → CycleEach (ours (factsOf (r .part)) (r .enable)) c (B .events r (r .enable) d c m ys)
+
 pub record BenchPromises (B : Bench) : Type 0 where
   pub writes : (r : Request) (d : ℕ) (c : Chip) (m : Mem) (ys : List ℕ) → Called r d c m ys → r .reads ≡ false → Written B r (r .enable) d c m ys
   pub reads : (r : Request) (d : ℕ) (c : Chip) (m : Mem) (ys : List ℕ) → Called r d c m ys → r .reads ≡ true → ReadThere B r (r .enable) d c m ys
-  pub ends : (r : Request) (d : ℕ) (c : Chip) (m : Mem) (ys : List ℕ) → Called r d c m ys → r .reads ≡ false → Writable (r .place) (c .line .core) → d ≤ r .budget → Ended B r (r .enable) d c m ys
-  -- whatever d is: each part's own Stop begins a cycle, at every moment of the tape, and nothing else does
-  pub cycle-each : (r : Request) (d : ℕ) (c : Chip) (m : Mem) (ys : List ℕ) → Called r d c m ys → r .reads ≡ false → Writable (r .place) (c .line .core)
-      → CycleEach (ours (factsOf (r .part)) (r .enable)) c (B .events r (r .enable) d c m ys)
+  pub ends : EndedAll B
+  pub cycle-each : CycleEachAll B
   pub uses-up : (r : Request) (d : ℕ) (c : Chip) (m : Mem) (ys : List ℕ) → Called r d c m ys → r .reads ≡ false → Writable (r .place) (c .line .core) → 1 ≤ r .length → r .budget < d → UsedUp B r (r .enable) d c m ys
   -- a write that is done and then read back, with a buffer long enough and any d from 1 to 65,535, gives the bytes that were to be
   -- written; `Typed` is what the types say of every chip that code can hold
@@ -157,9 +174,7 @@ pub record BenchPromises (B : Bench) : Type 0 where
   pub protects : (r : Request) (d : ℕ) (c : Chip) (m : Mem) (ys : List ℕ) → Called r d c m ys → r .reads ≡ false → Shut (r .place) (c .line .core) → 1 ≤ r .length → Protected B r (r .enable) d c m ys
   -- also of a chip at another enable
   pub refuses : (r : Request) (en d : ℕ) (c : Chip) (m : Mem) (ys : List ℕ) (x : Refusal) → benchVerdict r en d c m ys ≡ Judged x → Untouched B r en d c m ys x
-  -- of every call that is not refused before it begins, on any chip: the run is our driver's, so all that it promises over any levels holds
-  pub drives : (r : Request) (en d : ℕ) (c : Chip) (m : Mem) (ys : List ℕ) → benchVerdict r en d c m ys ≡ Fine
-      → Driven r ys (B .report r en d c m ys) (B .buffer r en d c m ys) (B .events r en d c m ys) (B .levels r en d c m ys)
+  pub drives : DrivenAll B
+  pub ends-at : EndsAtAll B
   -- of every call, refused or not
-  pub ends-at : (r : Request) (en d : ℕ) (c : Chip) (m : Mem) (ys : List ℕ) → EndsAt d (B .events r en d c m ys)
   pub replays : (r : Request) (en d : ℕ) (c : Chip) (m : Mem) (ys : List ℕ) → Replayed B r en d c m ys
