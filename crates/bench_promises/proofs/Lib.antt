@@ -22,6 +22,7 @@ pub mod Calls
 pub mod Numbers
 pub mod Rest
 pub mod Recount
+pub mod Pinned
 pub mod Strays
 pub mod Idle
 pub mod Trials

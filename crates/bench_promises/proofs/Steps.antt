@@ -10,13 +10,13 @@ use Rattle.parts.specs.Refusals.{isFine}
 use Rattle.chip.specs.Model.{Model}
 use Rattle.driver.specs.declared.Request.{Request}
 use Rattle.driver.specs.declared.Slot.the-variants.{Poll}
-use Rattle.driver.specs.declared.Phase.the-variants.{Ready, Heard}
+use Rattle.driver.specs.declared.Phase.the-variants.{Heard}
 use Rattle.driver.specs.declared.Driver.{Driver}
 use Rattle.driver.specs.declared.Answer.{Answer}
 use Rattle.driver.specs.declared.Answer.the-variants.{Send, Done, Refused}
 use Rattle.driver.specs.declared.Move.{Move}
 use Rattle.driver.specs.declared.Asked.{Asked}
-use Rattle.driver.specs.Step.{driverNextOf, bufferOf, fresh}
+use Rattle.driver.specs.Step.{driverNextOf, bufferOf}
 use Rattle.driver.specs.Machine.{ourDriver}
 use Rattle.driver.proofs.Facts.{buffer-length}
 use Rattle.driver_promises.specs.Run.{DriverHeld, begun, told, afterAll, Finished}
@@ -84,16 +84,21 @@ pub record Told (r : Request) (xs : List ℕ) (n : ℕ) (s : System) : Type 0 wh
   pub count : length levels ≡ n
   pub run : heldOf s ≡ afterAll ourDriver (begun r xs) levels
 
-after-more : (h : DriverHeld) (ls : List ℕ) (l : ℕ) → afterAll ourDriver h (ls ++ (l ∷ [])) ≡ told ourDriver (afterAll ourDriver h ls) l
+pub after-more : (h : DriverHeld) (ls : List ℕ) (l : ℕ) → afterAll ourDriver h (ls ++ (l ∷ [])) ≡ told ourDriver (afterAll ourDriver h ls) l
 after-more h [] l = refl
 after-more h (x ∷ ls) l = after-more (told ourDriver h x) ls l
 
 module _ (r : Request) (xs : List ℕ) (a : Accepted r xs) where
-  pub start-drives : (y : System) → y .driver ≡ fresh r → y .buffer ≡ xs → Drives r y
-  start-drives y e b =
-      let R = ran r xs (ap isFine (a .fine)) (a .size) [] in
-      let i : Inv r Ready (fresh r .counts) = subst (λ (h : DriverHeld). Inv r (h .driver .phase) (h .driver .counts)) (sym (R .is)) (R .story .inv) in
-      record { request = ap (λ (k : Driver). k .request) e; inv = subst (λ (k : Driver). Inv r (k .phase) (k .counts)) (sym e) i; size = ap (λ (l : List ℕ). length l) b ∙ a .size }
+  -- on its own, after any levels
+  pub drives-of : (y : System) (ls : List ℕ) → heldOf y ≡ afterAll ourDriver (begun r xs) ls → Drives r y
+  drives-of y ls e =
+      let R = ran r xs (ap isFine (a .fine)) (a .size) ls in
+      let k = e ∙ R .is in
+      record {
+        request = ap (λ (h : DriverHeld). h .driver .request) k;
+        inv = subst (λ (h : DriverHeld). Inv r (h .driver .phase) (h .driver .counts)) (sym k) (R .story .inv);
+        size = ap (λ (h : DriverHeld). length (h .buffer)) k ∙ R .story .size;
+      }
 
   pub ask-told : (M : Model) (n : ℕ) (y : System) → Told r xs n y → Told r xs (n + 1) (askedOf ourDriver M y)
   unfolding askedOf

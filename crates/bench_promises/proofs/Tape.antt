@@ -30,7 +30,7 @@ use Rattle.bench.specs.Calls.{finalOf, reportBy, BenchLeft, benchBy, benchVerdi
 use Rattle.bench.proofs.Laws.{granted, run-first, run-length}
 use Rattle.bench_promises.specs.Together.{answerOf}
 use Rattle.bench_promises.specs.Tape.{withoutEnds, toldOf, Reports, Driven, EndsAt}
-use Rattle.bench_promises.proofs.Steps.{start-drives}
+use Rattle.bench_promises.proofs.Steps.{drives-of}
 use Rattle.bench_promises.proofs.Driven.{walks, turns-ended}
 use Rattle.bench_promises.proofs.Placed.{tape-placed}
 use Rattle.bench_promises.proofs.Turns.{last-answer, spare-turn}
@@ -67,7 +67,7 @@ module _ (r : Request) (ys : List ℕ) (a : Accepted r (take (r .length) ys)) (M
   its-own : Driven r ys (reportBy Z (lastOf ourDriver M d n (Done 0 0) first)) (Z .buffer ++ drop (r .length) ys) (tapeEventsOf ourDriver M d n first) (tapeLevelsOf ourDriver M d n first)
   its-own =
       let xs = take (r .length) ys in
-      let w = walks r M d n first (start-drives r xs a first refl refl) in
+      let w = walks r M d n first (drives-of r xs a first [] refl) in
       let e = turns-ended r xs a M d n c m (omega (arith, spare)) in
       let h = w .after ∙ e .stays in
       record {
@@ -146,5 +146,5 @@ module _ (r : Request) (en d : ℕ) (c : Chip) (m : Mem) (ys : List ℕ) where
           let x = startOf r (take (r .length) ys) c m in
           let a = accepted r en d c m ys f in
           let o = run-first r en d c (length (m .cells)) (length (m .ident)) (length ys) f in
-          tape-placed r d o (ours (factsOf (r .part)) en) enough x (start-drives r (take (r .length) ys) a x refl refl) false 0 (λ _. (refl, refl))
+          tape-placed r d o (ours (factsOf (r .part)) en) enough x (drives-of r (take (r .length) ys) a x [] refl) false 0 (λ _. (refl, refl))
       go (Judged z) f = refl

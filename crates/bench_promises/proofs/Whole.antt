@@ -25,7 +25,7 @@ use Rattle.bench_promises.specs.Together.{Begins, askings}
 use Rattle.bench_promises.proofs.Wrote.{with-same}
 use Rattle.bench_promises.proofs.Rel.{Given, F, Buffer, Rel}
 use Rattle.bench_promises.proofs.Keep.{Sane, Next, keeps, end-keeps}
-use Rattle.bench_promises.proofs.Steps.{Step, step, ask-elim, Told, start-drives, ask-told}
+use Rattle.bench_promises.proofs.Steps.{Step, step, ask-elim, Told, drives-of, ask-told}
 use Rattle.parts.specs.Events.{eventOf}
 use Rattle.parts.proofs.Bytes.{below-at}
 use Rattle.chip.specs.Model.{ours}
@@ -121,7 +121,7 @@ module _ (r : Request) (xs : List ℕ) (c : Chip) (m : Mem) (b : Begins r xs c m
   start-holds =
       record {
         request = refl;
-        inv = start-drives r xs (b .accepted) (startOf r xs c m) refl refl .inv;
+        inv = drives-of r xs (b .accepted) (startOf r xs c m) [] refl .inv;
         size = b .accepted .size;
         rel = record { pin = refl; lock = refl; buffer = buffer-first (r .reads); place = record { phase = b .idle .idle; mem = stored-first (r .reads) } };
       }

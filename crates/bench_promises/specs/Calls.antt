@@ -146,12 +146,19 @@ module _ (B : Bench) where
   EndedAll = (r : Request) (d : ℕ) (c : Chip) (m : Mem) (ys : List ℕ) → Called r d c m ys → r .reads ≡ false → Writable (r .place) (c .line .core) → d ≤ r .budget
       → Ended B r (r .enable) d c m ys
 
+  -- also of a chip at another enable
+  abbrev pub UntouchedAll : Type 0
+  UntouchedAll = (r : Request) (en d : ℕ) (c : Chip) (m : Mem) (ys : List ℕ) (x : Refusal) → benchVerdict r en d c m ys ≡ Judged x → Untouched B r en d c m ys x
+
   -- every call that is not refused before it begins, on any chip, is our driver's run, so all that it promises over any levels holds
   abbrev pub DrivenAll : Type 0
   DrivenAll = (r : Request) (en d : ℕ) (c : Chip) (m : Mem) (ys : List ℕ) → benchVerdict r en d c m ys ≡ Fine
       → Driven r ys (B .report r en d c m ys) (B .buffer r en d c m ys) (B .events r en d c m ys) (B .levels r en d c m ys)
 
   -- of every call, refused or not
+  abbrev pub ReplayedAll : Type 0
+  ReplayedAll = (r : Request) (en d : ℕ) (c : Chip) (m : Mem) (ys : List ℕ) → Replayed B r en d c m ys
+
   abbrev pub EndsAtAll : Type 0
   EndsAtAll = (r : Request) (en d : ℕ) (c : Chip) (m : Mem) (ys : List ℕ) → EndsAt d (B .events r en d c m ys)
 
@@ -172,9 +179,7 @@ pub record BenchPromises (B : Bench) : Type 0 where
       → 1 ≤ e → e ≤ 65535 → r .length ≤ length zs → AllBelow 256 zs
       → B .buffer (readOf r) (r .enable) e (B .report r (r .enable) d c m ys .chip) (B .memory r (r .enable) d c m ys) zs ≡ ys ++ drop (r .length) zs
   pub protects : (r : Request) (d : ℕ) (c : Chip) (m : Mem) (ys : List ℕ) → Called r d c m ys → r .reads ≡ false → Shut (r .place) (c .line .core) → 1 ≤ r .length → Protected B r (r .enable) d c m ys
-  -- also of a chip at another enable
-  pub refuses : (r : Request) (en d : ℕ) (c : Chip) (m : Mem) (ys : List ℕ) (x : Refusal) → benchVerdict r en d c m ys ≡ Judged x → Untouched B r en d c m ys x
+  pub refuses : UntouchedAll B
   pub drives : DrivenAll B
   pub ends-at : EndsAtAll B
-  -- of every call, refused or not
-  pub replays : (r : Request) (en d : ℕ) (c : Chip) (m : Mem) (ys : List ℕ) → Replayed B r en d c m ys
+  pub replays : ReplayedAll B

@@ -4,6 +4,7 @@ pub mod Ends
 pub mod Tape
 pub mod Calls
 pub mod Numbers
+pub mod Pinned
 pub mod Strays
 pub mod Idle
 pub mod Trials
