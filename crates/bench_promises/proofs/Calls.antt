@@ -54,7 +54,7 @@ use Rattle.bench_promises.proofs.Live.{not-refusing}
 use Rattle.bench_promises.proofs.Shut.{shut-refused}
 use Rattle.bench_promises.proofs.Range.{stays-in-range}
 use Rattle.bench_promises.proofs.Replay.{replayed}
-use Rattle.bench_promises.proofs.Tape.{driven, done-clocks, ends-at}
+use Rattle.bench_promises.proofs.Tape.{driven, done-clocks, read-clocks, ends-at}
 use Rattle.chip.specs.Model.{ours}
 
 -- ---- a call that is not refused
@@ -249,6 +249,7 @@ module _ (n : ℕ) (turns : n ≡ enough) (r : Request) (d : ℕ) (c : Chip) (m 
         bytes = ap (λ (y : Report). y .bytes) p;
         polls = ap (λ (y : Report). y .polls) p;
         cycles = ap (λ (y : Report). y .cycles) p ∙ z .cycles;
+        clocks = λ h. sym (replayed r (r .enable) d c m ys .clocks) ∙ read-clocks r ys _ _ _ _ (begins r d c m ys k .accepted) (driven r (r .enable) d c m ys (k .fine)) (ap (λ (y : Report). y .verdict) p) w h;
         buffer = buffer-is ∙ ap (λ (l : List ℕ). l ++ drop (r .length) ys) (got z a);
         memory = memory-is ∙ z .mem;
         lock = ap (λ (y : Report). y .chip .line .core .locked) p ∙ z .lock;
@@ -280,7 +281,7 @@ module _ (n : ℕ) (turns : n ≡ enough) (r : Request) (d : ℕ) (c : Chip) (m 
         cycles = ap (λ (y : Report). y .cycles) p ∙ z .cycles;
         polls = q;
         clocks = sym (replayed r (r .enable) d c m ys .clocks)
-            ∙ (done-clocks r ys _ _ _ _ (begins r d c m ys k .accepted) w v (ap (λ (y : Report). y .verdict) p) ∙ ap (λ (i : ℕ). 9 * (kOf r * (1 + addressBytes r) + r .length + i)) q);
+            ∙ (done-clocks r ys _ _ _ _ (begins r d c m ys k .accepted) v (ap (λ (y : Report). y .verdict) p) w ∙ ap (λ (i : ℕ). 9 * (kOf r * (1 + addressBytes r) + r .length + i)) q);
       }
 
   each : r .reads ≡ false → Writable (r .place) (c .line .core) → CycleEach (ours (factsOf (r .part)) (r .enable)) c (benchOf r (r .enable) d c m ys .events)

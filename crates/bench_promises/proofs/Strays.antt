@@ -1,13 +1,15 @@
 -- Each run that strays from ours on the tape breaks its promise.
 -- Assumes nothing.
-use Prim.Native.Nat.{ℕ, zero, suc, _+_, _≤_, _<_}
+use Prim.Native.Nat.{ℕ, zero, suc, _+_, _-_, _≤_, _<_}
 use mathlib.Core.Path.{_≡_, refl, sym, _∙_, ap, subst}
 use mathlib.Core.Bool.{Bool, true, false, cond, _&&_}
 use mathlib.Core.List.{List, [], _∷_, _++_}
-use lib.ListN.{length, replicate, length-append}
+use lib.ListN.{length, take, replicate, length-append}
+use lib.Seq.{take-all}
 use lib.Dec.{eqb}
 use native.Mathlib.Omega.{arith}
 use borrow.Author.Tests.{ne-eqb}
+use Rattle.parts.specs.declared.Facts.{Facts}
 use Rattle.parts.specs.declared.Refusal.the-variants.{BadLimit}
 use Rattle.parts.specs.declared.Verdict.the-variants.{Fine}
 use Rattle.parts.specs.Table.{factsOf, idSizeOf, enableRightOf, buffersRightOf}
@@ -34,9 +36,9 @@ use Rattle.driver_promises.specs.Promises.{sent}
 use Rattle.driver_promises.specs.Run.{pollsIn}
 use Rattle.bench.specs.Calls.{otherLengthOf, shortOf, lateOf, benchVerdictOf, benchVerdict}
 use Rattle.bench_promises.specs.Ends.{Writable}
-use Rattle.bench_promises.specs.Tape.{withoutEnds, oddAfter, isPoll, triesAfter, endsPut}
+use Rattle.bench_promises.specs.Tape.{withoutEnds, oddAfter, isPoll, triesAfter, endsPut, partsEnded, CycleEach}
 use Rattle.bench_promises.specs.Calls.{ourBench, Called, EndedAll, DrivenAll, EndsAtAll, CycleEachAll}
-use Rattle.bench_promises.specs.Strays.{aloof, lateWithin, later, oneEndMore, stopFirst, StraysBreak}
+use Rattle.bench_promises.specs.Strays.{aloof, lateWithin, later, oneEndMore, stopFirst, closing, CyclesOnTape, StraysBreak}
 use Rattle.bench_promises.proofs.Tape.{accepted, polls-told}
 use Rattle.bench_promises.proofs.Calls.{bench-promises}
 
@@ -141,16 +143,16 @@ aloof-breaks : DrivenAll aloof → ⊥
 aloof-breaks p = let e = ap (λ (l : List ℕ). length l) (p (one 2 1) 1 1 (chip₀ 2) (mem₀ 8192 0) byte fine-other .events ∙ first-sent) in omega arith
 
 -- ---- late within the budget: one poll more
-one-page : kOf (one 0 2) ≡ 1
+one-page : (budget : ℕ) → kOf (one 0 budget) ≡ 1
 unfolding kOf pagesMetOf factsOf
-one-page = refl
+one-page budget = refl
 
 late-breaks : EndedAll lateWithin → ⊥
 unfolding lateOf
 late-breaks p =
     let a = p (one 0 2) 1 (chip₀ 0) (mem₀ 2048 16) byte (called 2 1 (fine-late 1 refl)) refl free (omega arith) .polls in
     let b = bench-promises .ends (one 0 2) 2 (chip₀ 0) (mem₀ 2048 16) byte (called 2 2 (fine-late 2 refl)) refl free (omega arith) .polls in
-    omega (arith, one-page)
+    omega (arith, one-page 2)
 
 -- ---- later: with d = 2 and budget 1 there is one poll, and no end on the tape
 later-breaks : EndsAtAll later → ⊥
@@ -180,5 +182,39 @@ stop-breaks : CycleEachAll stopFirst → ⊥
 unfolding cyclesOf begunOf eventOf asksOf placedOf stopBegunOf standbyOf factsOf
 stop-breaks p = let z : _≡_ {A = ℕ} 0 1 = p (one 0 1) 1 (chip₀ 0) (mem₀ 2048 16) byte (called 1 1 fine-one) refl free 1 in omega arith
 
+-- ---- the other Stop: where both chips keep it, no part ends
+module _ (f : Facts) (en : ℕ) where
+  no-parts : (c : Chip) (es : List ℕ) → CycleEach (ours f en) c es → CycleEach (closing f en) c es → partsEnded false es ≡ 0
+  unfolding cyclesOf
+  no-parts c [] p q = refl
+  no-parts c (e ∷ es) p q = go (eqb e 3) refl (λ x y. no-parts (ours f en .next c e) es x y)
+    where
+      go : (b : Bool) → eqb e 3 ≡ b → (CycleEach (ours f en) (ours f en .next c e) es → CycleEach (closing f en) (ours f en .next c e) es → partsEnded false es ≡ 0) → partsEnded false (e ∷ es) ≡ 0
+      go true z h =
+          let x = p 1 in
+          let y = q 1 in
+          absurd (omega (arith, ap {B = ℕ} (λ (b : Bool). cond b 1 0) z, ap {B = ℕ} (λ (b : Bool). cond b (1 - ours f en .begun c e) 0) z))
+      go false z h =
+          let x = p 1 in
+          let u = ap {B = ℕ} (λ (b : Bool). cond b 1 0) z in
+          let v = ap {B = ℕ} (λ (b : Bool). cond b (1 - ours f en .begun c e) 0) z in
+          let s : oddAfter false e ≡ false = ap (λ (b : Bool). cond b true false) z in
+          let k = h
+          (λ i. (let w = p (suc i) in omega (arith, ap (λ (b : Bool). partsEnded b (take i es)) s)))
+          (λ i. (let w = q (suc i) in omega (arith, ap (λ (b : Bool). partsEnded b (take i es)) s))) in
+          omega (arith, ap (λ (b : Bool). partsEnded b es) s)
+
+closing-breaks : CyclesOnTape closing → ⊥
+closing-breaks p =
+    let es = ourBench .events (one 0 1) 0 1 (chip₀ 0) (mem₀ 2048 16) byte in
+    let k = called 1 1 fine-one in
+    let o = bench-promises .cycle-each (one 0 1) 1 (chip₀ 0) (mem₀ 2048 16) byte k refl free in
+    let n = no-parts (factsOf 0) 0 (chip₀ 0) es o (p (one 0 1) 1 (chip₀ 0) (mem₀ 2048 16) byte k refl free) in
+    let w = ap (cyclesOf (ours (factsOf 0) 0) (chip₀ 0)) (take-all (length es) es (omega arith)) in
+    let v = ap (partsEnded false) (take-all (length es) es (omega arith)) in
+    let r = bench-promises .replays (one 0 1) 0 1 (chip₀ 0) (mem₀ 2048 16) byte .cycles in
+    let c = bench-promises .ends (one 0 1) 1 (chip₀ 0) (mem₀ 2048 16) byte k refl free (omega arith) .cycles in
+    omega (arith, o (length es), one-page 1)
+
 pub strays-break : StraysBreak
-strays-break = record { aloof = aloof-breaks; late-within = late-breaks; later = later-breaks; one-end-more = more-breaks; stop-first = stop-breaks }
+strays-break = record { aloof = aloof-breaks; late-within = late-breaks; later = later-breaks; one-end-more = more-breaks; stop-first = stop-breaks; closing = closing-breaks }

@@ -1,6 +1,6 @@
 -- The tape of the run: every call that is not refused is our driver's run, on any chip.
 -- Assumes nothing.
-use Prim.Native.Nat.{ℕ, suc, _+_, _-_, _*_, _<_}
+use Prim.Native.Nat.{ℕ, suc, _+_, _-_, _*_, _≤_, _<_}
 use mathlib.Core.Path.{_≡_, refl, sym, _∙_, ap, subst}
 use mathlib.Core.Bool.{Bool, true, false, cond, false≢true}
 use mathlib.Core.List.{List, [], _∷_, _++_, append-nil}
@@ -101,7 +101,7 @@ module _ (r : Request) (en d : ℕ) (c : Chip) (m : Mem) (ys : List ℕ) (fine :
   pub driven : DrivenBy (benchOf r en d c m ys)
   driven = subst (λ (v : Verdict). DrivenBy (benchBy ourDriver M₀ r d c m ys v)) (sym fine) (by-turns enough refl)
 
--- ---- the clocks of a write that is done
+-- ---- the clocks of a run that is done
 
 without-clocks : (es : List ℕ) → clocksIn (withoutEnds es) ≡ clocksIn es
 without-clocks [] = refl
@@ -111,21 +111,26 @@ without-clocks (e ∷ es) = go (eqb e 4) refl (without-clocks es)
     go true z k = let f = eqb-true e 4 z in omega (arith, ap {B = ℕ} (λ (t : Bool). cond t 1 0) (le-ltb e 2 (omega arith)))
     go false z k = omega arith
 
-pub done-clocks : (r : Request) (ys : List ℕ) (p : Report) (left es ls : List ℕ) → Accepted r (take (r .length) ys) → r .reads ≡ false → Driven r ys p left es ls → p .verdict ≡ Fine
-    → clocksIn es ≡ 9 * (kOf r * (1 + addressBytes r) + r .length + p .polls)
-done-clocks r ys p left es ls a w v f =
-    sym (without-clocks es) ∙ (ap clocksIn (v .events) ∙ go (answers ourDriver r xs (toldOf es ls) 0) refl (v .answer 0))
+-- the answer was done, and the clocks on the tape are those of the events sent
+done-as : (r : Request) (ys : List ℕ) (p : Report) (left es ls : List ℕ) → Accepted r (take (r .length) ys) → Driven r ys p left es ls → p .verdict ≡ Fine
+    → DoneOf ourDriver r (take (r .length) ys) (toldOf es ls) 0 (r .reads) (p .polls) × (clocksIn es ≡ clocksIn (sent ourDriver r (take (r .length) ys) (toldOf es ls) 0))
+done-as r ys p left es ls a v f = (go (answers ourDriver r (take (r .length) ys) (toldOf es ls) 0) refl (v .answer 0), sym (without-clocks es) ∙ ap clocksIn (v .events))
   where
-    xs : List ℕ
-    xs = take (r .length) ys
-
-    go : (k : Answer) → answers ourDriver r (take (r .length) ys) (toldOf es ls) 0 ≡ k → Reports k p
-        → clocksIn (sent ourDriver r (take (r .length) ys) (toldOf es ls) 0) ≡ 9 * (kOf r * (1 + addressBytes r) + r .length + p .polls)
+    go : (k : Answer) → answers ourDriver r (take (r .length) ys) (toldOf es ls) 0 ≡ k → Reports k p → DoneOf ourDriver r (take (r .length) ys) (toldOf es ls) 0 (r .reads) (p .polls)
     go (Send e) z k = absurd k
-    go (Done q n) z k =
-        let t = promises .done-all r (take (r .length) ys) a (toldOf es ls) 0 q n z .plan in
-        subst (λ (b : Bool). DoneOf ourDriver r (take (r .length) ys) (toldOf es ls) 0 b q) w t .clocks ∙ ap (λ (i : ℕ). 9 * (kOf r * (1 + addressBytes r) + r .length + i)) (sym (k .1))
+    go (Done q n) z k = subst (DoneOf ourDriver r (take (r .length) ys) (toldOf es ls) 0 (r .reads)) (sym (k .1)) (promises .done-all r (take (r .length) ys) a (toldOf es ls) 0 q n z .plan)
     go (Refused x q n) z k = absurd (false≢true (ap isFine (sym (k .0) ∙ f)))
+
+module _ (r : Request) (ys : List ℕ) (p : Report) (left es ls : List ℕ) (a : Accepted r (take (r .length) ys)) (v : Driven r ys p left es ls) (f : p .verdict ≡ Fine) where
+  pub done-clocks : r .reads ≡ false → clocksIn es ≡ 9 * (kOf r * (1 + addressBytes r) + r .length + p .polls)
+  done-clocks w =
+      let t = done-as r ys p left es ls a v f in
+      t .1 ∙ subst (λ (b : Bool). DoneOf ourDriver r (take (r .length) ys) (toldOf es ls) 0 b (p .polls)) w (t .0) .clocks
+
+  pub read-clocks : r .reads ≡ true → 1 ≤ r .length → clocksIn es ≡ 9 * (2 + addressBytes r + r .length)
+  read-clocks w h =
+      let t = done-as r ys p left es ls a v f in
+      t .1 ∙ subst (λ (b : Bool). DoneOf ourDriver r (take (r .length) ys) (toldOf es ls) 0 b (p .polls)) w (t .0) .clocks h
 
 -- the polls that are reported are the polls on the tape
 pub polls-told : (r : Request) (ys : List ℕ) (p : Report) (left es ls : List ℕ) → Accepted r (take (r .length) ys) → Driven r ys p left es ls → p .polls ≡ pollsIn false (withoutEnds es)

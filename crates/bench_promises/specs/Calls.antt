@@ -86,6 +86,7 @@ module _ (B : Bench) (r : Request) (en d : ℕ) (c : Chip) (m : Mem) (ys : List 
     pub bytes : report .bytes ≡ r .length
     pub polls : report .polls ≡ 0
     pub cycles : report .cycles ≡ 0
+    pub clocks : 1 ≤ r .length → report .clocks ≡ 9 * (2 + addressBytes r + r .length)
     pub buffer : B .buffer r en d c m ys ≡ take (r .length) (drop (fromOf (r .place)) (cellsOf (targetOf (r .place)) m)) ++ drop (r .length) ys
     pub memory : B .memory r en d c m ys ≡ m
     pub lock : report .chip .line .core .locked ≡ c .line .core .locked

@@ -1,15 +1,22 @@
 -- Runs that stray from ours on the tape: each breaks a promise, at its field.
 -- Assumes nothing.
-use Prim.Native.Nat.{ℕ, _+_}
-use mathlib.Core.Bool.{cond}
-use mathlib.Core.List.{[], _∷_, _++_}
+use Prim.Native.Nat.{ℕ, _+_, _-_}
+use mathlib.Core.Path.{_≡_}
+use mathlib.Core.Bool.{false, cond}
+use mathlib.Core.List.{List, [], _∷_, _++_}
 use lib.Dec.{eqb, ltb}
+use Rattle.parts.specs.declared.Facts.{Facts}
 use Rattle.parts.specs.declared.Verdict.the-variants.{Fine}
+use Rattle.parts.specs.Table.{factsOf}
 use Rattle.state.specs.declared.Chip.{Chip}
 use Rattle.chip.specs.Model.{ours}
+use Rattle.chip.specs.Memory.{Mem}
+use Rattle.chip.specs.Model.{Model}
 use Rattle.driver.specs.declared.Request.{Request}
 use Rattle.bench.specs.declared.Report.{Report}
-use Rattle.bench_promises.specs.Calls.{Bench, ourBench, EndedAll, DrivenAll, EndsAtAll, CycleEachAll}
+use Rattle.bench_promises.specs.Ends.{Writable}
+use Rattle.bench_promises.specs.Tape.{CycleEach}
+use Rattle.bench_promises.specs.Calls.{Bench, ourBench, Called, EndedAll, DrivenAll, EndsAtAll, CycleEachAll}
 
 -- ---- `drives`: ours on a chip at the request's enable; at any other it sends nothing and reports all bytes done
 
@@ -75,9 +82,25 @@ stopFirst =
       levels = λ r en d c m ys. 2 ∷ ourBench .levels r en d c m ys;
     }
 
+-- and a chip, ours but that the Stop at the end of a page's polls begins the cycle: as many in all, each at another place
+abbrev pub closing : Facts → ℕ → Model
+closing f en =
+    record {
+      next = ours f en .next;
+      store = ours f en .store;
+      level = ours f en .level;
+      begun = λ c e. cond (eqb e 3) (1 - ours f en .begun c e) 0;
+    }
+
+-- of a chip, on our tape
+abbrev pub CyclesOnTape : (Facts → ℕ → Model) → Type 0
+CyclesOnTape M = (r : Request) (d : ℕ) (c : Chip) (m : Mem) (ys : List ℕ) → Called r d c m ys → r .reads ≡ false → Writable (r .place) (c .line .core)
+    → CycleEach (M (factsOf (r .part)) (r .enable)) c (ourBench .events r (r .enable) d c m ys)
+
 pub record StraysBreak : Type 0 where
   pub aloof : DrivenAll aloof → ⊥
   pub late-within : EndedAll lateWithin → ⊥
   pub later : EndsAtAll later → ⊥
   pub one-end-more : EndsAtAll oneEndMore → ⊥
   pub stop-first : CycleEachAll stopFirst → ⊥
+  pub closing : CyclesOnTape closing → ⊥
