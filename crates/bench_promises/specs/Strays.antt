@@ -9,9 +9,8 @@ use Rattle.parts.specs.declared.Facts.{Facts}
 use Rattle.parts.specs.declared.Verdict.the-variants.{Fine}
 use Rattle.parts.specs.Table.{factsOf}
 use Rattle.state.specs.declared.Chip.{Chip}
-use Rattle.chip.specs.Model.{ours}
+use Rattle.chip.specs.Model.{Model, ours}
 use Rattle.chip.specs.Memory.{Mem}
-use Rattle.chip.specs.Model.{Model}
 use Rattle.driver.specs.declared.Request.{Request}
 use Rattle.bench.specs.declared.Report.{Report}
 use Rattle.bench_promises.specs.Ends.{Writable}
