@@ -1,4 +1,4 @@
--- The run is our driver's, told the tape's levels, on any chip; and its ends stand before poll number d.
+-- The run is our driver's, told the tape's levels, on any chip; and it finishes.
 -- Assumes nothing.
 use Prim.Native.Nat.{ℕ, zero, suc, _+_, _<_}
 use mathlib.Core.Path.{_≡_, refl, sym, _∙_, ap, subst}
@@ -39,9 +39,6 @@ abbrev pub Coded : Answer → Type 0
 Coded (Send e) = e < 4
 Coded (Done q n) = Unit {0}
 Coded (Refused f q n) = Unit {0}
-
-clock-coded : (byte b e : ℕ) → e < 2 → e < 4
-clock-coded byte b e h = omega arith
 
 coded : {r : Request} {c : Counts} {v : ℕ} {ys zs : List ℕ} {p : Phase} {mv : Move} → Way r c v ys p mv zs → Coded (mv .answer)
 coded (w-done e) = tt

@@ -38,7 +38,7 @@ use Rattle.bench.specs.Calls.{otherLengthOf, shortOf, lateOf, benchVerdictOf, b
 use Rattle.bench_promises.specs.Ends.{Writable}
 use Rattle.bench_promises.specs.Tape.{withoutEnds, oddAfter, isPoll, triesAfter, endsPut, partsEnded, CycleEach}
 use Rattle.bench_promises.specs.Calls.{ourBench, Called, EndedAll, DrivenAll, EndsAtAll, CycleEachAll}
-use Rattle.bench_promises.specs.Strays.{aloof, lateWithin, later, oneEndMore, stopFirst, closing, CyclesOnTape, StraysBreak}
+use Rattle.bench_promises.specs.Strays.{aloof, lateWithin, later, oneEndMore, stopFirst, closing, StraysBreak}
 use Rattle.bench_promises.proofs.Tape.{accepted, polls-told}
 use Rattle.bench_promises.proofs.Calls.{bench-promises}
 
@@ -178,7 +178,7 @@ more-breaks p =
     omega (arith, ap (λ (l : List ℕ). length l) a, length-append es (4 ∷ []))
 
 -- ---- a Stop on an idle chip begins nothing
-stop-breaks : CycleEachAll stopFirst → ⊥
+stop-breaks : CycleEachAll stopFirst ours → ⊥
 unfolding cyclesOf begunOf eventOf asksOf placedOf stopBegunOf standbyOf factsOf
 stop-breaks p = let z : _≡_ {A = ℕ} 0 1 = p (one 0 1) 1 (chip₀ 0) (mem₀ 2048 16) byte (called 1 1 fine-one) refl free 1 in omega arith
 
@@ -204,7 +204,7 @@ module _ (f : Facts) (en : ℕ) where
           (λ i. (let w = q (suc i) in omega (arith, ap (λ (b : Bool). partsEnded b (take i es)) s))) in
           omega (arith, ap (λ (b : Bool). partsEnded b es) s)
 
-closing-breaks : CyclesOnTape closing → ⊥
+closing-breaks : CycleEachAll ourBench closing → ⊥
 closing-breaks p =
     let es = ourBench .events (one 0 1) 0 1 (chip₀ 0) (mem₀ 2048 16) byte in
     let k = called 1 1 fine-one in

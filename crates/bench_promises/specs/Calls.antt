@@ -1,5 +1,5 @@
 -- The demands as promises about the public run of driver and model (crate bench): what it answers, and what it leaves in the lent
--- buffers, on an idle chip. The run is a record of functions, so that a wrong one breaks them; `ourBench` is what its contract says.
+-- buffers on an idle chip, and its tape on any. The run is a record of functions, so that a wrong one breaks them; `ourBench` is what its contract says.
 -- Assumes nothing.
 use Prim.Native.Nat.{ℕ, _+_, _*_, _<_, _≤_}
 use mathlib.Core.Path.{_≡_}
@@ -7,6 +7,7 @@ use mathlib.Core.Bool.{true, false}
 use mathlib.Core.Logic.{_⊎_}
 use mathlib.Core.List.{List, [], _++_}
 use lib.ListN.{length, getD, take, drop}
+use Rattle.parts.specs.declared.Facts.{Facts}
 use Rattle.parts.specs.declared.Refusal.{Refusal}
 use Rattle.parts.specs.declared.Refusal.the-variants.{NoData, PollsUsed}
 use Rattle.parts.specs.declared.Verdict.the-variants.{Fine, Refused as Judged}
@@ -15,7 +16,7 @@ use Rattle.parts.specs.Bytes.{AllBelow}
 use Rattle.line.specs.declared.Target.{Target}
 use Rattle.line.specs.declared.Phase.the-variants.{Idle}
 use Rattle.state.specs.declared.Chip.{Chip}
-use Rattle.chip.specs.Model.{ours}
+use Rattle.chip.specs.Model.{Model, ours}
 use Rattle.chip.specs.Memory.{Mem, cellsOf}
 use Rattle.chip.specs.Runs.{afterOf, memoryOf, levelsOf, cyclesOf}
 use Rattle.chip_laws.specs.Range.{Typed}
@@ -144,12 +145,13 @@ readOf r = record { part = r .part; enable = r .enable; place = r .place; reads 
 
 module _ (B : Bench) where
   abbrev pub EndedAll : Type 0
-  EndedAll = (r : Request) (d : ℕ) (c : Chip) (m : Mem) (ys : List ℕ) → Called r d c m ys → r .reads ≡ false → Writable (r .place) (c .line .core) → d ≤ r .budget
-      → Ended B r (r .enable) d c m ys
+  EndedAll = (r : Request) (d : ℕ) (c : Chip) (m : Mem) (ys : List ℕ) → Called r d c m ys → r .reads ≡ false → Writable (r .place) (c .line .core)
+      → d ≤ r .budget → Ended B r (r .enable) d c m ys
 
   -- also of a chip at another enable
   abbrev pub UntouchedAll : Type 0
-  UntouchedAll = (r : Request) (en d : ℕ) (c : Chip) (m : Mem) (ys : List ℕ) (x : Refusal) → benchVerdict r en d c m ys ≡ Judged x → Untouched B r en d c m ys x
+  UntouchedAll = (r : Request) (en d : ℕ) (c : Chip) (m : Mem) (ys : List ℕ) (x : Refusal) → benchVerdict r en d c m ys ≡ Judged x
+      → Untouched B r en d c m ys x
 
   -- every call that is not refused before it begins, on any chip, is our driver's run, so all that it promises over any levels holds
   abbrev pub DrivenAll : Type 0
@@ -163,16 +165,16 @@ module _ (B : Bench) where
   abbrev pub EndsAtAll : Type 0
   EndsAtAll = (r : Request) (en d : ℕ) (c : Chip) (m : Mem) (ys : List ℕ) → EndsAt d (B .events r en d c m ys)
 
-  -- whatever d is: each part's own Stop begins a cycle, at every moment of the tape, and nothing else does
-  abbrev pub CycleEachAll : Type 0
-  CycleEachAll = (r : Request) (d : ℕ) (c : Chip) (m : Mem) (ys : List ℕ) → Called r d c m ys → r .reads ≡ false → Writable (r .place) (c .line .core)
-      → CycleEach (ours (factsOf (r .part)) (r .enable)) c (B .events r (r .enable) d c m ys)
+  -- whatever d is: each part's own Stop begins a cycle of the chip M, at every moment of the tape, and nothing else does
+  abbrev pub CycleEachAll : (Facts → ℕ → Model) → Type 0
+  CycleEachAll M = (r : Request) (d : ℕ) (c : Chip) (m : Mem) (ys : List ℕ) → Called r d c m ys → r .reads ≡ false → Writable (r .place) (c .line .core)
+      → CycleEach (M (factsOf (r .part)) (r .enable)) c (B .events r (r .enable) d c m ys)
 
 pub record BenchPromises (B : Bench) : Type 0 where
   pub writes : (r : Request) (d : ℕ) (c : Chip) (m : Mem) (ys : List ℕ) → Called r d c m ys → r .reads ≡ false → Written B r (r .enable) d c m ys
   pub reads : (r : Request) (d : ℕ) (c : Chip) (m : Mem) (ys : List ℕ) → Called r d c m ys → r .reads ≡ true → ReadThere B r (r .enable) d c m ys
   pub ends : EndedAll B
-  pub cycle-each : CycleEachAll B
+  pub cycle-each : CycleEachAll B ours
   pub uses-up : (r : Request) (d : ℕ) (c : Chip) (m : Mem) (ys : List ℕ) → Called r d c m ys → r .reads ≡ false → Writable (r .place) (c .line .core) → 1 ≤ r .length → r .budget < d → UsedUp B r (r .enable) d c m ys
   -- a write that is done and then read back, with a buffer long enough and any d from 1 to 65,535, gives the bytes that were to be
   -- written; `Typed` is what the types say of every chip that code can hold

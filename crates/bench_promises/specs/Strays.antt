@@ -1,21 +1,16 @@
 -- Runs that stray from ours on the tape: each breaks a promise, at its field.
 -- Assumes nothing.
 use Prim.Native.Nat.{ℕ, _+_, _-_}
-use mathlib.Core.Path.{_≡_}
-use mathlib.Core.Bool.{false, cond}
-use mathlib.Core.List.{List, [], _∷_, _++_}
+use mathlib.Core.Bool.{cond}
+use mathlib.Core.List.{[], _∷_, _++_}
 use lib.Dec.{eqb, ltb}
 use Rattle.parts.specs.declared.Facts.{Facts}
 use Rattle.parts.specs.declared.Verdict.the-variants.{Fine}
-use Rattle.parts.specs.Table.{factsOf}
 use Rattle.state.specs.declared.Chip.{Chip}
 use Rattle.chip.specs.Model.{Model, ours}
-use Rattle.chip.specs.Memory.{Mem}
 use Rattle.driver.specs.declared.Request.{Request}
 use Rattle.bench.specs.declared.Report.{Report}
-use Rattle.bench_promises.specs.Ends.{Writable}
-use Rattle.bench_promises.specs.Tape.{CycleEach}
-use Rattle.bench_promises.specs.Calls.{Bench, ourBench, Called, EndedAll, DrivenAll, EndsAtAll, CycleEachAll}
+use Rattle.bench_promises.specs.Calls.{Bench, ourBench, EndedAll, DrivenAll, EndsAtAll, CycleEachAll}
 
 -- ---- `drives`: ours on a chip at the request's enable; at any other it sends nothing and reports all bytes done
 
@@ -91,15 +86,10 @@ closing f en =
       begun = λ c e. cond (eqb e 3) (1 - ours f en .begun c e) 0;
     }
 
--- of a chip, on our tape
-abbrev pub CyclesOnTape : (Facts → ℕ → Model) → Type 0
-CyclesOnTape M = (r : Request) (d : ℕ) (c : Chip) (m : Mem) (ys : List ℕ) → Called r d c m ys → r .reads ≡ false → Writable (r .place) (c .line .core)
-    → CycleEach (M (factsOf (r .part)) (r .enable)) c (ourBench .events r (r .enable) d c m ys)
-
 pub record StraysBreak : Type 0 where
   pub aloof : DrivenAll aloof → ⊥
   pub late-within : EndedAll lateWithin → ⊥
   pub later : EndsAtAll later → ⊥
   pub one-end-more : EndsAtAll oneEndMore → ⊥
-  pub stop-first : CycleEachAll stopFirst → ⊥
-  pub closing : CyclesOnTape closing → ⊥
+  pub stop-first : CycleEachAll stopFirst ours → ⊥
+  pub closing : CycleEachAll ourBench closing → ⊥

@@ -77,5 +77,5 @@ pub record WholeArrayWritten (p : Report) : Type 0 where
 
 abbrev pub WholeArray : Type 0
 WholeArray =
-    (B : Bench) → BenchPromises B → (budget : ℕ) (c : Chip) (m : Mem) (ys : List ℕ) → Called (wholeArray budget) 1 c m ys → Writable (wholeArray budget .place) (c .line .core)
-    → WholeArrayWritten (B .report (wholeArray budget) 0 1 c m ys)
+    (B : Bench) → BenchPromises B → (budget : ℕ) (c : Chip) (m : Mem) (ys : List ℕ) → Called (wholeArray budget) 1 c m ys
+    → Writable (wholeArray budget .place) (c .line .core) → WholeArrayWritten (B .report (wholeArray budget) 0 1 c m ys)
