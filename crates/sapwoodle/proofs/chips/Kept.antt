@@ -1,25 +1,27 @@
 -- `stepping`, `running` and `delivering` keep what is promised of them.
 -- Assumes nothing.
-use Prim.Native.Nat.{ℕ}
+use Prim.Native.Nat.{ℕ, suc}
 use mathlib.Core.Path.{_≡_, refl, ap}
-use mathlib.Core.Bool.{true, false}
-use mathlib.Core.List.{List}
+use mathlib.Core.Bool.{Bool, true, false}
+use mathlib.Core.List.{List, [], _∷_}
 use lib.ListN.{length}
-use lib.Dec.{eqb}
+use lib.Dec.{eqb, ltb}
 use native.Mathlib.Omega.{arith}
 use borrow.Author.Tests.{eq-eqb, eqb-true}
 use Rattle.parts.specs.declared.Refusal.{Refusal}
-use Rattle.parts.specs.declared.Refusal.the-variants.{NoPart, WrongEnable, WrongBuffer, BadState, BadEvent, ShortBuffer, Beyond, BadLimit, NoSelect, NoData, PollsUsed, BadImage, TooMany}
+use Rattle.parts.specs.declared.Refusal.the-variants.{NoPart, WrongEnable, WrongBuffer, BadState, BadEvent, ShortBuffer, TooMany}
 use Rattle.parts.specs.declared.Verdict.{Verdict}
 use Rattle.parts.specs.declared.Verdict.the-variants.{Fine, Refused}
 use Rattle.parts.specs.Table.{factsOf, idSizeOf, enableRightOf}
-use Rattle.parts.specs.Refusals.{numberOf, spotOf, placeTold, verdictNumberOf, verdictPlaceOf}
+use Rattle.parts.specs.declared.Spot.the-variants.{Nowhere}
+use Rattle.parts.specs.Events.{eventRightOf}
+use Rattle.parts.specs.Refusals.{numberOf, rankOf, spotOf, placeTold, verdictNumberOf, verdictPlaceOf, claimOf, soonerOf, lentVerdictOf}
 use Rattle.parts.proofs.Laws.{branch, fine, buffers-right}
 use Rattle.state.specs.declared.Chip.{Chip}
 use Rattle.chip.specs.Model.{ours}
 use Rattle.chip.specs.Memory.{Mem}
 use Rattle.chip.specs.Delivery.{standbyOf}
-use Rattle.chip.specs.Calls.{heldVerdictOf, stepVerdictOf, stepVerdict, stepBy, stepMem, runVerdictOf, runVerdict, runBy, runMem, runAnswers}
+use Rattle.chip.specs.Calls.{heldVerdictOf, scanOf, stepVerdictOf, stepVerdict, stepBy, stepMem, runVerdictOf, runVerdict, runBy, runMem, runAnswers}
 use Rattle.chip.proofs.Laws.{held-out, step-behind, run-behind}
 use Rattle.pack_chip.specs.Layout.{chipLength, packedChipOf, packChipInto, holdsChipOf, unpackedChipOf}
 use Rattle.pack_chip.specs.Promises.{ChipFits}
@@ -42,31 +44,44 @@ step-keeps-by part enable c s m e (Refused r) h = (refl, refl, refl, refl)
 pub step-keeps : StepKeeps stepping
 step-keeps part enable s m e h = step-keeps-by part enable (unpackedChipOf s) s m e (stepVerdict part enable (unpackedChipOf s) m e) h
 
--- only 5 has a place
-placeless : (r : Refusal) → (numberOf r ≡ numberOf (BadEvent 0) → ⊥) → placeTold (spotOf r) ≡ 0
-placeless NoPart h = refl
-placeless WrongEnable h = refl
-placeless WrongBuffer h = refl
-placeless BadState h = refl
-placeless (BadEvent k) h = absurd (h refl)
-placeless ShortBuffer h = refl
-placeless Beyond h = refl
-placeless BadLimit h = refl
-placeless NoSelect h = refl
-placeless NoData h = refl
-placeless PollsUsed h = refl
-placeless BadImage h = refl
-placeless TooMany h = refl
+-- of what a run can refuse, only 5 has a place
+abbrev Placeless : Verdict → Type 0
+Placeless v = (verdictNumberOf v ≡ numberOf (BadEvent 0) → ⊥) → verdictPlaceOf v ≡ 0
 
-run-keeps-by : (part enable : ℕ) (c : Chip) (s : List ℕ) (m : Mem) (es a : List ℕ) (v : Verdict) → (verdictNumberOf (runBy (ours (factsOf part) enable) c es v .verdict) ≡ 0 → ⊥)
+sooner-placeless : (a b : Verdict) → Placeless a → Placeless b → Placeless (soonerOf a b)
+unfolding soonerOf
+sooner-placeless Fine b p q = q
+sooner-placeless (Refused r) Fine p q = p
+sooner-placeless (Refused r) (Refused s) p q = branch Placeless (ltb (rankOf s) (rankOf r)) (λ _. q) (λ _. p)
+
+claim-placeless : (wrong : Bool) (r : Refusal) → spotOf r ≡ Nowhere → Placeless (claimOf wrong r)
+claim-placeless true r h k = ap placeTold h
+claim-placeless false r h k = refl
+
+scan-placeless : (pin : Bool) (k : ℕ) (es : List ℕ) → Placeless (scanOf pin k es)
+scan-placeless pin k [] = λ h. refl
+scan-placeless pin k (e ∷ es) =
+    branch Placeless (eventRightOf pin e) (λ _. scan-placeless pin (suc k) es) (λ _ h. absurd (h refl))
+
+run-placeless : (part enable : ℕ) (c : Chip) (n d : ℕ) (es : List ℕ) (room : ℕ) → Placeless (runVerdictOf part enable c n d es room)
+unfolding runVerdictOf heldVerdictOf lentVerdictOf
+run-placeless part enable c n d es room =
+    sooner-placeless _ _
+    (sooner-placeless _ _
+    (sooner-placeless _ _ (claim-placeless _ NoPart refl) (claim-placeless _ WrongBuffer refl))
+    (sooner-placeless _ _ (claim-placeless _ WrongEnable refl) (claim-placeless _ BadState refl)))
+    (sooner-placeless _ _ (claim-placeless _ TooMany refl)
+    (sooner-placeless _ _ (scan-placeless _ 0 es) (claim-placeless _ ShortBuffer refl)))
+
+run-keeps-by : (part enable : ℕ) (c : Chip) (s : List ℕ) (m : Mem) (es a : List ℕ) (v : Verdict) → Placeless v → (verdictNumberOf (runBy (ours (factsOf part) enable) c es v .verdict) ≡ 0 → ⊥)
     → (chipBytesAfter (runBy (ours (factsOf part) enable) c es v .verdict) (runBy (ours (factsOf part) enable) c es v .chip) s ≡ s) × (runMem (ours (factsOf part) enable) c m es v ≡ m) × (runAnswers (ours (factsOf part) enable) c m es a v ≡ a)
     × (runBy (ours (factsOf part) enable) c es v .cycles ≡ 0)
     × ((verdictNumberOf (runBy (ours (factsOf part) enable) c es v .verdict) ≡ numberOf (BadEvent 0) → ⊥) → verdictPlaceOf (runBy (ours (factsOf part) enable) c es v .verdict) ≡ 0)
-run-keeps-by part enable c s m es a Fine h = absurd (h refl)
-run-keeps-by part enable c s m es a (Refused r) h = (refl, refl, refl, refl, placeless r)
+run-keeps-by part enable c s m es a Fine p h = absurd (h refl)
+run-keeps-by part enable c s m es a (Refused r) p h = (refl, refl, refl, refl, p)
 
 pub run-keeps : RunKeeps running
-run-keeps part enable s m es a h = run-keeps-by part enable (unpackedChipOf s) s m es a (runVerdict part enable (unpackedChipOf s) m es a) h
+run-keeps part enable s m es a h = run-keeps-by part enable (unpackedChipOf s) s m es a (runVerdict part enable (unpackedChipOf s) m es a) (run-placeless part enable (unpackedChipOf s) (length (m .cells)) (length (m .ident)) es (length a)) h
 
 pub deliver-keeps : DeliverKeeps delivering
 deliver-keeps part s m h = delivers-nothing part _ s m (deliverVerdictIn part s m) (λ e. h (rw e refl))
