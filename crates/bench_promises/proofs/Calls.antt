@@ -41,7 +41,7 @@ use Rattle.bench_promises.specs.Ground.{targetOf}
 use Rattle.bench_promises.specs.Together.{Begins, answerOf, reportedOf, otherOf, Safe, ReadRight}
 use Rattle.bench_promises.specs.Ends.{Writable, Shut, Complete}
 use Rattle.bench_promises.specs.Calls.{ourBench, Called, Written, ReadThere, Ended, UsedUp, Protected, Untouched, readOf, BenchPromises}
-use Rattle.bench_promises.specs.Tape.{CycleEach}
+use Rattle.bench_promises.specs.Tape.{pollsOfPages, CycleEach}
 use Rattle.driver_promises.proofs.Numbers.{less-or-more}
 use Rattle.bench_promises.proofs.Stored.{room-is, all-done, write-safe, read-right, read-ends, finished}
 use Rattle.bench_promises.proofs.Rel.{Buffer}
@@ -49,6 +49,7 @@ use Rattle.bench_promises.proofs.Whole.{G, sane, start-holds, holds}
 use Rattle.bench_promises.proofs.Turns.{choices, choices-asked, choices-same, turns-end, last-answer, spare-turn}
 use Rattle.bench_promises.proofs.Late.{turns-refused}
 use Rattle.bench_promises.proofs.Exact.{polls-exact}
+use Rattle.bench_promises.proofs.Pages.{pages-exact}
 use Rattle.bench_promises.proofs.Each.{Each, each-cycle, tape-each}
 use Rattle.bench_promises.proofs.Live.{not-refusing}
 use Rattle.bench_promises.proofs.Shut.{shut-refused}
@@ -280,6 +281,9 @@ module _ (n : ℕ) (turns : n ≡ enough) (r : Request) (d : ℕ) (c : Chip) (m 
         bytes = ap (λ (y : Report). y .bytes) p;
         cycles = ap (λ (y : Report). y .cycles) p ∙ z .cycles;
         polls = q;
+        each = ap (λ (v : Verdict). pollsOfPages false 0 (benchBy ourDriver (ours (factsOf (r .part)) (r .enable)) r d c m ys v .events)) (k .fine)
+            ∙ (ap (λ (i : ℕ). pollsOfPages false 0 (tapeEventsOf ourDriver (ours (factsOf (r .part)) (r .enable)) d i (startOf r ws c m))) (sym turns)
+            ∙ pages-exact r ws c m d n w (begins r d c m ys k) u (low-d r d c m ys k) (omega (arith, budget-is w)) (z .polls) (r .length) (z .done));
         clocks = sym (replayed r (r .enable) d c m ys .clocks)
             ∙ (done-clocks r ys _ _ _ _ (begins r d c m ys k .accepted) v (ap (λ (y : Report). y .verdict) p) w ∙ ap (λ (i : ℕ). 9 * (kOf r * (1 + addressBytes r) + r .length + i)) q);
       }

@@ -2,7 +2,7 @@
 -- Assumes nothing.
 use Prim.Native.Nat.{ℕ, zero, suc, _+_, _*_, _≤_, _<_}
 use mathlib.Core.Path.{_≡_, refl, sym, _∙_, ap, subst}
-use mathlib.Core.Bool.{Bool, true, false, false≢true}
+use mathlib.Core.Bool.{Bool, true, false, cond, false≢true}
 use mathlib.Core.Logic.{_⊎_, inl, inr, ⊎-elim}
 use mathlib.Core.List.{List}
 use native.Mathlib.Omega.{arith}
@@ -44,7 +44,7 @@ use Rattle.bench_promises.proofs.Steps.{again-next}
 use Rattle.bench_promises.proofs.Whole.{Holds, Stepped, stepped, asked-elim, ended-holds, G, sane, start-holds, holds}
 use Rattle.bench_promises.proofs.Stored.{spoken, all-done}
 use Rattle.bench_promises.proofs.Live.{not-refusing}
-use Rattle.bench_promises.proofs.Turns.{choices, choices-same, turn-due, turn-plain, turn-holds, end-rests, not-due}
+use Rattle.bench_promises.proofs.Turns.{choices, choices-same, turn-holds, end-rests, not-due}
 
 is-due : (d : ℕ) (y : System) → endDueOf d y ≡ true → pollNumberOf y ≡ d
 unfolding endDueOf
@@ -54,22 +54,22 @@ module _ (g : Given) (s : Sane g) (free : refusing (T g) (g .pin) (g .locked) �
   abbrev r : Request
   r = g .request
 
-  abbrev running : Line → Type 0
+  abbrev pub running : Line → Type 0
   running l = l .phase ≡ Busy (Writing (T g))
 
   -- in poll number t of a page: the cycle runs, or it is number d and it is heard
-  abbrev InPoll : ℕ → Line → Type 0
+  abbrev pub InPoll : ℕ → Line → Type 0
   InPoll t l = ((t < d) × running l) ⊎ ((t ≡ d) × (l .phase ≡ Receive SelectByte))
 
   -- it is missed, or it is number d and it is acknowledged
-  abbrev PollHeard : ℕ → Line → ℕ → Type 0
+  abbrev pub PollHeard : ℕ → Line → ℕ → Type 0
   PollHeard t l v = ((t < d) × running l × (0 < v)) ⊎ ((t ≡ d) × (v ≡ 0))
 
   -- before the Start of a poll, t polls sent: the cycle runs on, or number d is next and it has ended
-  abbrev Ripe : ℕ → Line → Type 0
+  abbrev pub Ripe : ℕ → Line → Type 0
   Ripe t l = ((t + 1 < d) × running l) ⊎ ((t + 1 ≡ d) × NotBusy (l .phase))
 
-  abbrev exactBits : Slot → ℕ → Line → Type 0
+  abbrev pub exactBits : Slot → ℕ → Line → Type 0
   exactBits Select t l = Unit {0}
   exactBits High t l = Unit {0}
   exactBits Low t l = Unit {0}
@@ -79,7 +79,7 @@ module _ (g : Given) (s : Sane g) (free : refusing (T g) (g .pin) (g .locked) �
   exactBits Take t l = Unit {0}
 
   -- H: of a poll that was sent
-  abbrev onHeard : Type 0 → Slot → Type 0
+  abbrev pub onHeard : Type 0 → Slot → Type 0
   onHeard H Select = Unit {0}
   onHeard H High = Unit {0}
   onHeard H Low = Unit {0}
@@ -89,7 +89,7 @@ module _ (g : Given) (s : Sane g) (free : refusing (T g) (g .pin) (g .locked) �
   onHeard H Take = Unit {0}
 
   -- after a turn
-  abbrev Exact : Phase → ℕ → Line → ℕ → Type 0
+  abbrev pub Exact : Phase → ℕ → Line → ℕ → Type 0
   Exact Ready t l v = Unit {0}
   Exact (Bits sl b) t l v = exactBits sl t l
   Exact (Heard sl) t l v = onHeard (PollHeard t l v) sl
@@ -97,7 +97,7 @@ module _ (g : Given) (s : Sane g) (free : refusing (T g) (g .pin) (g .locked) �
   Exact (Over f) t l v = ⊥
 
   -- and when the cycle has ended, where it is due
-  abbrev Due : Phase → ℕ → Line → ℕ → Type 0
+  abbrev pub Due : Phase → ℕ → Line → ℕ → Type 0
   Due Ready t l v = Unit {0}
   Due (Bits sl b) t l v = exactBits sl t l
   Due (Heard sl) t l v = onHeard (((v ≡ 0) × (t ≡ d)) ⊎ ((0 < v) × Ripe t l)) sl
@@ -290,22 +290,29 @@ module _ (g : Given) (s : Sane g) (free : refusing (T g) (g .pin) (g .locked) �
           by (Done q n) f x = record { exact = x; spent = k }
           by (Refused z q n) f x = record { exact = x; spent = k }
 
-  turn-exact : (y : System) → Holds g y → ExactNow y → ExactNow (turnOf ourDriver (ours (F g) (r .enable)) d y)
-  unfolding cycleEndedOf
-  turn-exact y h t = go (endDueOf d y) refl
+  -- the system when the driver is asked: after the end, where it is due
+  abbrev pub askedAt : System → System
+  askedAt y = cond (endDueOf d y) (cycleEndedOf (ours (F g) (r .enable)) y) y
+
+  pub due-now : (y : System) → Holds g y → ExactNow y → Due (y .driver .phase) (y .driver .counts .tries) (askedAt y .chip .line) (y .level)
+  due-now y h t = go (endDueOf d y) refl
     where
       is-next : (P : ℕ → Type 0) → P (pollNumberOf y) → P (pollNext (y .driver .phase) (y .driver .counts .tries) (allowedOf r) (y .level))
       is-next P p = subst (λ (q : Request). P (pollNext (y .driver .phase) (y .driver .counts .tries) (allowedOf q) (y .level))) (h .request) p
 
-      go : (b : Bool) → endDueOf d y ≡ b → ExactNow (turnOf ourDriver (ours (F g) (r .enable)) d y)
+      go : (b : Bool) → endDueOf d y ≡ b → Due (y .driver .phase) (y .driver .counts .tries) (cond b (cycleEndedOf (ours (F g) (r .enable)) y) y .chip .line) (y .level)
       go true e =
-          let z = cycleEndedOf (ours (F g) (r .enable)) y in
-          subst ExactNow (sym (turn-due (F g) (r .enable) d y e))
-          (asked-exact z (ended-holds g s y h)
-          (due-end (y .driver .phase) (y .driver .counts) (y .chip .line) (z .chip .line) (y .level) (h .inv) (t .exact) (is-next (λ (n : ℕ). n ≡ d) (is-due d y e)) (end-rests g s d pos y)) (t .spent))
-      go false e =
-          subst ExactNow (sym (turn-plain (F g) (r .enable) d y e))
-          (asked-exact y h (due-plain (y .driver .phase) (y .driver .counts) (y .chip .line) (y .level) (h .inv) (t .exact) (is-next (λ (n : ℕ). n ≡ d → ⊥) (not-due g s d pos y e))) (t .spent))
+          due-end (y .driver .phase) (y .driver .counts) (y .chip .line) (cycleEndedOf (ours (F g) (r .enable)) y .chip .line) (y .level) (h .inv) (t .exact) (is-next (λ (n : ℕ). n ≡ d) (is-due d y e)) (end-rests g s d pos y)
+      go false e = due-plain (y .driver .phase) (y .driver .counts) (y .chip .line) (y .level) (h .inv) (t .exact) (is-next (λ (n : ℕ). n ≡ d → ⊥) (not-due g s d pos y e))
+
+  pub turn-exact : (y : System) → Holds g y → ExactNow y → ExactNow (turnOf ourDriver (ours (F g) (r .enable)) d y)
+  unfolding turnOf cycleEndedOf
+  turn-exact y h t = go (endDueOf d y) (due-now y h t)
+    where
+      go : (b : Bool) → Due (y .driver .phase) (y .driver .counts .tries) (cond b (cycleEndedOf (ours (F g) (r .enable)) y) y .chip .line) (y .level)
+          → ExactNow (askedOf ourDriver (ours (F g) (r .enable)) (cond b (cycleEndedOf (ours (F g) (r .enable)) y) y))
+      go true u = asked-exact (cycleEndedOf (ours (F g) (r .enable)) y) (ended-holds g s y h) u (t .spent)
+      go false u = asked-exact y h u (t .spent)
 
   pub exact-all : (n : ℕ) (y : System) → Holds g y → ExactNow y → ExactNow (turnsOf ourDriver (ours (F g) (r .enable)) d n y)
   unfolding turnsOf
@@ -323,11 +330,17 @@ module _ (r : Request) (xs : List ℕ) (c : Chip) (m : Mem) (d n : ℕ) (w : r .
   abbrev now : System → Type 0
   now y = ExactNow (G r xs c m b) (sane r xs c m b) (not-refusing (r .place) c u) w d lo hi y
 
+  pub start-exact : now (startOf r xs c m)
+  start-exact = record { exact = tt; spent = omega (arith, ap (λ (k : ℕ). k * d) (left-all r)) }
+
   exact-now : now Y
   exact-now =
       subst now (choices-same (factsOf (r .part)) (r .enable) d n (startOf r xs c m))
-      (exact-all (G r xs c m b) (sane r xs c m b) (not-refusing (r .place) c u) w d lo hi n (startOf r xs c m) (start-holds r xs c m b)
-      (record { exact = tt; spent = omega (arith, ap (λ (k : ℕ). k * d) (left-all r)) }))
+      (exact-all (G r xs c m b) (sane r xs c m b) (not-refusing (r .place) c u) w d lo hi n (startOf r xs c m) (start-holds r xs c m b) start-exact)
+
+  -- done, no page is left
+  pub none-left : (q k : ℕ) → answerOf Y ≡ Done q k → leftOf r (Y .driver .counts .seen) ≡ 0
+  none-left q k e = ap (leftOf r) (sym (spoken r xs c m b bs (Done q k) e .2) ∙ all-done r xs c m b bs q k e) ∙ left-none r
 
   pub polls-exact : (q k : ℕ) → answerOf Y ≡ Done q k → q ≡ kOf r * d
   polls-exact q k e =
@@ -336,4 +349,4 @@ module _ (r : Request) (xs : List ℕ) (c : Chip) (m : Mem) (d n : ℕ) (w : r .
       let o = i .here .none in
       let x = z .3 in
       let y = exact-now .spent in
-      omega (arith, ap (λ (j : ℕ). leftOf r j * d) (sym (z .2) ∙ all-done r xs c m b bs q k e), ap (λ (j : ℕ). j * d) (left-none r))
+      omega (arith, ap (λ (j : ℕ). j * d) (none-left q k e))

@@ -14,6 +14,7 @@ pub mod Turns
 pub mod Late
 pub mod Exact
 pub mod Each
+pub mod Pages
 pub mod Range
 pub mod Shut
 pub mod Replay

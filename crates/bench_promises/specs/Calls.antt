@@ -6,7 +6,7 @@ use mathlib.Core.Path.{_≡_}
 use mathlib.Core.Bool.{true, false}
 use mathlib.Core.Logic.{_⊎_}
 use mathlib.Core.List.{List, [], _++_}
-use lib.ListN.{length, getD, take, drop}
+use lib.ListN.{length, getD, take, drop, replicate}
 use Rattle.parts.specs.declared.Facts.{Facts}
 use Rattle.parts.specs.declared.Refusal.{Refusal}
 use Rattle.parts.specs.declared.Refusal.the-variants.{NoData, PollsUsed}
@@ -28,7 +28,7 @@ use Rattle.bench.specs.Calls.{benchVerdict, benchOf}
 use Rattle.bench_promises.specs.Ground.{targetOf}
 use Rattle.bench_promises.specs.Together.{otherOf}
 use Rattle.bench_promises.specs.Ends.{Writable, Shut}
-use Rattle.bench_promises.specs.Tape.{Driven, EndsAt, CycleEach}
+use Rattle.bench_promises.specs.Tape.{pollsOfPages, Driven, EndsAt, CycleEach}
 
 -- a run of driver and model: what it answers, the two memories and the lent buffer after it. The first number is the chip's enable,
 -- the second is d
@@ -100,6 +100,7 @@ module _ (B : Bench) (r : Request) (en d : ℕ) (c : Chip) (m : Mem) (ys : List 
     pub cycles : report .cycles ≡ kOf r
     -- d polls for each page, and nine clocks for each byte on the bus: a select code and the address for each page, the data, the polls
     pub polls : report .polls ≡ kOf r * d
+    pub each : pollsOfPages false 0 (B .events r en d c m ys) ≡ replicate (kOf r) d
     pub clocks : report .clocks ≡ 9 * (kOf r * (1 + addressBytes r) + r .length + kOf r * d)
 
   -- "A chip that stays busy for longer than our driver polls": refusal 11

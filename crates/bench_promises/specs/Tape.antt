@@ -61,6 +61,11 @@ isPoll odd e = odd && eqb e 2
 abbrev pub triesAfter : Bool → ℕ → ℕ → ℕ
 triesAfter odd tries e = cond (eqb e 3) 0 (cond (isPoll odd e) (tries + 1) tries)
 
+-- the polls of each page, in turn: those up to the Stop that ends them
+abbrev pub pollsOfPages : Bool → ℕ → List ℕ → List ℕ
+pollsOfPages odd tries [] = []
+pollsOfPages odd tries (e ∷ es) = cond (odd && eqb e 3) (tries ∷ []) [] ++ pollsOfPages (oddAfter odd e) (triesAfter odd tries e) es
+
 -- "each cycle ends just before its poll number d": an end put before the Start of poll number d of each page
 abbrev pub endsPut : ℕ → Bool → ℕ → List ℕ → List ℕ
 endsPut d odd tries [] = []
