@@ -2,7 +2,7 @@
 -- Assumes nothing.
 use Prim.Native.Nat.{ℕ, suc}
 use mathlib.Core.Path.{_≡_, refl, ap}
-use mathlib.Core.Bool.{Bool, true, false}
+use mathlib.Core.Bool.{Bool, true, false, not}
 use mathlib.Core.List.{List, [], _∷_}
 use lib.ListN.{length}
 use lib.Dec.{eqb, ltb}
@@ -12,12 +12,13 @@ use Rattle.parts.specs.declared.Refusal.{Refusal}
 use Rattle.parts.specs.declared.Refusal.the-variants.{NoPart, WrongEnable, WrongBuffer, BadState, BadEvent, ShortBuffer, TooMany}
 use Rattle.parts.specs.declared.Verdict.{Verdict}
 use Rattle.parts.specs.declared.Verdict.the-variants.{Fine, Refused}
-use Rattle.parts.specs.Table.{factsOf, idSizeOf, enableRightOf}
+use Rattle.parts.specs.Table.{factsOf, idSizeOf, enableRightOf, buffersRightOf}
 use Rattle.parts.specs.declared.Spot.the-variants.{Nowhere}
 use Rattle.parts.specs.Events.{eventRightOf}
 use Rattle.parts.specs.Refusals.{numberOf, rankOf, spotOf, placeTold, verdictNumberOf, verdictPlaceOf, claimOf, soonerOf, lentVerdictOf}
 use Rattle.parts.proofs.Laws.{branch, fine, buffers-right}
 use Rattle.state.specs.declared.Chip.{Chip}
+use Rattle.state.specs.Range.{inRangeOf}
 use Rattle.chip.specs.Model.{ours}
 use Rattle.chip.specs.Memory.{Mem}
 use Rattle.chip.specs.Delivery.{standbyOf}
@@ -68,10 +69,10 @@ unfolding runVerdictOf heldVerdictOf lentVerdictOf
 run-placeless part enable c n d es room =
     sooner-placeless _ _
     (sooner-placeless _ _
-    (sooner-placeless _ _ (claim-placeless _ NoPart refl) (claim-placeless _ WrongBuffer refl))
-    (sooner-placeless _ _ (claim-placeless _ WrongEnable refl) (claim-placeless _ BadState refl)))
-    (sooner-placeless _ _ (claim-placeless _ TooMany refl)
-    (sooner-placeless _ _ (scan-placeless _ 0 es) (claim-placeless _ ShortBuffer refl)))
+    (sooner-placeless _ _ (claim-placeless (not (factsOf part .known)) NoPart refl) (claim-placeless (not (buffersRightOf (factsOf part) n d)) WrongBuffer refl))
+    (sooner-placeless _ _ (claim-placeless (not (enableRightOf (factsOf part) enable)) WrongEnable refl) (claim-placeless (not (inRangeOf (factsOf part) c)) BadState refl)))
+    (sooner-placeless _ _ (claim-placeless (ltb 32768 (length es)) TooMany refl)
+    (sooner-placeless _ _ (scan-placeless (factsOf part .pin) 0 es) (claim-placeless (ltb room (length es)) ShortBuffer refl)))
 
 run-keeps-by : (part enable : ℕ) (c : Chip) (s : List ℕ) (m : Mem) (es a : List ℕ) (v : Verdict) → Placeless v → (verdictNumberOf (runBy (ours (factsOf part) enable) c es v .verdict) ≡ 0 → ⊥)
     → (chipBytesAfter (runBy (ours (factsOf part) enable) c es v .verdict) (runBy (ours (factsOf part) enable) c es v .chip) s ≡ s) × (runMem (ours (factsOf part) enable) c m es v ≡ m) × (runAnswers (ours (factsOf part) enable) c m es a v ≡ a)
