@@ -2,6 +2,7 @@
 // A line is a letter for the call (`call`), sixteen numbers and, after a colon, what is tried.
 use cases::more;
 use libc::STDIN_FILENO;
+use parts::Refusal;
 use parts::Verdict;
 use state::Chip;
 use text::narrow;
@@ -237,6 +238,11 @@ fn try_deliver(v: [usize; 16]) -> Tried {
 
 // ---- what is printed
 
+// Refused for an event: the one refusal with a place.
+fn is_event(t: Tried) -> bool {
+    t.number == parts::number(Refusal::BadEvent(0))
+}
+
 // Whether anything changed is told only where the call is refused.
 fn tell_tried(t: Tried) {
     if t.number == 0 {
@@ -245,7 +251,7 @@ fn tell_tried(t: Tried) {
     }
     say(b"refused ");
     say_number(text::wide(t.number));
-    if t.number == 5 {
+    if is_event(t) {
         say(b" at ");
         say_number(t.place);
     }
@@ -262,7 +268,7 @@ fn tell_code(t: Tried, code: u8, refused: usize) -> usize {
         say_number(text::wide(code));
         say(b" ");
     }
-    if t.number == 5 {
+    if is_event(t) {
         if t.place == 0 {
             if t.kept {
                 return more(refused);
