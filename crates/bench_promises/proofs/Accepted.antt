@@ -56,13 +56,13 @@ use Rattle.bench.specs.Together.{System, startOf, clockOf, ends, answeredBy, as
 use Rattle.bench.specs.Held.{Fit}
 use Rattle.bench.specs.Tape.{sendsOf}
 use Rattle.bench.proofs.Laws.{Small, small, quiet, fine-step, fit-on}
-use Rattle.bench_promises.specs.Together.{answerOf, Safe, ReadRight}
+use Rattle.bench_promises.specs.Together.{ourRun, Begins, Session, answerOf, first, InRange, Safe, ReadRight}
 use Rattle.bench_promises.specs.Ends.{Complete}
 use Rattle.bench_promises.specs.Trials.{fiveBytes, fiveAt30}
-use Rattle.bench_promises.specs.Accepted.{BeginsInRange, BeginAccepted, Accepts, StepsAccepted, finishedBy, steppedBy, nextCalledOf, endCalledOf, callsOf, byCalls, ourRun, CallsAreRun, TrueOfCalls, CallsWriteSafe, CallsReadRight, CallsWriteEnd, refusingEnds, nineLeft, RefusedMidwayBreaks}
+use Rattle.bench_promises.specs.Accepted.{BeginAccepted, Accepts, StepsAccepted, finishedBy, steppedBy, nextCalledOf, endCalledOf, callsOf, byCalls, CallsAreRun, TrueOfCalls, CallsWriteSafe, CallsReadRight, CallsWriteEnd, refusingEnds, nineLeft, RefusedMidwayBreaks}
 use Rattle.bench_promises.proofs.Whole.{Holds, G, sane, holds}
-use Rattle.bench_promises.proofs.Stored.{spoken, writes-safe, reads-right}
-use Rattle.bench_promises.proofs.Live.{writes-end}
+use Rattle.bench_promises.proofs.Stored.{spoken}
+use Rattle.bench_promises.proofs.Sessions.{writes-safe, reads-right, writes-end}
 
 -- ---- a driver that sends nothing stays as it is
 
@@ -218,18 +218,18 @@ module _ (part en : ℕ) where
 
 -- ---- from the start
 
-module _ (r : Request) (xs : List ℕ) (c : Chip) (m : Mem) (b : BeginsInRange r xs c m) where
+module _ (r : Request) (xs : List ℕ) (c : Chip) (m : Mem) (b : Begins r xs c m) (v : InRange r c) where
   start-fits : Fits (r .part) (r .enable) (startOf r xs c m)
   unfolding enableRightOf buffersRightOf
   start-fits =
-      let g = sane r xs c m (b .begins) .good in
-      let o = b .begins .idle in
+      let g = sane r xs c m b .good in
+      let o = b .idle in
       record {
         known = g .known;
         enabled = lt-ltb _ _ (g .enable);
         lent = rw (eq-eqb _ _ (o .cells), eq-eqb _ _ (o .ident)) refl;
-        ranged = b .ranged;
-        typed = b .typed;
+        ranged = v .ranged;
+        typed = v .typed;
       }
 
   module _ (bs : List Bool) where
@@ -239,8 +239,8 @@ module _ (r : Request) (xs : List ℕ) (c : Chip) (m : Mem) (b : BeginsInRange r
     fits : Fits (r .part) (r .enable) Y
     fits = all-fit (r .part) (r .enable) bs (startOf r xs c m) start-fits
 
-    H : Holds (G r xs c m (b .begins)) Y
-    H = holds r xs c m (b .begins) bs
+    H : Holds (G r xs c m b) Y
+    H = holds r xs c m b bs
 
     driver-is : at r (Y .driver .phase) (Y .driver .counts) ≡ Y .driver
     driver-is = ap (λ (q : Request). at q (Y .driver .phase) (Y .driver .counts)) (sym (H .request))
@@ -248,7 +248,7 @@ module _ (r : Request) (xs : List ℕ) (c : Chip) (m : Mem) (b : BeginsInRange r
     driver-in : rangeOf (Y .driver) (length (Y .buffer)) ≡ true
     driver-in =
         subst (λ (d : Driver). rangeOf d (length (Y .buffer)) ≡ true) driver-is
-        (range-good (at r (Y .driver .phase) (Y .driver .counts)) (length (Y .buffer)) (ap isFine (b .begins .accepted .fine))
+        (range-good (at r (Y .driver .phase) (Y .driver .counts)) (length (Y .buffer)) (ap isFine (b .accepted .fine))
         (in-range r (Y .driver .phase) (Y .driver .counts) (length (Y .buffer)) (H .size) (H .inv)))
 
     -- a driver that has begun refuses with 9, 10 or 11
@@ -263,7 +263,7 @@ module _ (r : Request) (xs : List ℕ) (c : Chip) (m : Mem) (b : BeginsInRange r
           sent = λ e a. told (r .part) (r .enable) (Y .chip) (Y .mem) e (taken (r .part) (r .enable) Y e (few e a) fits);
           ended = told (r .part) (r .enable) (Y .chip) (Y .mem) ends (taken (r .part) (r .enable) Y ends (omega arith) fits);
           ranged = driver-in;
-          asked = λ q n e. (let z = spoken r xs c m (b .begins) bs (Refused BadState q n) e in not-four (z .0) (z .2));
+          asked = λ q n e. (let z = spoken r xs c m b bs (Refused BadState q n) e in not-four (z .0) (z .2));
         }
       where
         few : (e : ℕ) → answerOf Y ≡ Send e → e < 5
@@ -272,30 +272,30 @@ module _ (r : Request) (xs : List ℕ) (c : Chip) (m : Mem) (b : BeginsInRange r
 -- ---- the statements
 
 pub begin-accepted : BeginAccepted
-begin-accepted r xs c m b = ap (λ (v : Verdict). record { verdict = v; driver = startOf r xs c m .driver }) (b .accepted .fine)
+begin-accepted w = ap (λ (v : Verdict). record { verdict = v; driver = first w .driver }) (w .begins .accepted .fine)
 
 pub steps-accepted : StepsAccepted stepOf ourRun
-steps-accepted r xs c m bs b = accepts r xs c m b bs
+steps-accepted w v = accepts (w .request) (w .buffer) (w .chip) (w .mem) (w .begins) v (w .choices)
 
 pub calls-are-run : CallsAreRun ourDriver stepOf
-calls-are-run r xs c m bs b = all-same (r .part) (r .enable) bs (startOf r xs c m) (start-fits r xs c m b)
+calls-are-run w v = all-same (w .request .part) (w .request .enable) (w .choices) (first w) (start-fits (w .request) (w .buffer) (w .chip) (w .mem) (w .begins) v)
 
 pub true-of-calls : TrueOfCalls ourDriver stepOf
-true-of-calls P r xs c m bs b h = subst P (sym (calls-are-run r xs c m bs b)) h
+true-of-calls P w v h = subst P (sym (calls-are-run w v)) h
 
 pub calls-accepted : StepsAccepted stepOf (byCalls ourDriver stepOf)
-calls-accepted r xs c m bs b = true-of-calls (Accepts stepOf r) r xs c m bs b (steps-accepted r xs c m bs b)
+calls-accepted w v = true-of-calls (Accepts stepOf (w .request)) w v (steps-accepted w v)
 
 -- ---- the demands on writes and reads
 
 pub calls-write-safe : CallsWriteSafe ourDriver stepOf
-calls-write-safe r xs c m bs w b = true-of-calls (Safe r xs c m) r xs c m bs b (writes-safe r xs c m bs w (b .begins))
+calls-write-safe w v h = true-of-calls (Safe (w .request) (w .buffer) (w .chip) (w .mem)) w v (writes-safe w h)
 
 pub calls-read-right : CallsReadRight ourDriver stepOf
-calls-read-right r xs c m bs w b = true-of-calls (ReadRight r xs c m) r xs c m bs b (reads-right r xs c m bs w (b .begins))
+calls-read-right w v h = true-of-calls (ReadRight (w .request) (w .buffer) (w .chip) (w .mem)) w v (reads-right w h)
 
 pub calls-write-end : CallsWriteEnd ourDriver stepOf
-calls-write-end r xs c m bs w b u t h = true-of-calls (Complete r) r xs c m bs b (writes-end r xs c m bs w (b .begins) u t h)
+calls-write-end w v t = true-of-calls (Complete (w .request)) w v (writes-end w t)
 
 -- ---- a chip that refuses the end of a cycle
 
@@ -310,15 +310,9 @@ same-bytes : (n : ℕ) → AllBelow 256 (replicate n 255)
 same-bytes zero = tt
 same-bytes (suc n) = (omega arith, same-bytes n)
 
-begins : BeginsInRange fiveAt30 fiveBytes chip₀ mem₀
+begins : Begins fiveAt30 fiveBytes chip₀ mem₀
 unfolding judgeOf soonerOf factsOf idSizeOf enableRightOf beyondAt limitOf standbyOf deliveredOf deliveredIdOf
-begins =
-    let s = standby-in-range 2 false (λ e. absurd (false≢true e)) in
-    record {
-      begins = record { accepted = record { fine = refl; size = refl }; bytes = below; idle = record { idle = refl; cells = refl; ident = refl; bytes = stored } };
-      typed = s .1;
-      ranged = s .0;
-    }
+begins = record { accepted = record { fine = refl; size = refl }; bytes = below; idle = record { idle = refl; cells = refl; ident = refl; bytes = stored } }
   where
     below : AllBelow 256 fiveBytes
     below = (omega arith, (omega arith, (omega arith, (omega arith, (omega arith, tt)))))
@@ -327,14 +321,20 @@ begins =
     stored TheArray = same-bytes 8192
     stored TheIdent = tt
 
+abbrev choosing : List Bool → Session
+choosing bs = record { request = fiveAt30; buffer = fiveBytes; chip = chip₀; mem = mem₀; begins = begins; choices = bs }
+
+in-range₀ : InRange fiveAt30 chip₀
+in-range₀ = let s = standby-in-range 2 false (λ e. absurd (false≢true e)) in record { typed = s .1; ranged = s .0 }
+
 -- Start, the 45 clocks of select, address and the two bytes of the first page, Stop: its cycle runs
 abbrev asks : List Bool
 asks = replicate 47 true
 
-abbrev after : List Bool → System
-after bs = ourRun (factsOf 2) 0 bs (startOf fiveAt30 fiveBytes chip₀ mem₀)
+abbrev our-after : List Bool → System
+our-after bs = ourRun (factsOf 2) 0 bs (startOf fiveAt30 fiveBytes chip₀ mem₀)
 
-computed : (after asks .chip .line .phase ≡ Busy (Writing TheArray)) × (after (asks ++ (false ∷ [])) .chip .line .phase ≡ Idle)
+computed : (our-after asks .chip .line .phase ≡ Busy (Writing TheArray)) × (our-after (asks ++ (false ∷ [])) .chip .line .phase ≡ Idle)
 unfolding factsOf eventOf soonerOf enableRightOf enabledOf namedOf decodeOf addressStartOf selectedOf loadArrayOf loadedOf refusesOf latchedOf filledOf lockedByOf takenOf receivedOf receiveActOf receiveLevelOf movedOf clockedOf clockActOf clockLevelOf startedOf startActOf asksOf placedOf stoppedOf endedByOf endedOf endActOf nextOf actOf levelOf seenOf stateOf chipLevelOf pinAtFirstOf standbyOf beyondAt limitOf judgeOf allowedOf kOf toPageEndOf pagesMetOf selectAt wireOf bitOf shiftOf readyOf bitsAt leadAt lowAt dataAt pollMoveOf heardMoveOf bitsMoveOf driverStepOf countsRight rangeOf driverNextOf byteKeptOf bufferOf askedOf cycleEndedOf togetherOf
 computed = (refl, refl)
 
@@ -345,11 +345,11 @@ end-refused [] s = refl
 end-refused (true ∷ bs) s = end-refused bs (nextCalledOf refusingEnds 2 0 ourDriver s)
 end-refused (false ∷ bs) s = end-refused bs (endCalledOf refusingEnds 2 0 s)
 
-still-busy : CallsAreRun ourDriver refusingEnds → after (asks ++ (false ∷ [])) .chip .line .phase ≡ after asks .chip .line .phase
+still-busy : CallsAreRun ourDriver refusingEnds → our-after (asks ++ (false ∷ [])) .chip .line .phase ≡ our-after asks .chip .line .phase
 still-busy p =
-    ap (λ (s : System). s .chip .line .phase) (sym (p fiveAt30 fiveBytes chip₀ mem₀ (asks ++ (false ∷ [])) begins))
+    ap (λ (s : System). s .chip .line .phase) (sym (p (choosing (asks ++ (false ∷ []))) in-range₀))
     ∙ (ap (λ (k : Chip). k .line .phase) (end-refused asks (startOf fiveAt30 fiveBytes chip₀ mem₀))
-    ∙ ap (λ (s : System). s .chip .line .phase) (p fiveAt30 fiveBytes chip₀ mem₀ asks begins))
+    ∙ ap (λ (s : System). s .chip .line .phase) (p (choosing asks) in-range₀))
 
 -- a step that is not refused has a chip in range
 says : (M : Model) (c : Chip) (m : Mem) (e : ℕ) (v : Verdict) → stepBy M c m e v .verdict ≡ v
@@ -374,8 +374,8 @@ pub refused-midway-breaks : RefusedMidwayBreaks
 unfolding togetherOf
 refused-midway-breaks =
     record {
-      ends-accepted = λ p. refused-not (p fiveAt30 fiveBytes chip₀ mem₀ [] begins .ended);
+      ends-accepted = λ p. refused-not (p (choosing []) in-range₀ .ended);
       ends-same = λ p. omega (arith, ap ignoresOf (sym (computed .1) ∙ (still-busy p ∙ computed .0)));
-      overfull = λ p. false≢true (sym nine-out ∙ ranged 2 0 (nineLeft chip₀) mem₀ ends (p fiveAt30 fiveBytes chip₀ mem₀ [] begins .ended));
-      overlong = λ p. false≢true (sym six-out ∙ p fiveAt30 fiveBytes chip₀ mem₀ [] begins .ranged);
+      overfull = λ p. false≢true (sym nine-out ∙ ranged 2 0 (nineLeft chip₀) mem₀ ends (p (choosing []) in-range₀ .ended));
+      overlong = λ p. false≢true (sym six-out ∙ p (choosing []) in-range₀ .ranged);
     }

@@ -37,7 +37,7 @@ use Rattle.driver_promises.proofs.Inv.{Inv, taken-elim, left-all}
 use Rattle.driver_promises.proofs.Grow.{bit-lt}
 use Rattle.bench.specs.Together.{System, startOf, answeredBy, askedOf, togetherOf, pollNext, endDueOf, turnsOf}
 use Rattle.bench_promises.specs.Together.{Begins, answerOf}
-use Rattle.bench_promises.specs.Ends.{Writable, pollNumberOf, TurnsRefused}
+use Rattle.bench_promises.specs.Ends.{Writable, pollNumberOf}
 use Rattle.bench_promises.proofs.Hears.{deaf-heard, start-busy}
 use Rattle.bench_promises.proofs.Rel.{refusing, Given, F, T, selectB, InHeard, Rel}
 use Rattle.bench_promises.proofs.Keep.{Sane, Same, After′, k-close, no-nack}
@@ -231,6 +231,10 @@ module _ (r : Request) (xs : List ℕ) (c : Chip) (m : Mem) (d n : ℕ) (w : r .
   abbrev Y : System
   Y = togetherOf ourDriver (ours (factsOf (r .part)) (r .enable)) bs (startOf r xs c m)
 
+  -- the same, of turns
+  abbrev Z : System
+  Z = turnsOf ourDriver (ours (factsOf (r .part)) (r .enable)) d n (startOf r xs c m)
+
   abbrev now : System → Type 0
   now y = LateNow (G r xs c m b) (sane r xs c m b) (not-refusing (r .place) c u) w y
 
@@ -258,7 +262,7 @@ module _ (r : Request) (xs : List ℕ) (c : Chip) (m : Mem) (d n : ℕ) (w : r .
             omega (arith, left-all r, ap (leftOf r) (late .first .seen)),
           )
 
-pub turns-refused : TurnsRefused (λ f en. togetherOf ourDriver (ours f en)) (λ f en. turnsOf ourDriver (ours f en))
-turns-refused r xs c m d n w b u some o h =
-    subst (λ (y : System). (answerOf y ≡ Refused PollsUsed (allowedOf r) 0) × (y .cycles ≡ 1)) (sym (choices-same (factsOf (r .part)) (r .enable) d n (startOf r xs c m)))
-    (used-up r xs c m d n w b u some o h)
+  pub turns-refused : (answerOf Z ≡ Refused PollsUsed (allowedOf r) 0) × (Z .cycles ≡ 1)
+  turns-refused =
+      subst (λ (y : System). (answerOf y ≡ Refused PollsUsed (allowedOf r) 0) × (y .cycles ≡ 1)) (sym (choices-same (factsOf (r .part)) (r .enable) d n (startOf r xs c m)))
+      used-up

@@ -17,6 +17,7 @@ pub mod Each
 pub mod Pages
 pub mod Range
 pub mod Shut
+pub mod Sessions
 pub mod Replay
 pub mod Tape
 pub mod Calls

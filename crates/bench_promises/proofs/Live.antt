@@ -1,6 +1,6 @@
 -- Demand 3, the last sentence: with each cycle ended in time a write ends done, with one cycle for each page.
 -- Assumes nothing.
-use Prim.Native.Nat.{ℕ, _+_, _<_}
+use Prim.Native.Nat.{ℕ, _+_, _<_, _≤_}
 use mathlib.Core.Path.{_≡_, refl, sym, _∙_, ap, subst}
 use mathlib.Core.Bool.{Bool, true, false, _||_, false≢true}
 use mathlib.Core.Logic.{inl, inr}
@@ -43,7 +43,7 @@ use Rattle.driver_promises.proofs.Extra.{ident-one}
 use Rattle.bench.specs.Together.{System, startOf, answeredBy, askedOf, cycleEndedOf, togetherOf, pollNext}
 use Rattle.bench_promises.specs.Ground.{targetOf}
 use Rattle.bench_promises.specs.Together.{Begins, answerOf, askings}
-use Rattle.bench_promises.specs.Ends.{Writable, pollNumberOf, InTime, Complete, WritesEnd, DoneCycles, IdentOnce, WritesTaken}
+use Rattle.bench_promises.specs.Ends.{Writable, pollNumberOf, InTime, Complete}
 use Rattle.bench_promises.proofs.Hears.{end-free}
 use Rattle.bench_promises.proofs.Rel.{refusing, Given, F, T, selectB, Pending, InBits, InHeard, Rel}
 use Rattle.bench_promises.proofs.Keep.{Sane, Same, After′, k-poll, k-polled, k-deaf, k-select, select-lt, no-nack}
@@ -222,6 +222,17 @@ pub not-refusing : (p : Place) (c : Chip) → Writable p (c .line .core) → ref
 not-refusing (Array a) c w = w
 not-refusing (Ident i) c w = ap (λ (b : Bool). b || c .line .core .locked) (w .0) ∙ w .1
 
+ident-named : (p : Place) → targetOf p ≡ TheIdent → OnIdent p
+ident-named (Array a) e = go e
+  where
+    kind : Target → Bool
+    kind TheArray = false
+    kind TheIdent = true
+
+    go : TheArray ≡ TheIdent → OnIdent (Array a)
+    go e = absurd (false≢true (ap kind e))
+ident-named (Ident i) e = tt
+
 module _ (r : Request) (xs : List ℕ) (c : Chip) (m : Mem) (b : Begins r xs c m) (bs : List Bool) where
   abbrev Y : System
   Y = togetherOf ourDriver (ours (factsOf (r .part)) (r .enable)) bs (startOf r xs c m)
@@ -245,30 +256,15 @@ module _ (r : Request) (xs : List ℕ) (c : Chip) (m : Mem) (b : Begins r xs c m
           let t = spoken r xs c m b bs (Refused x q n) z in
           absurd (subst (λ (p : Phase). Live p r (Y .driver .counts) (Y .chip .line) (Y .level)) (t .1) live)
 
-pub writes-end : WritesEnd (λ f en. togetherOf ourDriver (ours f en))
-writes-end r xs c m bs w b u f h = write-ends r xs c m b bs w u f h
+  -- the identification page is one page
+  pub ident-one-cycle : r .reads ≡ false → targetOf (r .place) ≡ TheIdent → 1 ≤ r .length → (q n : ℕ) → answerOf Y ≡ Done q n → Y .cycles ≡ 1
+  ident-one-cycle w t o q n e = done-cycles w q n e ∙ ident-one r xs (b .accepted) (ident-named (r .place) t) o
 
-pub writes-cycles : DoneCycles (λ f en. togetherOf ourDriver (ours f en))
-writes-cycles r xs c m bs w b q n e = done-cycles r xs c m b bs w q n e
-
-ident-named : (p : Place) → targetOf p ≡ TheIdent → OnIdent p
-ident-named (Array a) e = go e
-  where
-    kind : Target → Bool
-    kind TheArray = false
-    kind TheIdent = true
-
-    go : TheArray ≡ TheIdent → OnIdent (Array a)
-    go e = absurd (false≢true (ap kind e))
-ident-named (Ident i) e = tt
-
-pub ident-once : IdentOnce (λ f en. togetherOf ourDriver (ours f en))
-ident-once r xs c m bs w b t o q n e = done-cycles r xs c m b bs w q n e ∙ ident-one r xs (b .accepted) (ident-named (r .place) t) o
-
-pub writes-taken : WritesTaken (λ f en. togetherOf ourDriver (ours f en))
-writes-taken r xs c m bs w b u q n e = let z = spoken r xs c m b bs (Refused NoData q n) e in go (z .0) (z .1) (z .2)
-  where
-    go : (f : Failed) → togetherOf ourDriver (ours (factsOf (r .part)) (r .enable)) bs (startOf r xs c m) .driver .phase ≡ Over f → NoData ≡ refusalOf f → ⊥
-    go AtSelect p k = omega (arith, ap numberOf k)
-    go AtData p k = false≢true (sym (not-refusing (r .place) c u) ∙ over-is r xs c m b bs AtData p .0 .shut)
-    go AtPolls p k = omega (arith, ap numberOf k)
+  -- a refusal's number tells where the driver was refused
+  pub never-ten : Writable (r .place) (c .line .core) → (q n : ℕ) → answerOf Y ≡ Refused NoData q n → ⊥
+  never-ten u q n e = let z = spoken r xs c m b bs (Refused NoData q n) e in go (z .0) (z .1) (z .2)
+    where
+      go : (f : Failed) → Y .driver .phase ≡ Over f → NoData ≡ refusalOf f → ⊥
+      go AtSelect p k = omega (arith, ap numberOf k)
+      go AtData p k = false≢true (sym (not-refusing (r .place) c u) ∙ over-is r xs c m b bs AtData p .0 .shut)
+      go AtPolls p k = omega (arith, ap numberOf k)

@@ -10,8 +10,11 @@ use native.Mathlib.Omega.{arith}
 use Rattle.parts.specs.declared.Facts.{Facts}
 use Rattle.parts.specs.declared.Event.the-variants.{Ends}
 use Rattle.parts.specs.Events.{eventOf}
+use Rattle.parts.specs.Table.{factsOf}
 use Rattle.parts.proofs.Laws.{branch}
+use Rattle.state.specs.declared.Chip.{Chip}
 use Rattle.state.specs.Range.{inRangeOf}
+use Rattle.chip.specs.Memory.{Mem}
 use Rattle.chip_laws.specs.Range.{Typed, Takes}
 use Rattle.chip_laws.proofs.Range.{range-kept}
 use Rattle.driver.specs.declared.Request.{Request}
@@ -28,7 +31,7 @@ use Rattle.driver.specs.Machine.{ourDriver}
 use Rattle.driver_promises.proofs.View.{at, clockOf, Way, w-done, w-open, w-bit, w-ninth, w-got, w-nack, w-high, w-only, w-low, w-turn, w-data, w-more, w-close, w-drop, w-poll, w-again, w-give, w-page, w-take, w-next, w-end, w-over}
 use Rattle.driver_promises.proofs.Grow.{bit-lt}
 use Rattle.bench.specs.Together.{System, startOf, answeredBy, askedOf, cycleEndedOf, togetherOf}
-use Rattle.bench_promises.specs.Together.{StaysInRange}
+use Rattle.bench_promises.specs.Together.{Begins}
 use Rattle.bench_promises.proofs.Rel.{Given, F}
 use Rattle.bench_promises.proofs.Keep.{Sane}
 use Rattle.bench_promises.proofs.Whole.{Holds, Stepped, stepped, asked-elim, asked-holds, ended-holds, G, sane, start-holds}
@@ -101,5 +104,9 @@ module _ (g : Given) (s : Sane g) where
   range-all (true ∷ bs) y h t = range-all bs (askedOf ourDriver (ours (F g) (g .request .enable)) y) (asked-holds g s y h) (asked-range y h t)
   range-all (false ∷ bs) y h t = range-all bs (cycleEndedOf (ours (F g) (g .request .enable)) y) (ended-holds g s y h) (ended-range y t)
 
-pub stays-in-range : StaysInRange (λ f en. togetherOf ourDriver (ours f en))
-stays-in-range r xs c m bs b t e = range-all (G r xs c m b) (sane r xs c m b) bs (startOf r xs c m) (start-holds r xs c m b) (e, t)
+module _ (r : Request) (xs : List ℕ) (c : Chip) (m : Mem) (bs : List Bool) (b : Begins r xs c m) where
+  abbrev Y : System
+  Y = togetherOf ourDriver (ours (factsOf (r .part)) (r .enable)) bs (startOf r xs c m)
+
+  pub stays-in-range : Typed c → inRangeOf (factsOf (r .part)) c ≡ true → (inRangeOf (factsOf (r .part)) (Y .chip) ≡ true) × Typed (Y .chip)
+  stays-in-range t e = range-all (G r xs c m b) (sane r xs c m b) bs (startOf r xs c m) (start-holds r xs c m b) (e, t)

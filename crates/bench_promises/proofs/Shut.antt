@@ -1,6 +1,6 @@
 -- A write that the pin or the lock forbids is refused at its first data byte, and leaves everything.
 -- Assumes nothing.
-use Prim.Native.Nat.{ℕ, _+_}
+use Prim.Native.Nat.{ℕ, _+_, _<_, _≤_}
 use mathlib.Core.Path.{_≡_, refl, sym, _∙_, ap, subst}
 use mathlib.Core.Bool.{Bool, true, false, _||_, false≢true}
 use mathlib.Core.Logic.{inl, inr}
@@ -26,14 +26,14 @@ use Rattle.driver.specs.declared.Answer.the-variants.{Send, Done, Refused}
 use Rattle.driver.specs.declared.Move.{Move}
 use Rattle.driver.specs.Step.{sentCountsOf, bufferOf, refusalOf}
 use Rattle.driver.specs.Machine.{ourDriver}
-use Rattle.driver_promises.specs.Run.{Finished}
+use Rattle.driver_promises.specs.Run.{Finished, boundOf}
 use Rattle.driver_promises.specs.Where.{leftOf}
 use Rattle.driver_promises.proofs.View.{at, Way, w-done, w-open, w-bit, w-ninth, w-got, w-nack, w-high, w-only, w-low, w-turn, w-data, w-more, w-close, w-drop, w-poll, w-again, w-give, w-page, w-take, w-next, w-end, w-over}
 use Rattle.driver_promises.proofs.Inv.{Inv, taken-elim, left-all}
 use Rattle.bench.specs.Together.{System, startOf, answeredBy, askedOf, cycleEndedOf, togetherOf}
 use Rattle.bench_promises.specs.Ground.{targetOf}
-use Rattle.bench_promises.specs.Together.{answerOf}
-use Rattle.bench_promises.specs.Ends.{Shut, ShutRefused}
+use Rattle.bench_promises.specs.Together.{Begins, answerOf, askings}
+use Rattle.bench_promises.specs.Ends.{Shut}
 use Rattle.bench_promises.proofs.Wrote.{with-same}
 use Rattle.bench_promises.proofs.Rel.{refusing, Given, F, T, W, InHeard, Rel}
 use Rattle.bench_promises.proofs.Keep.{Sane, no-nack, W-write}
@@ -139,27 +139,28 @@ module _ (g : Given) (s : Sane g) (shut : refusing (T g) (g .pin) (g .locked) �
   blocked-all (true ∷ bs) y h t = blocked-all bs (askedOf ourDriver (ours (F g) (r .enable)) y) (asked-holds g s y h) (asked-blocked y h t)
   blocked-all (false ∷ bs) y h t = blocked-all bs (cycleEndedOf (ours (F g) (r .enable)) y) (ended-holds g s y h) t
 
-pub shut-refused : ShutRefused (λ f en. togetherOf ourDriver (ours f en))
-shut-refused r xs c m bs w b u some h = go (answerOf Y) refl (finished r xs c m b bs h)
-  where
-    Y : System
-    Y = togetherOf ourDriver (ours (factsOf (r .part)) (r .enable)) bs (startOf r xs c m)
+module _ (r : Request) (xs : List ℕ) (c : Chip) (m : Mem) (bs : List Bool) (w : r .reads ≡ false) (b : Begins r xs c m) (u : Shut (r .place) (c .line .core)) where
+  abbrev Y : System
+  Y = togetherOf ourDriver (ours (factsOf (r .part)) (r .enable)) bs (startOf r xs c m)
 
-    t : Blocked (Y .driver .phase) (Y .driver .counts)
-    t = blocked-all (G r xs c m b) (sane r xs c m b) (shut-refuses (r .place) c u) w bs (startOf r xs c m) (start-holds r xs c m b) (record { seen = refl; polls = refl; place = tt })
+  t : Blocked (Y .driver .phase) (Y .driver .counts)
+  t = blocked-all (G r xs c m b) (sane r xs c m b) (shut-refuses (r .place) c u) w bs (startOf r xs c m) (start-holds r xs c m b) (record { seen = refl; polls = refl; place = tt })
 
-    go : (a : Answer) → answerOf Y ≡ a → Finished a → (answerOf Y ≡ Refused NoData 0 0) × (Y .mem ≡ m) × (Y .cycles ≡ 0)
-    go (Send e) z f = absurd f
-    go (Done q k) z f =
-        let v = spoken r xs c m b bs (Done q k) z in
-        absurd (let e = all-done r xs c m b bs q k z in let x = v .2 in let y = t .seen in omega arith)
-    go (Refused x q k) z f =
-        let (v, e, i, a, p) = spoken r xs c m b bs (Refused x q k) z in
-        let l : v ≡ AtData = subst shutAt e (t .place) in
-        let n = e ∙ ap Over l in
-        let cyc = subst (λ (y : Phase). Cyc r y (Y .driver .counts) (Y .cycles)) n (cycles-now r xs c m b bs) .1 w in
-        let d = over-is r xs c m b bs AtData n .0 in (
-          z ∙ (ap (λ (y : Refusal). Refused y q k) (i ∙ ap refusalOf l) ∙ (ap (λ (y : ℕ). Refused NoData y k) (p ∙ t .polls) ∙ ap (Refused NoData 0) (a ∙ t .seen))),
-          d .mem ∙ (ap (W (G r xs c m b)) (t .seen) ∙ (W-write (G r xs c m b) (sane r xs c m b) 0 w ∙ with-same (targetOf (r .place)) m)),
-          omega (arith, left-all r, ap (leftOf r) (t .seen)),
-        )
+  pub shut-refused : 1 ≤ r .length → boundOf r < askings bs → (answerOf Y ≡ Refused NoData 0 0) × (Y .mem ≡ m) × (Y .cycles ≡ 0)
+  shut-refused some h = go (answerOf Y) refl (finished r xs c m b bs h)
+    where
+      go : (a : Answer) → answerOf Y ≡ a → Finished a → (answerOf Y ≡ Refused NoData 0 0) × (Y .mem ≡ m) × (Y .cycles ≡ 0)
+      go (Send e) z f = absurd f
+      go (Done q k) z f =
+          let v = spoken r xs c m b bs (Done q k) z in
+          absurd (let e = all-done r xs c m b bs q k z in let x = v .2 in let y = t .seen in omega arith)
+      go (Refused x q k) z f =
+          let (v, e, i, a, p) = spoken r xs c m b bs (Refused x q k) z in
+          let l : v ≡ AtData = subst shutAt e (t .place) in
+          let n = e ∙ ap Over l in
+          let cyc = subst (λ (y : Phase). Cyc r y (Y .driver .counts) (Y .cycles)) n (cycles-now r xs c m b bs) .1 w in
+          let d = over-is r xs c m b bs AtData n .0 in (
+            z ∙ (ap (λ (y : Refusal). Refused y q k) (i ∙ ap refusalOf l) ∙ (ap (λ (y : ℕ). Refused NoData y k) (p ∙ t .polls) ∙ ap (Refused NoData 0) (a ∙ t .seen))),
+            d .mem ∙ (ap (W (G r xs c m b)) (t .seen) ∙ (W-write (G r xs c m b) (sane r xs c m b) 0 w ∙ with-same (targetOf (r .place)) m)),
+            omega (arith, left-all r, ap (leftOf r) (t .seen)),
+          )

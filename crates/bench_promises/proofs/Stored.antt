@@ -41,7 +41,7 @@ use Rattle.driver_promises.proofs.Bound.{no-polls}
 use Rattle.driver_promises.proofs.Promises.{promises}
 use Rattle.bench.specs.Together.{System, startOf, togetherOf}
 use Rattle.bench_promises.specs.Ground.{targetOf, OnIdle}
-use Rattle.bench_promises.specs.Together.{Begins, answerOf, reportedOf, askings, otherOf, Safe, ReadRight, WritesSafe, ReadsRight, ReadsEnd}
+use Rattle.bench_promises.specs.Together.{Begins, answerOf, reportedOf, askings, otherOf, Safe, ReadRight}
 use Rattle.driver_promises.proofs.Numbers.{less-or-more}
 use Rattle.bench_promises.proofs.Wrote.{wrote, wrote-long, wrote-out, wrote-in, cells-with}
 use Rattle.bench_promises.proofs.Rel.{Given, W, Pending, InOver, At, Buffer}
@@ -263,12 +263,3 @@ module _ (r : Request) (xs : List ℕ) (c : Chip) (m : Mem) (b : Begins r xs c m
       go (Refused x q n) z f =
           let k = spoken (Refused x q n) z in
           absurd (reads-on (G r xs c m b) (sane r xs c m b) Y H w (k .0) (k .1))
-
-pub writes-safe : WritesSafe (λ f en. togetherOf ourDriver (ours f en))
-writes-safe r xs c m bs w b = write-safe r xs c m b bs w
-
-pub reads-right : ReadsRight (λ f en. togetherOf ourDriver (ours f en))
-reads-right r xs c m bs w b = read-right r xs c m b bs w
-
-pub reads-end : ReadsEnd (λ f en. togetherOf ourDriver (ours f en))
-reads-end r xs c m bs w b h = read-ends r xs c m b bs w h

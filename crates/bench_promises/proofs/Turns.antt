@@ -48,8 +48,8 @@ use Rattle.driver_promises.proofs.View.{at, Way, w-done, w-open, w-bit, w-ninth
 use Rattle.driver_promises.proofs.Inv.{Inv}
 use Rattle.driver_promises.proofs.Grow.{bit-lt}
 use Rattle.bench.specs.Together.{System, startOf, answeredBy, askedOf, cycleEndedOf, togetherOf, pollBy, pollNext, endDueOf, turnOf, turnsOf, lastOf, enough}
-use Rattle.bench_promises.specs.Together.{answerOf, askings}
-use Rattle.bench_promises.specs.Ends.{pollNumberOf, InTime, Complete, TurnsChosen, TurnsEnd, EnoughTurns}
+use Rattle.bench_promises.specs.Together.{ourRun, Begins, answerOf, askings}
+use Rattle.bench_promises.specs.Ends.{pollNumberOf, InTime, Writable, Complete, ourTurns, TurnsChosen, EnoughTurns}
 use Rattle.bench_promises.proofs.Hears.{end-free, end-busy}
 use Rattle.bench_promises.proofs.Wrote.{less-or-same}
 use Rattle.bench_promises.proofs.Rel.{Given, F, selectB, Pending, InBits, InHeard, Rel}
@@ -114,13 +114,8 @@ module _ (M : Model) (d : ℕ) where
   last-answer zero a s h = sym (turn-rests s h)
   last-answer (suc k) a s h = last-answer k (answerOf s) (turnOf ourDriver M d s) h
 
-pub turns-chosen : TurnsChosen (λ f en. togetherOf ourDriver (ours f en)) (λ f en. turnsOf ourDriver (ours f en))
-turns-chosen r xs c m d n =
-    record {
-      choices = choices (factsOf (r .part)) (r .enable) d n (startOf r xs c m);
-      asked = choices-asked (factsOf (r .part)) (r .enable) d n (startOf r xs c m);
-      same = choices-same (factsOf (r .part)) (r .enable) d n (startOf r xs c m);
-    }
+pub turns-chosen : TurnsChosen ourTurns ourRun
+turns-chosen f en d n y = record { choices = choices f en d n y; asked = choices-asked f en d n y; same = choices-same f en d n y }
 
 -- ---- after an end no cycle runs
 ended-idle : (f : Facts) (c : Core) (y : Cycle) → endedByOf f c y .phase ≡ Idle
@@ -343,7 +338,8 @@ module _ (g : Given) (s : Sane g) where
             let u = k (askedOf ourDriver (ours f en) y) (asked-holds g s y h) (asked-early y h t (λ z. absurd (not-due y e z))) in
             (plain e, subst (λ (v : System). InTime f en (choices f en d n v) (askedOf ourDriver (ours f en) y)) (sym (turn-plain f en d y e)) u)
 
-pub turns-end : TurnsEnd (λ f en. togetherOf ourDriver (ours f en)) (λ f en. turnsOf ourDriver (ours f en))
+pub turns-end : (r : Request) (xs : List ℕ) (c : Chip) (m : Mem) (d n : ℕ) → r .reads ≡ false → Begins r xs c m → Writable (r .place) (c .line .core)
+    → 1 ≤ d → d ≤ allowedOf r → boundOf r < n → Complete r (turnsOf ourDriver (ours (factsOf (r .part)) (r .enable)) d n (startOf r xs c m))
 turns-end r xs c m d n w b u lo hi h =
     let f = factsOf (r .part) in
     let y = startOf r xs c m in

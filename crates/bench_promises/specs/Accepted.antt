@@ -2,7 +2,7 @@
 -- a chip in range none of these calls is refused for the state at any moment, so the run of calls is the run of Together.antt and
 -- Ends.antt, and every demand on that run is one on what calls answer and leave. Each statement is a type over any such calls.
 -- Assumes nothing.
-use Prim.Native.Nat.{ℕ, _+_, _<_}
+use Prim.Native.Nat.{ℕ, _+_}
 use mathlib.Core.Path.{_≡_}
 use mathlib.Core.Bool.{Bool, true, false, cond}
 use mathlib.Core.List.{List, [], _∷_}
@@ -10,13 +10,8 @@ use lib.ListN.{length}
 use lib.Dec.{eqb}
 use Rattle.parts.specs.declared.Refusal.the-variants.{BadState, BadEvent}
 use Rattle.parts.specs.declared.Verdict.the-variants.{Fine}
-use Rattle.parts.specs.Table.{factsOf}
 use Rattle.state.specs.declared.Chip.{Chip}
-use Rattle.state.specs.Range.{inRangeOf}
-use Rattle.chip.specs.Memory.{Mem}
-use Rattle.chip.specs.Model.{ours}
 use Rattle.chip.specs.Calls.{stepOf}
-use Rattle.chip_laws.specs.Range.{Typed}
 use Rattle.chip_promises.specs.Calls.{Step}
 use Rattle.chip_promises.specs.Idle.{refusingStep}
 use Rattle.driver.specs.declared.Request.{Request}
@@ -25,22 +20,19 @@ use Rattle.driver.specs.declared.Answer.{Answer}
 use Rattle.driver.specs.declared.Answer.the-variants.{Send, Done, Refused}
 use Rattle.driver.specs.Step.{rangeOf, beginOf}
 use Rattle.driver.specs.Machine.{Machine, ourDriver}
-use Rattle.driver_promises.specs.Run.{boundOf}
-use Rattle.bench.specs.Together.{System, startOf, clockOf, ends, togetherOf}
-use Rattle.bench_promises.specs.Together.{Runs, Begins, answerOf, askings, Safe, ReadRight, systemAfter}
-use Rattle.bench_promises.specs.Ends.{Writable, InTime, Complete}
+use Rattle.bench.specs.Together.{System, clockOf, ends}
+use Rattle.bench_promises.specs.Together.{Runs, ourRun, Session, Writes, Reads, answerOf, first, after, InRange, SafeAfter, ReadRightAfter}
+use Rattle.bench_promises.specs.Ends.{Timely, Complete}
 
--- an accepted request on an idle chip, which is in range; `Typed` is what the types say of every chip that code can hold
-pub record BeginsInRange (r : Request) (xs : List ℕ) (c : Chip) (m : Mem) : Type 0 where
-  pub begins : Begins r xs c m
-  pub typed : Typed c
-  pub ranged : inRangeOf (factsOf (r .part)) c ≡ true
+-- a session on a chip in range
+abbrev pub Ranged : Session → Type 0
+Ranged w = InRange (w .request) (w .chip)
 
 -- ---- no call is refused for the state
 
 -- `begin` is not refused, and answers the driver that the run starts with
 abbrev pub BeginAccepted : Type 0
-BeginAccepted = (r : Request) (xs : List ℕ) (c : Chip) (m : Mem) → Begins r xs c m → beginOf r ≡ record { verdict = Fine; driver = startOf r xs c m .driver }
+BeginAccepted = (w : Session) → beginOf (w .request) ≡ record { verdict = Fine; driver = first w .driver }
 
 -- at one moment
 pub record Accepts (S : Step) (r : Request) (s : System) : Type 0 where
@@ -53,7 +45,7 @@ pub record Accepts (S : Step) (r : Request) (s : System) : Type 0 where
 
 -- at every moment of every run
 abbrev pub StepsAccepted : Step → Runs → Type 0
-StepsAccepted S run = (r : Request) (xs : List ℕ) (c : Chip) (m : Mem) (bs : List Bool) → BeginsInRange r xs c m → Accepts S r (systemAfter run r xs c m bs)
+StepsAccepted S run = (w : Session) → Ranged w → Accepts S (w .request) (after run w)
 
 -- ---- the same interleaving, of calls only
 
@@ -107,35 +99,25 @@ module _ (S : Step) (part enable : ℕ) where
 abbrev pub byCalls : Machine → Step → Runs
 byCalls D S f enable bs s = callsOf S (s .driver .request .part) enable D bs s
 
--- the run that the demands speak of
-abbrev pub ourRun : Runs
-ourRun f enable = togetherOf ourDriver (ours f enable)
-
 -- the run of calls is that run
 abbrev pub CallsAreRun : Machine → Step → Type 0
-CallsAreRun D S = (r : Request) (xs : List ℕ) (c : Chip) (m : Mem) (bs : List Bool) → BeginsInRange r xs c m
-    → systemAfter (byCalls D S) r xs c m bs ≡ systemAfter ourRun r xs c m bs
+CallsAreRun D S = (w : Session) → Ranged w → after (byCalls D S) w ≡ after ourRun w
 
 -- ---- so whatever is true at a moment of that run is true of calls
 
-abbrev pub TrueOfCalls : Machine → Step → Type 1
-TrueOfCalls D S = (P : System → Type 0) (r : Request) (xs : List ℕ) (c : Chip) (m : Mem) (bs : List Bool) → BeginsInRange r xs c m
-    → P (systemAfter ourRun r xs c m bs) → P (systemAfter (byCalls D S) r xs c m bs)
-
 module _ (D : Machine) (S : Step) where
+  abbrev pub TrueOfCalls : Type 1
+  TrueOfCalls = (P : System → Type 0) (w : Session) → Ranged w → P (after ourRun w) → P (after (byCalls D S) w)
+
   -- `WritesSafe`, `ReadsRight` and `WritesEnd`
   abbrev pub CallsWriteSafe : Type 0
-  CallsWriteSafe = (r : Request) (xs : List ℕ) (c : Chip) (m : Mem) (bs : List Bool) → r .reads ≡ false → BeginsInRange r xs c m
-      → Safe r xs c m (systemAfter (byCalls D S) r xs c m bs)
+  CallsWriteSafe = (w : Session) → Ranged w → Writes w → SafeAfter (byCalls D S) w
 
   abbrev pub CallsReadRight : Type 0
-  CallsReadRight = (r : Request) (xs : List ℕ) (c : Chip) (m : Mem) (bs : List Bool) → r .reads ≡ true → BeginsInRange r xs c m
-      → ReadRight r xs c m (systemAfter (byCalls D S) r xs c m bs)
+  CallsReadRight = (w : Session) → Ranged w → Reads w → ReadRightAfter (byCalls D S) w
 
   abbrev pub CallsWriteEnd : Type 0
-  CallsWriteEnd = (r : Request) (xs : List ℕ) (c : Chip) (m : Mem) (bs : List Bool) → r .reads ≡ false → BeginsInRange r xs c m
-      → Writable (r .place) (c .line .core) → InTime (factsOf (r .part)) (r .enable) bs (startOf r xs c m) → boundOf r < askings bs
-      → Complete r (systemAfter (byCalls D S) r xs c m bs)
+  CallsWriteEnd = (w : Session) → Ranged w → Timely w → Complete (w .request) (after (byCalls D S) w)
 
 -- ---- what is refused midway
 

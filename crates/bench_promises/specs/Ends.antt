@@ -13,8 +13,6 @@ use Rattle.parts.specs.declared.Refusal.the-variants.{NoData, PollsUsed}
 use Rattle.parts.specs.Table.{factsOf}
 use Rattle.line.specs.declared.Core.{Core}
 use Rattle.line.specs.Rules.{isHigh}
-use Rattle.state.specs.declared.Chip.{Chip}
-use Rattle.chip.specs.Memory.{Mem}
 use Rattle.driver.specs.declared.Place.{Place}
 use Rattle.driver.specs.declared.Place.the-variants.{Array, Ident}
 use Rattle.driver.specs.declared.Request.{Request}
@@ -23,10 +21,10 @@ use Rattle.driver.specs.Request.{allowedOf, kOf}
 use Rattle.driver.specs.Machine.{ourDriver}
 use Rattle.driver_promises.specs.Run.{boundOf}
 use Rattle.driver_promises.specs.Promises.{Accepted}
-use Rattle.bench.specs.Together.{System, startOf, askedOf, cycleEndedOf, pollNext, enough}
+use Rattle.bench.specs.Together.{System, askedOf, cycleEndedOf, turnsOf, pollNext, enough}
 use Rattle.bench_promises.specs.Ground.{targetOf}
 use Rattle.line.specs.declared.Target.the-variants.{Ident as TheIdent}
-use Rattle.bench_promises.specs.Together.{Runs, Begins, answerOf, askings, systemAfter}
+use Rattle.bench_promises.specs.Together.{Runs, Session, Writes, Enough, answerOf, askings, first, after}
 use Rattle.chip.specs.Model.{ours}
 use Rattle.chip_promises.specs.States.{NotBusy}
 
@@ -34,6 +32,9 @@ use Rattle.chip_promises.specs.States.{NotBusy}
 abbrev pub Writable : Place → Core → Type 0
 Writable (Array a) c = isHigh (c .pin) ≡ false
 Writable (Ident i) c = (isHigh (c .pin) ≡ false) × (c .locked ≡ false)
+
+abbrev pub Allowed : Session → Type 0
+Allowed w = Writable (w .request .place) (w .chip .line .core)
 
 -- the number of the poll, from 1 for each page, whose Start the driver sends when it is asked next; 0 for any other event
 abbrev pub pollNumberOf : System → ℕ
@@ -46,73 +47,78 @@ InTime f enable [] s = Unit {0}
 InTime f enable (true ∷ bs) s = (pollNumberOf s ≡ allowedOf (s .driver .request) → NotBusy (s .chip .line .phase)) × InTime f enable bs (askedOf ourDriver (ours f enable) s)
 InTime f enable (false ∷ bs) s = InTime f enable bs (cycleEndedOf (ours f enable) s)
 
+-- "Given an idle chip of the named part and enable, its pin not high, .. and each cycle ended before the Start of a poll within the budget, our
+-- driver's write of n bytes inside the array": asked often enough to end; also for the identification page, and for n = 0 (no page, no cycle)
+pub record Timely (w : Session) : Type 0 where
+  pub writes : Writes w
+  pub allowed : Allowed w
+  pub timely : InTime (factsOf (w .request .part)) (w .request .enable) (w .choices) (first w)
+  pub enough : Enough w
+
 -- "ends done and not refused, reports all n bytes and begins exactly one cycle for each page it meets"
 pub record Complete (r : Request) (s : System) : Type 0 where
   pub polls : ℕ
   pub done : answerOf s ≡ Done polls (r .length)
   pub cycles : s .cycles ≡ kOf r
 
--- asked more often than a formula of the request, it has ended; also for the identification page, and for n = 0 (no page, no cycle)
-abbrev pub WritesEnd : Runs → Type 0
-WritesEnd run = (r : Request) (xs : List ℕ) (c : Chip) (m : Mem) (bs : List Bool) → r .reads ≡ false → Begins r xs c m
-    → Writable (r .place) (c .line .core) → InTime (factsOf (r .part)) (r .enable) bs (startOf r xs c m) → boundOf r < askings bs
-    → Complete r (systemAfter run r xs c m bs)
-
--- whenever a write is done, in time or not, it has begun one cycle for each page
-abbrev pub DoneCycles : Runs → Type 0
-DoneCycles run = (r : Request) (xs : List ℕ) (c : Chip) (m : Mem) (bs : List Bool) → r .reads ≡ false → Begins r xs c m
-    → (q n : ℕ) → answerOf (systemAfter run r xs c m bs) ≡ Done q n → systemAfter run r xs c m bs .cycles ≡ kOf r
-
--- an identification write is one part, so one cycle
-abbrev pub IdentOnce : Runs → Type 0
-IdentOnce run = (r : Request) (xs : List ℕ) (c : Chip) (m : Mem) (bs : List Bool) → r .reads ≡ false → Begins r xs c m → targetOf (r .place) ≡ TheIdent → 1 ≤ r .length
-    → (q n : ℕ) → answerOf (systemAfter run r xs c m bs) ≡ Done q n → systemAfter run r xs c m bs .cycles ≡ 1
-
--- a byte that may be written is never refused with 10, in time or not
-abbrev pub WritesTaken : Runs → Type 0
-WritesTaken run = (r : Request) (xs : List ℕ) (c : Chip) (m : Mem) (bs : List Bool) → r .reads ≡ false → Begins r xs c m → Writable (r .place) (c .line .core)
-    → (q n : ℕ) → answerOf (systemAfter run r xs c m bs) ≡ Refused NoData q n → ⊥
-
 -- what the pin or the lock forbids
 abbrev pub Shut : Place → Core → Type 0
 Shut (Array a) c = isHigh (c .pin) ≡ true
 Shut (Ident i) c = (isHigh (c .pin) ≡ true) ⊎ (c .locked ≡ true)
 
--- such a write ends in refusal 10: no byte is reported, nothing stored changes, no cycle begins
-abbrev pub ShutRefused : Runs → Type 0
-ShutRefused run = (r : Request) (xs : List ℕ) (c : Chip) (m : Mem) (bs : List Bool) → r .reads ≡ false → Begins r xs c m → Shut (r .place) (c .line .core) → 1 ≤ r .length
-    → boundOf r < askings bs
-    → (answerOf (systemAfter run r xs c m bs) ≡ Refused NoData 0 0) × (systemAfter run r xs c m bs .mem ≡ m) × (systemAfter run r xs c m bs .cycles ≡ 0)
+module _ (run : Runs) where
+  abbrev pub WritesEnd : Type 0
+  WritesEnd = (w : Session) → Timely w → Complete (w .request) (after run w)
+
+  -- whenever a write is done, in time or not, it has begun one cycle for each page
+  abbrev pub DoneCycles : Type 0
+  DoneCycles = (w : Session) → Writes w → (q n : ℕ) → answerOf (after run w) ≡ Done q n → after run w .cycles ≡ kOf (w .request)
+
+  -- an identification write is one part, so one cycle
+  abbrev pub IdentOnce : Type 0
+  IdentOnce = (w : Session) → Writes w → targetOf (w .request .place) ≡ TheIdent → 1 ≤ w .request .length
+      → (q n : ℕ) → answerOf (after run w) ≡ Done q n → after run w .cycles ≡ 1
+
+  -- a byte that may be written is never refused with 10, in time or not
+  abbrev pub WritesTaken : Type 0
+  WritesTaken = (w : Session) → Writes w → Allowed w → (q n : ℕ) → answerOf (after run w) ≡ Refused NoData q n → ⊥
+
+  -- a write that is forbidden ends in refusal 10: no byte is reported, nothing stored changes, no cycle begins
+  abbrev pub ShutRefused : Type 0
+  ShutRefused = (w : Session) → Writes w → Shut (w .request .place) (w .chip .line .core) → 1 ≤ w .request .length → Enough w
+      → (answerOf (after run w) ≡ Refused NoData 0 0) × (after run w .mem ≡ w .mem) × (after run w .cycles ≡ 0)
 
 -- ---- the run with d: n turns, each an asking, with an end of the cycle before it where poll number d is next
 
 abbrev pub Turns : Type 0
 Turns = Facts → ℕ → ℕ → ℕ → System → System
 
-module _ (run : Runs) (turns : Turns) where
-  abbrev pub turned : Request → List ℕ → Chip → Mem → ℕ → ℕ → System
-  turned r xs c m d n = turns (factsOf (r .part)) (r .enable) d n (startOf r xs c m)
+abbrev pub ourTurns : Turns
+ourTurns f enable = turnsOf ourDriver (ours f enable)
 
-  -- it is one of the runs of choices, so all that is said of those holds of it
-  pub record Chosen (r : Request) (xs : List ℕ) (c : Chip) (m : Mem) (d n : ℕ) : Type 0 where
+module _ (turns : Turns) where
+  -- it is one of the runs of choices, from any system, so all that is said of those holds of it
+  pub record Chosen (run : Runs) (f : Facts) (enable d n : ℕ) (s : System) : Type 0 where
     pub choices : List Bool
     pub asked : askings choices ≡ n
-    pub same : turned r xs c m d n ≡ systemAfter run r xs c m choices
+    pub same : turns f enable d n s ≡ run f enable choices s
 
-  abbrev pub TurnsChosen : Type 0
-  TurnsChosen = (r : Request) (xs : List ℕ) (c : Chip) (m : Mem) (d n : ℕ) → Chosen r xs c m d n
+  abbrev pub TurnsChosen : Runs → Type 0
+  TurnsChosen run = (f : Facts) (enable d n : ℕ) (s : System) → Chosen run f enable d n s
+
+  -- from where a session begins, in place of its choices
+  abbrev pub turned : Session → ℕ → ℕ → System
+  turned w d n = turns (factsOf (w .request .part)) (w .request .enable) d n (first w)
 
   -- d within the budget: the write ends done
   abbrev pub TurnsEnd : Type 0
-  TurnsEnd = (r : Request) (xs : List ℕ) (c : Chip) (m : Mem) (d n : ℕ) → r .reads ≡ false → Begins r xs c m → Writable (r .place) (c .line .core)
-      → 1 ≤ d → d ≤ allowedOf r → boundOf r < n → Complete r (turned r xs c m d n)
+  TurnsEnd = (w : Session) (d n : ℕ) → Writes w → Allowed w → 1 ≤ d → d ≤ allowedOf (w .request) → boundOf (w .request) < n → Complete (w .request) (turned w d n)
 
   -- d above the budget, "a chip that stays busy for longer than our driver polls": all polls of the first page are spent, refusal 11,
   -- no byte is reported, and one cycle was begun
   abbrev pub TurnsRefused : Type 0
-  TurnsRefused = (r : Request) (xs : List ℕ) (c : Chip) (m : Mem) (d n : ℕ) → r .reads ≡ false → Begins r xs c m → Writable (r .place) (c .line .core)
-      → 1 ≤ r .length → allowedOf r < d → boundOf r < n
-      → (answerOf (turned r xs c m d n) ≡ Refused PollsUsed (allowedOf r) 0) × (turned r xs c m d n .cycles ≡ 1)
+  TurnsRefused = (w : Session) (d n : ℕ) → Writes w → Allowed w → 1 ≤ w .request .length → allowedOf (w .request) < d → boundOf (w .request) < n
+      → (answerOf (turned w d n) ≡ Refused PollsUsed (allowedOf (w .request)) 0) × (turned w d n .cycles ≡ 1)
 
 -- the turns that the run function takes are enough for every request
 abbrev pub EnoughTurns : Type 0

@@ -4,14 +4,9 @@
 -- Assumes nothing.
 use Prim.Native.Nat.{ℕ, _+_, _<_, _≤_}
 use mathlib.Core.Path.{_≡_}
-use mathlib.Core.Bool.{Bool, true, false}
 use mathlib.Core.Logic.{_⊎_}
-use mathlib.Core.List.{List}
 use lib.ListN.{getD}
-use Rattle.parts.specs.Table.{factsOf}
-use Rattle.state.specs.declared.Chip.{Chip}
-use Rattle.chip.specs.Memory.{Mem, cellsOf}
-use Rattle.chip.specs.Model.{ours}
+use Rattle.chip.specs.Memory.{cellsOf}
 use Rattle.chip.specs.Calls.{deliverOf, stepOf, runOf}
 use Rattle.chip_laws.specs.Bytes.{ByteIn, ByteOut}
 use Rattle.chip_promises.specs.Numbers.{DeliverNumbers, StepNumbers, RunNumbers}
@@ -22,18 +17,15 @@ use Rattle.chip_promises.specs.Lock.{CallsLockHolds}
 use Rattle.chip_promises.specs.Pin.{CallsPinProtects}
 use Rattle.page.specs.Look.{lookRefusalOf}
 use Rattle.page.specs.Promise.{RefusesRightly}
-use Rattle.driver.specs.declared.Request.{Request}
 use Rattle.driver.specs.declared.Answer.{Answer}
 use Rattle.driver.specs.declared.Answer.the-variants.{Done}
 use Rattle.driver.specs.Request.{fromOf, judgeOf, kOf}
-use Rattle.driver.specs.Machine.{ourDriver}
-use Rattle.driver_promises.specs.Run.{boundOf}
 use Rattle.driver_promises.specs.Numbers.{RequestNumbers}
-use Rattle.bench.specs.Together.{System, startOf, togetherOf}
+use Rattle.bench.specs.Together.{System}
 use Rattle.bench.specs.Calls.{benchVerdict}
 use Rattle.bench_promises.specs.Ground.{targetOf}
-use Rattle.bench_promises.specs.Together.{Begins, answerOf, reportedOf, askings, otherOf}
-use Rattle.bench_promises.specs.Ends.{Writable, InTime}
+use Rattle.bench_promises.specs.Together.{ourRun, Session, Writes, Reads, Enough, answerOf, reportedOf, after, otherOf, byteIn, asked}
+use Rattle.bench_promises.specs.Ends.{Timely}
 use Rattle.bench_promises.specs.Calls.{ourBench, BenchPromises}
 use Rattle.bench_promises.specs.Numbers.{BenchNumbers}
 use Rattle.bench_promises.specs.Trials.{TrialsRight}
@@ -59,34 +51,13 @@ pub record Demand1 : Type 0 where
   pub chip-kept : RefusedChangesNothing deliverOf stepOf runOf
   pub bytes-kept : BytesKept
 
--- "On an idle chip of the named part and enable, power kept and no outside event but cycle ends": a request that is accepted, with its data
--- or its buffer, on such a chip; then, in any order and number, the driver is asked (true) or the chip's cycle ends (false)
-pub record Session : Type 0 where
-  pub request : Request
-  pub buffer : List ℕ
-  pub chip : Chip
-  pub mem : Mem
-  pub begins : Begins request buffer chip mem
-  pub choices : List Bool
+-- "On an idle chip of the named part and enable, power kept and no outside event but cycle ends": a `Session` of bench_promises/specs/Together.antt.
+-- Driver and chip after its choices, and what the driver answers when it is asked next
+abbrev pub now : Session → System
+now = after ourRun
 
-module _ (w : Session) where
-  -- driver and chip before the choices, and after them
-  abbrev pub first : System
-  first = startOf (w .request) (w .buffer) (w .chip) (w .mem)
-
-  abbrev pub now : System
-  now = togetherOf ourDriver (ours (factsOf (w .request .part)) (w .request .enable)) (w .choices) first
-
-  -- what the driver answers when it is asked next
-  abbrev pub says : Answer
-  says = answerOf now
-
-  -- byte i of the array, or of the identification page, whichever the request names: in m, and from the request's first place on
-  abbrev pub byteIn : Mem → ℕ → ℕ
-  byteIn m i = getD (cellsOf (targetOf (w .request .place)) m) i 0
-
-  abbrev pub asked : Mem → ℕ → ℕ
-  asked m i = byteIn m (fromOf (w .request .place) + i)
+abbrev pub says : Session → Answer
+says w = answerOf (now w)
 
 -- "The model answers each bus event as the data sheets say, with document 01 deciding where they are silent. On an idle chip .., what our driver
 -- reports written is then stored, what it reads is what is there, and bytes it was not asked to write are as before."
@@ -96,26 +67,19 @@ pub record Demand2 : Type 0 where
   pub trials : TrialsRight
   pub bytes : ByteIn × ByteOut
   -- "what our driver reports written is then stored"; and done is all of it
-  pub written : (w : Session) → w .request .reads ≡ false → (i : ℕ) → i < reportedOf (says w) → asked w (now w .mem) i ≡ getD (w .buffer) i 0
+  pub written : (w : Session) → Writes w → (i : ℕ) → i < reportedOf (says w) → asked (w .request) (now w .mem) i ≡ getD (w .buffer) i 0
   pub all : (w : Session) → (q n : ℕ) → says w ≡ Done q n → n ≡ w .request .length
   -- "what it reads is what is there"; and it does read, when it has been asked often enough
-  pub read : (w : Session) → w .request .reads ≡ true → (q n : ℕ) → says w ≡ Done q n → (i : ℕ) → i < w .request .length → getD (now w .buffer) i 0 ≡ asked w (w .mem) i
-  pub reads : (w : Session) → w .request .reads ≡ true → boundOf (w .request) < askings (w .choices) → says w ≡ Done 0 (w .request .length)
+  pub read : (w : Session) → Reads w → (q n : ℕ) → says w ≡ Done q n → (i : ℕ) → i < w .request .length → getD (now w .buffer) i 0 ≡ asked (w .request) (w .mem) i
+  pub reads : (w : Session) → Reads w → Enough w → says w ≡ Done 0 (w .request .length)
   -- "bytes it was not asked to write are as before": around what was asked, in the other memory, the lock, and all of them for a read
-  pub around : (w : Session) (i : ℕ) → (i < fromOf (w .request .place)) ⊎ (fromOf (w .request .place) + w .request .length ≤ i) → byteIn w (now w .mem) i ≡ byteIn w (w .mem) i
+  pub around : (w : Session) (i : ℕ) → (i < fromOf (w .request .place)) ⊎ (fromOf (w .request .place) + w .request .length ≤ i)
+      → byteIn (w .request) (now w .mem) i ≡ byteIn (w .request) (w .mem) i
   pub other : (w : Session) → cellsOf (otherOf (targetOf (w .request .place))) (now w .mem) ≡ cellsOf (otherOf (targetOf (w .request .place))) (w .mem)
   pub lock : (w : Session) → now w .chip .line .core .locked ≡ w .chip .line .core .locked
-  pub unread : (w : Session) → w .request .reads ≡ true → now w .mem ≡ w .mem
+  pub unread : (w : Session) → Reads w → now w .mem ≡ w .mem
   -- the same of one call that runs driver and chip to the end, and more
   pub run : BenchPromises ourBench
-
--- "Given an idle chip of the named part and enable, its pin not high, power kept, no outside event but cycle ends, and each cycle ended before
--- the Start of a poll within the budget, our driver's write of n bytes inside the array": the driver asked often enough to end
-pub record Timely (w : Session) : Type 0 where
-  pub writes : w .request .reads ≡ false
-  pub allowed : Writable (w .request .place) (w .chip .line .core)
-  pub timely : InTime (factsOf (w .request .part)) (w .request .enable) (w .choices) (first w)
-  pub enough : boundOf (w .request) < askings (w .choices)
 
 pub record Demand3 : Type 0 where
   -- "Over any events from delivery, the pages whose contents differ from delivery, the identification page counted as one, are never more
@@ -127,7 +91,9 @@ pub record Demand3 : Type 0 where
   pub lock : CallsLockHolds stepOf runOf
   -- "With a Write Control pin high throughout and no cycle running at the start, nothing stored changes."
   pub pin : CallsPinProtects stepOf runOf
-  -- "ends done and not refused, reports all n bytes"
+  -- "Given an idle chip of the named part and enable, its pin not high, power kept, no outside event but cycle ends, and each cycle ended before
+  -- the Start of a poll within the budget, our driver's write of n bytes inside the array, n at least 1, ends done and not refused, reports all n
+  -- bytes": `Timely`, bench_promises/specs/Ends.antt
   pub ends : (w : Session) → Timely w → (q : ℕ) × (says w ≡ Done q (w .request .length))
   -- "and begins exactly one cycle for each page it meets"
   pub one-each : (w : Session) → Timely w → now w .cycles ≡ kOf (w .request)
