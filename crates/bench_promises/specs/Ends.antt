@@ -112,7 +112,8 @@ module _ (turns : Turns) where
 
   -- d within the budget: the write ends done
   abbrev pub TurnsEnd : Type 0
-  TurnsEnd = (w : Session) (d n : ℕ) → Writes w → Allowed w → 1 ≤ d → d ≤ allowedOf (w .request) → boundOf (w .request) < n → Complete (w .request) (turned w d n)
+  TurnsEnd = (w : Session) (d n : ℕ) → Writes w → Allowed w → 1 ≤ d → d ≤ allowedOf (w .request) → boundOf (w .request) < n
+      → Complete (w .request) (turned w d n)
 
   -- d above the budget, "a chip that stays busy for longer than our driver polls": all polls of the first page are spent, refusal 11,
   -- no byte is reported, and one cycle was begun

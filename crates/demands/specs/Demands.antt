@@ -70,7 +70,8 @@ pub record Demand2 : Type 0 where
   pub written : (w : Session) → Writes w → (i : ℕ) → i < reportedOf (says w) → asked (w .request) (now w .mem) i ≡ getD (w .buffer) i 0
   pub all : (w : Session) → (q n : ℕ) → says w ≡ Done q n → n ≡ w .request .length
   -- "what it reads is what is there"; and it does read, when it has been asked often enough
-  pub read : (w : Session) → Reads w → (q n : ℕ) → says w ≡ Done q n → (i : ℕ) → i < w .request .length → getD (now w .buffer) i 0 ≡ asked (w .request) (w .mem) i
+  pub read : (w : Session) → Reads w → (q n : ℕ) → says w ≡ Done q n → (i : ℕ) → i < w .request .length
+      → getD (now w .buffer) i 0 ≡ asked (w .request) (w .mem) i
   pub reads : (w : Session) → Reads w → Enough w → says w ≡ Done 0 (w .request .length)
   -- "bytes it was not asked to write are as before": around what was asked, in the other memory, the lock, and all of them for a read
   pub around : (w : Session) (i : ℕ) → (i < fromOf (w .request .place)) ⊎ (fromOf (w .request .place) + w .request .length ≤ i)
