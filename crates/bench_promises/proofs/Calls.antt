@@ -9,10 +9,9 @@ use lib.ListN.{length, getD, take, drop, length-take, length-drop, take-append-d
 use lib.Seq.{take-all, getD-take, getD-drop, ext-getD}
 use native.Mathlib.Omega.{arith}
 use borrow.Author.Tests.{le-ltb, eqb-true, not-false}
-use Rattle.parts.specs.declared.Refusal.{Refusal}
 use Rattle.parts.specs.declared.Refusal.the-variants.{NoPart, WrongEnable, Beyond, NoData, PollsUsed}
 use Rattle.parts.specs.declared.Verdict.{Verdict}
-use Rattle.parts.specs.declared.Verdict.the-variants.{Fine, Refused as Judged}
+use Rattle.parts.specs.declared.Verdict.the-variants.{Fine}
 use Rattle.parts.specs.Table.{factsOf, idSizeOf, enableRightOf, buffersRightOf}
 use Rattle.parts.specs.Refusals.{isFine, claimOf, soonerOf}
 use Rattle.parts.proofs.Claims.{sooner-fine}
@@ -40,7 +39,7 @@ use Rattle.bench.proofs.Laws.{Granted, granted, granted-fine, run-first, run-le
 use Rattle.bench_promises.specs.Ground.{targetOf}
 use Rattle.bench_promises.specs.Together.{Begins, answerOf, reportedOf, otherOf, Safe, ReadRight}
 use Rattle.bench_promises.specs.Ends.{Writable, Shut, Complete}
-use Rattle.bench_promises.specs.Calls.{ourBench, Called, Written, ReadThere, Ended, UsedUp, Protected, Untouched, readOf, BenchPromises}
+use Rattle.bench_promises.specs.Calls.{Call, ourBench, Called, readOf, readBack, Room, Written, ReadThere, Ended, UsedUp, Protected, RefusesKept, BenchPromises}
 use Rattle.bench_promises.specs.Tape.{pollsOfPages, CycleEach}
 use Rattle.driver_promises.proofs.Numbers.{less-or-more}
 use Rattle.bench_promises.proofs.Stored.{room-is, all-done, write-safe, read-right, read-ends, finished}
@@ -58,6 +57,10 @@ use Rattle.bench_promises.proofs.Replay.{replayed}
 use Rattle.bench_promises.proofs.Tape.{driven, done-clocks, read-clocks, ends-at}
 use Rattle.chip.specs.Model.{ours}
 
+-- the call of a row, on a chip at the request's enable
+abbrev callOf : Request → ℕ → Chip → Mem → List ℕ → Call
+callOf r d c m ys = record { request = r; own = r .enable; d = d; chip = c; mem = m; buffer = ys }
+
 -- ---- a call that is not refused
 either : (t u : Target) → (u ≡ t) ⊎ (u ≡ otherOf t)
 either TheArray TheArray = inl refl
@@ -65,7 +68,7 @@ either TheArray TheIdent = inr refl
 either TheIdent TheArray = inr refl
 either TheIdent TheIdent = inl refl
 
-module _ (r : Request) (d : ℕ) (c : Chip) (m : Mem) (ys : List ℕ) (k : Called r d c m ys) where
+module _ (r : Request) (d : ℕ) (c : Chip) (m : Mem) (ys : List ℕ) (k : Called (callOf r d c m ys)) where
   abbrev xs : List ℕ
   xs = take (r .length) ys
 
@@ -108,7 +111,7 @@ module _ (r : Request) (d : ℕ) (c : Chip) (m : Mem) (ys : List ℕ) (k : Calle
       }
 
 -- ---- the final system is a run of choices; n: its turns, a name so that nobody counts them
-module _ (n : ℕ) (turns : n ≡ enough) (r : Request) (d : ℕ) (c : Chip) (m : Mem) (ys : List ℕ) (k : Called r d c m ys) where
+module _ (n : ℕ) (turns : n ≡ enough) (r : Request) (d : ℕ) (c : Chip) (m : Mem) (ys : List ℕ) (k : Called (callOf r d c m ys)) where
   abbrev ws : List ℕ
   ws = take (r .length) ys
 
@@ -182,7 +185,7 @@ module _ (n : ℕ) (turns : n ≡ enough) (r : Request) (d : ℕ) (c : Chip) (m 
       ap (λ (y : Report). inRangeOf (factsOf (r .part)) (y .chip)) report-is
       ∙ (ap (inRangeOf (factsOf (r .part))) (chip-of (answerOf Y)) ∙ stays-in-range r ws c m bs (begins r d c m ys k) t (none r d c m ys k .held .ranged) .0)
 
-  written : r .reads ≡ false → Written ourBench r (r .enable) d c m ys
+  written : r .reads ≡ false → Written ourBench (callOf r d c m ys)
   written w =
       let z = write-safe r ws c m (begins r d c m ys k) bs w in
       let t = targetOf (r .place) in
@@ -240,7 +243,7 @@ module _ (n : ℕ) (turns : n ≡ enough) (r : Request) (d : ℕ) (c : Chip) (m 
       all (Done q n) z f v = all-done r ws c m (begins r d c m ys k) bs q n z
       all (Refused x q n) z f v = absurd (false≢true (ap isFine v))
 
-  taken : r .reads ≡ true → ReadThere ourBench r (r .enable) d c m ys
+  taken : r .reads ≡ true → ReadThere ourBench (callOf r d c m ys)
   taken w =
       let z = read-right r ws c m (begins r d c m ys k) bs w in
       let a = read-ends r ws c m (begins r d c m ys k) bs w (omega (arith, over-bound, choices-asked (factsOf (r .part)) (r .enable) d n (startOf r ws c m))) in
@@ -250,7 +253,7 @@ module _ (n : ℕ) (turns : n ≡ enough) (r : Request) (d : ℕ) (c : Chip) (m 
         bytes = ap (λ (y : Report). y .bytes) p;
         polls = ap (λ (y : Report). y .polls) p;
         cycles = ap (λ (y : Report). y .cycles) p ∙ z .cycles;
-        clocks = λ h. sym (replayed r (r .enable) d c m ys .clocks) ∙ read-clocks r ys _ _ _ _ (begins r d c m ys k .accepted) (driven r (r .enable) d c m ys (k .fine)) (ap (λ (y : Report). y .verdict) p) w h;
+        clocks = λ h. sym (replayed (callOf r d c m ys) .clocks) ∙ read-clocks r ys _ _ _ _ (begins r d c m ys k .accepted) (driven r (r .enable) d c m ys (k .fine)) (ap (λ (y : Report). y .verdict) p) w h;
         buffer = buffer-is ∙ ap (λ (l : List ℕ). l ++ drop (r .length) ys) (got z a);
         memory = memory-is ∙ z .mem;
         lock = ap (λ (y : Report). y .chip .line .core .locked) p ∙ z .lock;
@@ -270,7 +273,7 @@ module _ (n : ℕ) (turns : n ≡ enough) (r : Request) (d : ℕ) (c : Chip) (m 
   unfolding allowedOf
   budget-is w = ap (λ (b : Bool). cond b 0 (r .budget)) w
 
-  ends : r .reads ≡ false → Writable (r .place) (c .line .core) → d ≤ r .budget → Ended ourBench r (r .enable) d c m ys
+  ends : r .reads ≡ false → Writable (r .place) (c .line .core) → d ≤ r .budget → Ended ourBench (callOf r d c m ys)
   ends w u h =
       let z : Complete r Y = subst (Complete r) (choices-same (factsOf (r .part)) (r .enable) d n (startOf r ws c m)) (turns-end r ws c m d n w (begins r d c m ys k) u (low-d r d c m ys k) (omega (arith, budget-is w)) over-bound) in
       let p : benchOf r (r .enable) d c m ys .report ≡ reportBy Y (Done (z .polls) (r .length)) = report-is ∙ ap (reportBy Y) (z .done) in
@@ -284,7 +287,7 @@ module _ (n : ℕ) (turns : n ≡ enough) (r : Request) (d : ℕ) (c : Chip) (m 
         each = ap (λ (v : Verdict). pollsOfPages false 0 (benchBy ourDriver (ours (factsOf (r .part)) (r .enable)) r d c m ys v .events)) (k .fine)
             ∙ (ap (λ (i : ℕ). pollsOfPages false 0 (tapeEventsOf ourDriver (ours (factsOf (r .part)) (r .enable)) d i (startOf r ws c m))) (sym turns)
             ∙ pages-exact r ws c m d n w (begins r d c m ys k) u (low-d r d c m ys k) (omega (arith, budget-is w)) (z .polls) (r .length) (z .done));
-        clocks = sym (replayed r (r .enable) d c m ys .clocks)
+        clocks = sym (replayed (callOf r d c m ys) .clocks)
             ∙ (done-clocks r ys _ _ _ _ (begins r d c m ys k .accepted) v (ap (λ (y : Report). y .verdict) p) w ∙ ap (λ (i : ℕ). 9 * (kOf r * (1 + addressBytes r) + r .length + i)) q);
       }
 
@@ -296,7 +299,7 @@ module _ (n : ℕ) (turns : n ≡ enough) (r : Request) (d : ℕ) (c : Chip) (m 
       each-cycle M c false (benchOf r (r .enable) d c m ys .events)
       (subst (λ (v : Verdict). Each M c false (benchBy ourDriver M r d c m ys v .events)) (sym (k .fine)) (subst (λ (i : ℕ). Each M c false (tapeEventsOf ourDriver M d i (startOf r ws c m))) turns t))
 
-  uses-up : r .reads ≡ false → Writable (r .place) (c .line .core) → 1 ≤ r .length → r .budget < d → UsedUp ourBench r (r .enable) d c m ys
+  uses-up : r .reads ≡ false → Writable (r .place) (c .line .core) → 1 ≤ r .length → r .budget < d → UsedUp ourBench (callOf r d c m ys)
   uses-up w u o h =
       let z = subst (λ (y : System). (answerOf y ≡ Refused PollsUsed (allowedOf r) 0) × (y .cycles ≡ 1)) (choices-same (factsOf (r .part)) (r .enable) d n (startOf r ws c m)) (turns-refused r ws c m d n w (begins r d c m ys k) u o (omega (arith, budget-is w)) over-bound) in
       let p : benchOf r (r .enable) d c m ys .report ≡ reportBy Y (Refused PollsUsed (allowedOf r) 0) = report-is ∙ ap (reportBy Y) (z .0) in
@@ -307,15 +310,15 @@ module _ (n : ℕ) (turns : n ≡ enough) (r : Request) (d : ℕ) (c : Chip) (m 
         cycles = ap (λ (y : Report). y .cycles) p ∙ z .1;
       }
 
-  protects : r .reads ≡ false → Shut (r .place) (c .line .core) → 1 ≤ r .length → Protected ourBench r (r .enable) d c m ys
+  protects : r .reads ≡ false → Shut (r .place) (c .line .core) → 1 ≤ r .length → Protected ourBench (callOf r d c m ys)
   protects w u o =
       let z = shut-refused r ws c m bs w (begins r d c m ys k) u o (subst (λ (i : ℕ). boundOf r < i) (sym (choices-asked (factsOf (r .part)) (r .enable) d n (startOf r ws c m))) over-bound) in
       let p : benchOf r (r .enable) d c m ys .report ≡ reportBy Y (Refused NoData 0 0) = report-is ∙ ap (reportBy Y) (z .0) in
       record { refused = ap (λ (y : Report). y .verdict) p; bytes = ap (λ (y : Report). y .bytes) p; cycles = ap (λ (y : Report). y .cycles) p ∙ z .2; memory = memory-is ∙ z .1 }
 
-untouched : (r : Request) (en d : ℕ) (c : Chip) (m : Mem) (ys : List ℕ) (x : Refusal) → benchVerdict r en d c m ys ≡ Judged x → Untouched ourBench r en d c m ys x
-untouched r en d c m ys x e =
-    let p = ap (benchBy ourDriver (ours (factsOf (r .part)) en) r d c m ys) e in
+untouched : RefusesKept ourBench
+untouched k x e =
+    let p = ap (benchBy ourDriver (ours (factsOf (k .request .part)) (k .own)) (k .request) (k .d) (k .chip) (k .mem) (k .buffer)) e in
     record {
       verdict = ap (λ (y : BenchLeft). y .report .verdict) p;
       chip = ap (λ (y : BenchLeft). y .report .chip) p;
@@ -330,10 +333,10 @@ untouched r en d c m ys x e =
     }
 
 -- the memories keep their lengths
-kept-sizes : (r : Request) (d : ℕ) (c : Chip) (m : Mem) (ys : List ℕ) → Written ourBench r (r .enable) d c m ys → (t : Target) → length (cellsOf t (ourBench .memory r (r .enable) d c m ys)) ≡ length (cellsOf t m)
+kept-sizes : (r : Request) (d : ℕ) (c : Chip) (m : Mem) (ys : List ℕ) → Written ourBench (callOf r d c m ys) → (t : Target) → length (cellsOf t (ourBench .memory (callOf r d c m ys))) ≡ length (cellsOf t m)
 kept-sizes r d c m ys z t =
-    ⊎-elim (λ e. subst (λ (u : Target). length (cellsOf u (ourBench .memory r (r .enable) d c m ys)) ≡ length (cellsOf u m)) (sym e) (z .sizes))
-    (λ e. subst (λ (u : Target). length (cellsOf u (ourBench .memory r (r .enable) d c m ys)) ≡ length (cellsOf u m)) (sym e) (ap (λ (l : List ℕ). length l) (z .other)))
+    ⊎-elim (λ e. subst (λ (u : Target). length (cellsOf u (ourBench .memory (callOf r d c m ys))) ≡ length (cellsOf u m)) (sym e) (z .sizes))
+    (λ e. subst (λ (u : Target). length (cellsOf u (ourBench .memory (callOf r d c m ys))) ≡ length (cellsOf u m)) (sym e) (ap (λ (l : List ℕ). length l) (z .other)))
     (either (targetOf (r .place)) t)
 
 -- the same request as a read is not refused either
@@ -358,18 +361,18 @@ unfolding lateOf
 late-not e lo hi = rw (le-ltb e 1 lo, le-ltb 65535 e hi) refl
 
 -- the read is not refused
-read-fine : (r : Request) (d e : ℕ) (c : Chip) (m : Mem) (ys zs : List ℕ) → Called r d c m ys → Typed c → r .reads ≡ false → 1 ≤ e → e ≤ 65535 → r .length ≤ length zs
-    → benchVerdict (readOf r) (r .enable) e (ourBench .report r (r .enable) d c m ys .chip) (ourBench .memory r (r .enable) d c m ys) zs ≡ Fine
+read-fine : (r : Request) (d e : ℕ) (c : Chip) (m : Mem) (ys zs : List ℕ) → Called (callOf r d c m ys) → Typed c → r .reads ≡ false → 1 ≤ e → e ≤ 65535 → r .length ≤ length zs
+    → benchVerdict (readOf r) (r .enable) e (ourBench .report (callOf r d c m ys) .chip) (ourBench .memory (callOf r d c m ys)) zs ≡ Fine
 read-fine r d e c m ys zs k typed w lo hi room =
     let f = factsOf (r .part) in
     let z = written enough refl r d c m ys k w in
     let no = none r d c m ys k in
-    let b : buffersRightOf f (length (ourBench .memory r (r .enable) d c m ys .cells)) (length (ourBench .memory r (r .enable) d c m ys .ident)) ≡ true =
-    ap (λ (i : ℕ). buffersRightOf f i (length (ourBench .memory r (r .enable) d c m ys .ident))) (kept-sizes r d c m ys z TheArray)
+    let b : buffersRightOf f (length (ourBench .memory (callOf r d c m ys) .cells)) (length (ourBench .memory (callOf r d c m ys) .ident)) ≡ true =
+    ap (λ (i : ℕ). buffersRightOf f i (length (ourBench .memory (callOf r d c m ys) .ident))) (kept-sizes r d c m ys z TheArray)
     ∙ (ap (buffersRightOf f (length (m .cells))) (kept-sizes r d c m ys z TheIdent) ∙ no .held .lent)
     in
-    let g : inRangeOf f (ourBench .report r (r .enable) d c m ys .chip) ≡ true = in-range enough refl r d c m ys k typed in
-    granted-fine (readOf r) (r .enable) e (ourBench .report r (r .enable) d c m ys .chip) (length (ourBench .memory r (r .enable) d c m ys .cells)) (length (ourBench .memory r (r .enable) d c m ys .ident)) (length zs)
+    let g : inRangeOf f (ourBench .report (callOf r d c m ys) .chip) ≡ true = in-range enough refl r d c m ys k typed in
+    granted-fine (readOf r) (r .enable) e (ourBench .report (callOf r d c m ys) .chip) (length (ourBench .memory (callOf r d c m ys) .cells)) (length (ourBench .memory (callOf r d c m ys) .ident)) (length zs)
     record {
       asked = judged-read r (no .asked);
       held = record { known = no .held .known; enabled = no .held .enabled; lent = b; ranged = g };
@@ -378,36 +381,45 @@ read-fine r d e c m ys zs k typed w lo hi room =
       ends = late-not e lo hi;
     }
 
-reads-back : (r : Request) (d e : ℕ) (c : Chip) (m : Mem) (ys zs : List ℕ) → Called r d c m ys → Typed c → r .reads ≡ false → ourBench .report r (r .enable) d c m ys .verdict ≡ Fine
-    → 1 ≤ e → e ≤ 65535 → r .length ≤ length zs → AllBelow 256 zs
-    → ourBench .buffer (readOf r) (r .enable) e (ourBench .report r (r .enable) d c m ys .chip) (ourBench .memory r (r .enable) d c m ys) zs ≡ ys ++ drop (r .length) zs
-reads-back r d e c m ys zs k typed w done lo hi fits lent =
+reads-back : (r : Request) (d e : ℕ) (c : Chip) (m : Mem) (ys zs : List ℕ) → Called (callOf r d c m ys) → Typed c → r .reads ≡ false → ourBench .report (callOf r d c m ys) .verdict ≡ Fine
+    → Room (callOf r d c m ys) e zs → ourBench .buffer (readBack ourBench (callOf r d c m ys) e zs) ≡ ys ++ drop (r .length) zs
+reads-back r d e c m ys zs k typed w done room′ =
     let z = written enough refl r d c m ys k w in
-    let v = read-fine r d e c m ys zs k typed w lo hi fits in
+    let v = read-fine r d e c m ys zs k typed w (room′ .low) (room′ .high) (room′ .long) in
     let x = fromOf (r .place) in
-    let s = cellsOf (targetOf (r .place)) (ourBench .memory r (r .enable) d c m ys) in
+    let s = cellsOf (targetOf (r .place)) (ourBench .memory (callOf r d c m ys)) in
     let n = write-long r d c m ys k w in
     let a = z .done done in
     let room = room-is r c m (sane r (take (r .length) ys) c m (begins r d c m ys k) .good) (begins r d c m ys k .idle) in
     let size = z .sizes in
-    let t = taken enough refl (readOf r) e (ourBench .report r (r .enable) d c m ys .chip) (ourBench .memory r (r .enable) d c m ys) zs (record { fine = v; idle = z .idle done; stored = z .stored; lent = lent }) refl in
+    let t = taken enough refl (readOf r) e (ourBench .report (callOf r d c m ys) .chip) (ourBench .memory (callOf r d c m ys)) zs (record { fine = v; enabled = refl; idle = z .idle done; stored = z .stored; lent = room′ .bytes }) refl in
     t .buffer
     ∙ ap (λ (l : List ℕ). l ++ drop (r .length) zs)
     (sym (ext-getD 0 ys (take (r .length) (drop x s)) (omega (arith, length-take (r .length) (drop x s), length-drop x s))
     (λ i h. sym (z .reported i (omega arith)) ∙ (sym (getD-drop x s i 0) ∙ sym (getD-take (r .length) (drop x s) i 0 (omega arith))))))
 
+-- the chip's own enable is the request's
+at-own : (P : Call → Type 0) (k : Call) → Called k → (Called (callOf (k .request) (k .d) (k .chip) (k .mem) (k .buffer)) → P (callOf (k .request) (k .d) (k .chip) (k .mem) (k .buffer))) → P k
+at-own P k q f =
+    let j : ℕ → Call = λ e. record { request = k .request; own = e; d = k .d; chip = k .chip; mem = k .mem; buffer = k .buffer } in
+    subst (λ (e : ℕ). P (j e)) (sym (q .enabled)) (f (subst (λ (e : ℕ). Called (j e)) (q .enabled) q))
+
 pub bench-promises : BenchPromises ourBench
 bench-promises =
     record {
-      writes = λ r d c m ys k w. written enough refl r d c m ys k w;
-      reads = λ r d c m ys k w. taken enough refl r d c m ys k w;
-      ends = λ r d c m ys k w u h. ends enough refl r d c m ys k w u h;
-      cycle-each = λ r d c m ys k w u. each enough refl r d c m ys k w u;
-      uses-up = λ r d c m ys k w u n h. uses-up enough refl r d c m ys k w u n h;
-      reads-back = reads-back;
-      protects = λ r d c m ys k w u n. protects enough refl r d c m ys k w u n;
+      writes = λ k q w. at-own (Written ourBench) k q (λ q′. written enough refl (k .request) (k .d) (k .chip) (k .mem) (k .buffer) q′ w);
+      reads = λ k q w. at-own (ReadThere ourBench) k q (λ q′. taken enough refl (k .request) (k .d) (k .chip) (k .mem) (k .buffer) q′ w);
+      reads-back = λ k e zs q t w v s.
+          at-own (λ j. ourBench .report j .verdict ≡ Fine → Room j e zs → ourBench .buffer (readBack ourBench j e zs) ≡ k .buffer ++ drop (k .request .length) zs) k q
+          (λ q′ v′ s′. reads-back (k .request) (k .d) e (k .chip) (k .mem) (k .buffer) zs q′ t w v′ s′) v s;
+      ends = λ k q a h. at-own (Ended ourBench) k q (λ q′. ends enough refl (k .request) (k .d) (k .chip) (k .mem) (k .buffer) q′ (a .writes) (a .writable) h);
+      cycle-each = λ k q a.
+          at-own (λ j. CycleEach (ours (factsOf (j .request .part)) (j .own)) (j .chip) (ourBench .events j)) k q
+          (λ q′. each enough refl (k .request) (k .d) (k .chip) (k .mem) (k .buffer) q′ (a .writes) (a .writable));
+      uses-up = λ k q a n h. at-own (UsedUp ourBench) k q (λ q′. uses-up enough refl (k .request) (k .d) (k .chip) (k .mem) (k .buffer) q′ (a .writes) (a .writable) n h);
+      protects = λ k q a n. at-own (Protected ourBench) k q (λ q′. protects enough refl (k .request) (k .d) (k .chip) (k .mem) (k .buffer) q′ (a .writes) (a .shut) n);
       refuses = untouched;
-      drives = driven;
-      ends-at = ends-at;
+      drives = λ k f. driven (k .request) (k .own) (k .d) (k .chip) (k .mem) (k .buffer) f;
+      ends-at = λ k. ends-at (k .request) (k .own) (k .d) (k .chip) (k .mem) (k .buffer);
       replays = replayed;
     }

@@ -1,8 +1,8 @@
 -- Each run that only seems to work breaks the promise that is named, by one byte on a chip as delivered.
 -- Assumes nothing.
-use Prim.Native.Nat.{ℕ, zero, suc}
+use Prim.Native.Nat.{ℕ, zero, suc, _<_}
 use mathlib.Core.Path.{_≡_, refl, sym, _∙_, ap}
-use mathlib.Core.Bool.{Bool, true, false, false≢true}
+use mathlib.Core.Bool.{Bool, true, false, cond, false≢true}
 use mathlib.Core.List.{List, [], _∷_, _++_}
 use lib.ListN.{length, getD, replicate}
 use native.Mathlib.Omega.{arith}
@@ -44,28 +44,12 @@ use Rattle.bench.specs.Together.{System, askedOf, cycleEndedOf, endDueOf, turnO
 use Rattle.bench.specs.Tape.{sendsOf}
 use Rattle.bench.specs.declared.Report.{Report}
 use Rattle.bench.specs.Calls.{otherLengthOf, shortOf, lateOf, reportBy, benchVerdictOf, benchVerdict}
-use Rattle.bench_promises.specs.Ends.{Writable}
-use Rattle.bench_promises.specs.Calls.{Bench, ourBench, Called}
+use Rattle.bench_promises.specs.Calls.{Call, Bench, benchUnder, ourBench, verdictOf, Called, Allowed, WritesKept, ReadsKept, ReadsBackKept, EndsKept, RefusesKept, ReplaysKept}
 use Rattle.bench_promises.specs.Numbers.{Judge, BenchNumbers}
-use Rattle.bench_promises.specs.Idle.{refusingJudge, benchUnder, OursUnder, WritesKept, ReadsKept, ReadsBackKept, EndsKept, RefusesKept, ReplaysKept, EachIsPromised, refusingBench, RefusingRunBreaks, ConstantRunBreaks, forgetful, ForgetfulRunBreaks, InventingRunBreaks, CountsFromTape, RunInventsNothing, boasting, blind, untold, OtherRunsBreak}
+use Rattle.bench_promises.specs.Idle.{refusingJudge, refusingBench, RefusingRunBreaks, ConstantRunBreaks, forgetful, ForgetfulRunBreaks, counting, inventingDone, InventingRunBreaks, CountsFromTape, RunInventsNothing, boasting, blind, untold, OtherRunsBreak}
 use Rattle.bench_promises.proofs.Calls.{bench-promises}
 use Rattle.bench_promises.proofs.Recount.{same-events}
 use Rattle.bench_promises.proofs.Rest.{says, Rests, after, report-is, memory-is, buffer-is}
-
-pub ours-under : OursUnder
-ours-under = refl
-
-pub each-is-promised : EachIsPromised
-each-is-promised =
-    record {
-      writes = λ B p. p .writes;
-      reads = λ B p. p .reads;
-      reads-back = λ B p. p .reads-back;
-      ends = λ B p. p .ends;
-      uses-up = λ B p. p .uses-up;
-      refuses = λ B p. p .refuses;
-      replays = λ B p. p .replays;
-    }
 
 -- one byte at 0 of part 0, budget 1: a write or a read
 abbrev one : Bool → Request
@@ -80,6 +64,10 @@ mem₀ = mem (replicate 2048 255) (replicate 16 255)
 abbrev byte : List ℕ
 byte = 90 ∷ []
 
+-- that call on a chip as delivered
+abbrev call : Bool → ℕ → Call
+call reads d = record { request = one reads; own = 0; d = d; chip = chip₀; mem = mem₀; buffer = byte }
+
 same-bytes : (n : ℕ) → AllBelow 256 (replicate n 255)
 same-bytes zero = tt
 same-bytes (suc n) = (omega arith, same-bytes n)
@@ -92,26 +80,26 @@ both TheArray = same-bytes 2048
 both TheIdent = same-bytes 16
 
 -- read, or written with a cycle that ends before the first poll, or written with one that ends too late
-called : Called (one true) 1 chip₀ mem₀ byte × Called (one false) 1 chip₀ mem₀ byte × Called (one false) 2 chip₀ mem₀ byte
+called : Called (call true 1) × Called (call false 1) × Called (call false 2)
 unfolding benchVerdictOf judgeOf otherLengthOf shortOf lateOf soonerOf lentVerdictOf heldVerdictOf factsOf idSizeOf enableRightOf buffersRightOf marksRightOf pinRightOf lockRightOf phaseRightOf restRightOf inRangeOf beyondAt limitOf standbyOf pinAtFirstOf noLatch
 called = (
-  record { fine = refl; idle = refl; stored = both; lent = one-byte },
-  record { fine = refl; idle = refl; stored = both; lent = one-byte },
-  record { fine = refl; idle = refl; stored = both; lent = one-byte },
+  record { fine = refl; enabled = refl; idle = refl; stored = both; lent = one-byte },
+  record { fine = refl; enabled = refl; idle = refl; stored = both; lent = one-byte },
+  record { fine = refl; enabled = refl; idle = refl; stored = both; lent = one-byte },
 )
 
-reads : Called (one true) 1 chip₀ mem₀ byte
+reads : Called (call true 1)
 reads = called .0
 
-writes : Called (one false) 1 chip₀ mem₀ byte
+writes : Called (call false 1)
 writes = called .1
 
-late : Called (one false) 2 chip₀ mem₀ byte
+late : Called (call false 2)
 late = called .2
 
-free : Writable (one false .place) (chip₀ .line .core)
+free : (d : ℕ) → Allowed (call false d)
 unfolding standbyOf pinAtFirstOf factsOf
-free = refl
+free d = record { writes = refl; writable = refl }
 
 one-page : kOf (one false) ≡ 1
 unfolding kOf pagesMetOf factsOf
@@ -121,21 +109,21 @@ one-page = refl
 
 module _ (B : Bench) where
   abbrev reported : Bool → ℕ → Report
-  reported reads d = B .report (one reads) 0 d chip₀ mem₀ byte
+  reported reads d = B .report (call reads d)
 
   ended : EndsKept B → (reported false 1 .verdict ≡ Fine) × (reported false 1 .cycles ≡ 1)
   ended p =
-      let e = p (one false) 1 chip₀ mem₀ byte writes refl free (omega arith) in
+      let e = p (call false 1) writes (free 1) (omega arith) in
       (e .done, e .cycles ∙ one-page)
 
-  stored : WritesKept B → (d : ℕ) → Called (one false) d chip₀ mem₀ byte → reported false d .bytes ≡ 1 → getD (B .memory (one false) 0 d chip₀ mem₀ byte .cells) 0 0 ≡ 90
-  stored p d k e = p (one false) d chip₀ mem₀ byte k refl .reported 0 (omega (arith, e))
+  stored : WritesKept B → (d : ℕ) → Called (call false d) → reported false d .bytes ≡ 1 → getD (B .memory (call false d) .cells) 0 0 ≡ 90
+  stored p d k e = p (call false d) k refl .reported 0 (omega (arith, e))
 
-  read : ReadsKept B → getD (B .buffer (one true) 0 1 chip₀ mem₀ byte) 0 0 ≡ 255
-  read p = ap (λ (l : List ℕ). getD l 0 0) (p (one true) 1 chip₀ mem₀ byte reads refl .buffer)
+  read : ReadsKept B → getD (B .buffer (call true 1)) 0 0 ≡ 255
+  read p = ap (λ (l : List ℕ). getD l 0 0) (p (call true 1) reads refl .buffer)
 
   read-done : ReadsKept B → reported true 1 .verdict ≡ Fine
-  read-done p = p (one true) 1 chip₀ mem₀ byte reads refl .done
+  read-done p = p (call true 1) reads refl .done
 
 refused : (x : Refusal) (v : Verdict) → v ≡ Judged x → v ≡ Fine → ⊥
 refused x v e f = false≢true (ap isFine (sym e ∙ f))
@@ -143,17 +131,25 @@ refused x v e f = false≢true (ap isFine (sym e ∙ f))
 -- ---- what refuses everything
 
 -- no part, and no enable of part 0
-abbrev astray : ℕ → ℕ → Request
-astray part enable = record { part = part; enable = enable; place = Array (record { 0 = 0 }); reads = true; length = 1; budget = 1 }
+abbrev astray : ℕ → ℕ → Call
+astray part enable =
+    record {
+      request = record { part = part; enable = enable; place = Array (record { 0 = 0 }); reads = true; length = 1; budget = 1 };
+      own = 0;
+      d = 1;
+      chip = chip₀;
+      mem = mem₀;
+      buffer = byte;
+    }
 
-two-numbers : (benchVerdict (astray 6 0) 0 1 chip₀ mem₀ byte ≡ Judged NoPart) × (benchVerdict (astray 0 1) 0 1 chip₀ mem₀ byte ≡ Judged WrongEnable)
+two-numbers : (verdictOf (astray 6 0) ≡ Judged NoPart) × (verdictOf (astray 0 1) ≡ Judged WrongEnable)
 unfolding benchVerdictOf judgeOf otherLengthOf shortOf lateOf soonerOf lentVerdictOf heldVerdictOf factsOf idSizeOf enableRightOf buffersRightOf marksRightOf pinRightOf lockRightOf phaseRightOf restRightOf inRangeOf beyondAt limitOf standbyOf pinAtFirstOf noLatch
 two-numbers = (refl, refl)
 
 table-breaks : (x : Refusal) → RefusesKept (refusingBench x) → ⊥
 table-breaks x p =
-    let a : numberOf x ≡ 1 = ap verdictNumberOf (p (astray 6 0) 0 1 chip₀ mem₀ byte NoPart (two-numbers .0) .verdict) in
-    let b : numberOf x ≡ 2 = ap verdictNumberOf (p (astray 0 1) 0 1 chip₀ mem₀ byte WrongEnable (two-numbers .1) .verdict) in
+    let a : numberOf x ≡ 1 = ap verdictNumberOf (p (astray 6 0) NoPart (two-numbers .0) .verdict) in
+    let b : numberOf x ≡ 2 = ap verdictNumberOf (p (astray 0 1) WrongEnable (two-numbers .1) .verdict) in
     omega (arith, a, b)
 
 in-order : (judge : Judge) → BenchNumbers judge → verdictNumberOf (judge (one true) 0 1 chip₀ mem₀ byte) ≡ 0
@@ -172,7 +168,7 @@ unfolding endDueOf turnsOf
 rests-refusing x true = record { due = refl; sent = refl }
 rests-refusing x false = record { due = refl; sent = refl }
 
-refusing-driver : (x : Refusal) (reads : Bool) → Called (one reads) 1 chip₀ mem₀ byte → reported (benchUnder (refusingDriver x) ours) reads 1 .verdict ≡ Judged x
+refusing-driver : (x : Refusal) (reads : Bool) → Called (call reads 1) → reported (benchUnder (refusingDriver x) ours) reads 1 .verdict ≡ Judged x
 refusing-driver x reads k =
     ap (λ (p : Report). p .verdict) (report-is (refusingDriver x) ours (one reads) 1 chip₀ mem₀ byte 0 (k .fine) (omega arith) (rests-refusing x reads))
 
@@ -198,17 +194,17 @@ record Ran (M : Facts → ℕ → Model) (reads : Bool) (d : ℕ) (a : Answer) :
   answer : says ourDriver (ran M reads d) ≡ a
   over : sendsOf a ≡ false
 
-module _ (M : Facts → ℕ → Model) (reads : Bool) (d : ℕ) (a : Answer) (k : Called (one reads) d chip₀ mem₀ byte) (h : Ran M reads d a) where
+module _ (M : Facts → ℕ → Model) (reads : Bool) (d : ℕ) (a : Answer) (k : Called (call reads d)) (h : Ran M reads d a) where
   rests : Rests ourDriver d (ran M reads d)
   rests = record { due = h .due; sent = ap sendsOf (h .answer) ∙ h .over }
 
   ran-report : reported (benchUnder ourDriver M) reads d ≡ reportBy (ran M reads d) a
   ran-report = report-is ourDriver M (one reads) d chip₀ mem₀ byte 45 (k .fine) (omega arith) rests ∙ ap (reportBy (ran M reads d)) (h .answer)
 
-  ran-memory : benchUnder ourDriver M .memory (one reads) 0 d chip₀ mem₀ byte ≡ ran M reads d .mem
+  ran-memory : benchUnder ourDriver M .memory (call reads d) ≡ ran M reads d .mem
   ran-memory = memory-is ourDriver M (one reads) d chip₀ mem₀ byte 45 (k .fine) (omega arith) rests
 
-  ran-buffer : benchUnder ourDriver M .buffer (one reads) 0 d chip₀ mem₀ byte ≡ ran M reads d .buffer ++ []
+  ran-buffer : benchUnder ourDriver M .buffer (call reads d) ≡ ran M reads d .buffer ++ []
   ran-buffer = buffer-is ourDriver M (one reads) d chip₀ mem₀ byte 45 (k .fine) (omega arith) rests
 
 -- written by the chip that stores nothing, then read from where that leaves the chip
@@ -264,7 +260,7 @@ module _ (M : Facts → ℕ → Model) where
   read-there : ReadsKept (benchUnder ourDriver M) → (a : Answer) → Ran M true 1 a → getD (ran M true 1 .buffer ++ []) 0 0 ≡ 255
   read-there p a h = sym (ap (λ (l : List ℕ). getD l 0 0) (ran-buffer M true 1 a reads h)) ∙ read (benchUnder ourDriver M) p
 
-  stored-there : WritesKept (benchUnder ourDriver M) → (d q : ℕ) → Called (one false) d chip₀ mem₀ byte → Ran M false d (Done q 1) → getD (ran M false d .mem .cells) 0 0 ≡ 90
+  stored-there : WritesKept (benchUnder ourDriver M) → (d q : ℕ) → Called (call false d) → Ran M false d (Done q 1) → getD (ran M false d .mem .cells) 0 0 ≡ 90
   stored-there p d q k h =
       sym (ap (λ (m : Mem). getD (m .cells) 0 0) (ran-memory M false d (Done q 1) k h))
       ∙ stored (benchUnder ourDriver M) p d k (ap (λ (x : Report). x .bytes) (ran-report M false d (Done q 1) k h))
@@ -290,15 +286,22 @@ typed : Typed chip₀
 unfolding standbyOf noLatch
 typed = record { byte = omega arith; latches = refl }
 
-module _ (p : ReadsBackKept (benchUnder ourDriver forgetful)) where
-  left : benchUnder ourDriver forgetful .report (one false) 0 1 chip₀ mem₀ byte ≡ reportBy (ran forgetful false 1) (Done 1 1)
+abbrev forgets : Bench
+forgets = benchUnder ourDriver forgetful
+
+-- read, from this chip and memory
+abbrev reading : Chip → Mem → Call
+reading c m = record { request = one true; own = 0; d = 1; chip = c; mem = m; buffer = byte }
+
+module _ (p : ReadsBackKept forgets) where
+  left : forgets .report (call false 1) ≡ reportBy (ran forgetful false 1) (Done 1 1)
   left = ran-report forgetful false 1 (Done 1 1) writes (computed .forgotten)
 
-  read-back : benchUnder ourDriver forgetful .buffer (one true) 0 1 (ran forgetful false 1 .chip) (ran forgetful false 1 .mem) byte ≡ byte
+  read-back : forgets .buffer (reading (ran forgetful false 1 .chip) (ran forgetful false 1 .mem)) ≡ byte
   read-back =
-      let e = p (one false) 1 1 chip₀ mem₀ byte byte writes typed refl (ap (λ (x : Report). x .verdict) left) (omega arith) (omega arith) (omega arith) one-byte in
-      sym (ap (λ (x : Report). benchUnder ourDriver forgetful .buffer (one true) 0 1 (x .chip) (benchUnder ourDriver forgetful .memory (one false) 0 1 chip₀ mem₀ byte) byte) left
-      ∙ ap (λ (m : Mem). benchUnder ourDriver forgetful .buffer (one true) 0 1 (ran forgetful false 1 .chip) m byte) (ran-memory forgetful false 1 (Done 1 1) writes (computed .forgotten)))
+      let e = p (call false 1) 1 byte writes typed refl (ap (λ (x : Report). x .verdict) left) (record { low = omega arith; high = omega arith; long = omega arith; bytes = one-byte }) in
+      sym (ap (λ (x : Report). forgets .buffer (reading (x .chip) (forgets .memory (call false 1)))) left
+      ∙ ap (λ (m : Mem). forgets .buffer (reading (ran forgetful false 1 .chip) m)) (ran-memory forgetful false 1 (Done 1 1) writes (computed .forgotten)))
       ∙ e
 
   read-other : getD (again .buffer ++ []) 0 0 ≡ 90
@@ -315,43 +318,52 @@ forgetful-run-breaks =
 
 -- ---- invented counts
 
+done-polls : (k : ℕ) → 0 < k → EndsKept (inventingDone k) → ⊥
+done-polls k h p =
+    let q = ourBench .report (call false 1) in
+    let a = p (call false 1) writes (free 1) (omega arith) .polls in
+    let b = bench-promises .ends (call false 1) writes (free 1) (omega arith) in
+    let e = ap {B = ℕ} (λ (x : Bool). cond x (counting 0 k q) q .polls) (ap isFine (b .done)) in
+    omega (arith, h, a, b .polls, e)
+
 pub inventing-run-breaks : InventingRunBreaks
 inventing-run-breaks =
     record {
       cycles = λ n k h p.
-          (let a = p (one false) 0 1 chip₀ mem₀ byte .cycles in
-          let b = bench-promises .replays (one false) 0 1 chip₀ mem₀ byte .cycles in
+          (let a = p (call false 1) .cycles in
+          let b = bench-promises .replays (call false 1) .cycles in
           omega (arith, h, a, b));
-      read-polls = λ n k h p. (let a = p (one true) 1 chip₀ mem₀ byte reads refl .polls in omega (arith, h, a));
+      read-polls = λ n k h p. (let a = p (call true 1) reads refl .polls in omega (arith, h, a));
       write-polls = λ n k h p.
-          (let a = p (one false) 2 chip₀ mem₀ byte late refl free (omega arith) (omega arith) .polls in
-          let b = bench-promises .uses-up (one false) 2 chip₀ mem₀ byte late refl free (omega arith) (omega arith) .polls in
+          (let a = p (call false 2) late (free 2) (omega arith) (omega arith) .polls in
+          let b = bench-promises .uses-up (call false 2) late (free 2) (omega arith) (omega arith) .polls in
           omega (arith, h, a, b));
+      done-polls = done-polls;
       none-begun = λ p.
           (let a = ended (benchUnder ourDriver silent) p .1 in
           let b = ap (λ (x : Report). x .cycles) (ran-report silent false 1 (Done 1 1) writes (computed .none-begun)) in
           omega (arith, a, b, computed .none));
       one-each = λ p.
-          (let a = p (one true) 1 chip₀ mem₀ byte reads refl .cycles in
+          (let a = p (call true 1) reads refl .cycles in
           let b = ap (λ (x : Report). x .cycles) (ran-report busy true 1 (Done 0 1) reads (computed .one-each)) in
           omega (arith, a, b, computed .events));
     }
 
 pub counts-from-tape : CountsFromTape
-counts-from-tape B p r en d c m ys e =
-    let a = p r en d c m ys in
-    let b = bench-promises .replays r en d c m ys in
-    (sym (a .cycles) ∙ (ap (cyclesOf (ours (factsOf (r .part)) en) c) e ∙ b .cycles), sym (a .clocks) ∙ (ap clocksIn e ∙ b .clocks))
+counts-from-tape B p k e =
+    let a = p k in
+    let b = bench-promises .replays k in
+    (sym (a .cycles) ∙ (ap (cyclesOf (ours (factsOf (k .request .part)) (k .own)) (k .chip)) e ∙ b .cycles), sym (a .clocks) ∙ (ap clocksIn e ∙ b .clocks))
 
 pub run-invents-nothing : RunInventsNothing
-run-invents-nothing count p r en d c m ys =
-    counts-from-tape (benchUnder ourDriver (inventingModel count)) p r en d c m ys (same-events ourDriver count r en d c m ys) .0
+run-invents-nothing count p k =
+    counts-from-tape (benchUnder ourDriver (inventingModel count)) p k (same-events ourDriver count (k .request) (k .own) (k .d) (k .chip) (k .mem) (k .buffer)) .0
 
 -- ---- more of the kind
 
-untold-none : ReplaysKept untold → 0 ≡ ourBench .report (one false) 0 1 chip₀ mem₀ byte .cycles
+untold-none : ReplaysKept untold → 0 ≡ ourBench .report (call false 1) .cycles
 unfolding cyclesOf
-untold-none p = p (one false) 0 1 chip₀ mem₀ byte .cycles
+untold-none p = p (call false 1) .cycles
 
 pub other-runs-break : OtherRunsBreak
 other-runs-break =

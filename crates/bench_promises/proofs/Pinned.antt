@@ -24,9 +24,8 @@ use Rattle.driver_promises.specs.Promises.{Accepted, after, answers}
 use Rattle.driver_promises.proofs.Promises.{promises}
 use Rattle.bench.specs.declared.Report.{Report}
 use Rattle.bench.specs.Together.{System}
-use Rattle.bench.specs.Calls.{benchVerdict}
 use Rattle.bench_promises.specs.Tape.{withoutEnds, levelsHeard, toldOf, Reports, oddAfter, isPoll, triesAfter, endsPut}
-use Rattle.bench_promises.specs.Calls.{Bench, ourBench, BenchPromises}
+use Rattle.bench_promises.specs.Calls.{Call, Bench, ourBench, verdictOf, BenchPromises}
 use Rattle.bench_promises.specs.Pinned.{Settled, Alike, BenchPinned, OnlyOurs}
 use Rattle.bench_promises.proofs.Steps.{after-more, drives-of}
 use Rattle.bench_promises.proofs.Driven.{Coded, sends-coded, not-end}
@@ -165,14 +164,29 @@ told-same (Send e) p q x y = absurd x
 told-same (Done i n) p q x y = (x .0 ∙ sym (y .0), x .1 ∙ sym (y .1), x .2 ∙ sym (y .2))
 told-same (Refused f i n) p q x y = (x .0 ∙ sym (y .0), x .1 ∙ sym (y .1), x .2 ∙ sym (y .2))
 
-module _ (B C : Bench) (b : Settled B) (o : Settled C) (r : Request) (en d : ℕ) (c : Chip) (m : Mem) (ys : List ℕ) where
-  abbrev M₀ : Model
-  M₀ = ours (factsOf (r .part)) en
+module _ (B C : Bench) (b : Settled B) (o : Settled C) (call : Call) where
+  abbrev r : Request
+  r = call .request
 
-  refused-alike : (x : Refusal) → benchVerdict r en d c m ys ≡ Judged x → Alike B C r en d c m ys
+  abbrev c : Chip
+  c = call .chip
+
+  abbrev m : Mem
+  m = call .mem
+
+  abbrev ys : List ℕ
+  ys = call .buffer
+
+  abbrev M₀ : Model
+  M₀ = ours (factsOf (r .part)) (call .own)
+
+  abbrev its-own : verdictOf call ≡ Fine → Accepted r (take (r .length) ys)
+  its-own = accepted r (call .own) (call .d) c m ys
+
+  refused-alike : (x : Refusal) → verdictOf call ≡ Judged x → Alike B C call
   refused-alike x f =
-      let p = b .refuses r en d c m ys x f in
-      let q = o .refuses r en d c m ys x f in
+      let p = b .refuses call x f in
+      let q = o .refuses call x f in
       record {
         report = report-same _ _ (p .verdict ∙ sym (q .verdict)) (p .polls ∙ sym (q .polls)) (p .bytes ∙ sym (q .bytes)) (p .cycles ∙ sym (q .cycles)) (p .clocks ∙ sym (q .clocks)) (p .chip ∙ sym (q .chip));
         memory = p .memory ∙ sym (q .memory);
@@ -181,34 +195,34 @@ module _ (B C : Bench) (b : Settled B) (o : Settled C) (r : Request) (en d : ℕ
         levels = p .levels ∙ sym (q .levels);
       }
 
-  module _ (f : benchVerdict r en d c m ys ≡ Fine) where
+  module _ (f : verdictOf call ≡ Fine) where
     abbrev xs : List ℕ
     xs = take (r .length) ys
 
-    plays : (X : Bench) → Settled X → Plays r xs (accepted r en d c m ys f) M₀ d (begun r xs) 1 c m false 0 (withoutEnds (X .events r en d c m ys))
+    plays : (X : Bench) → Settled X → Plays r xs (its-own f) M₀ (call .d) (begun r xs) 1 c m false 0 (withoutEnds (X .events call))
     plays X s =
-        ap (λ (k : List ℕ). eventsSent ourDriver (begun r xs) (1 ∷ levelsHeard k (levelsOf M₀ c m k))) (sym (s .ends-at r en d c m ys))
-        ∙ (ap (λ (k : List ℕ). eventsSent ourDriver (begun r xs) (1 ∷ levelsHeard (X .events r en d c m ys) k)) (s .replays r en d c m ys .levels) ∙ sym (s .drives r en d c m ys f .events))
+        ap (λ (k : List ℕ). eventsSent ourDriver (begun r xs) (1 ∷ levelsHeard k (levelsOf M₀ c m k))) (sym (s .ends-at call))
+        ∙ (ap (λ (k : List ℕ). eventsSent ourDriver (begun r xs) (1 ∷ levelsHeard (X .events call) k)) (s .replays call .levels) ∙ sym (s .drives call f .events))
 
-    same-events : B .events r en d c m ys ≡ C .events r en d c m ys
+    same-events : B .events call ≡ C .events call
     same-events =
-        b .ends-at r en d c m ys
-        ∙ (ap (endsPut d false 0) (one-tape r xs (accepted r en d c m ys f) M₀ d _ _ (begun r xs) 1 c m false 0 (record { levels = []; run = refl }) (plays B b) (plays C o)) ∙ sym (o .ends-at r en d c m ys))
+        b .ends-at call
+        ∙ (ap (endsPut (call .d) false 0) (one-tape r xs (its-own f) M₀ (call .d) _ _ (begun r xs) 1 c m false 0 (record { levels = []; run = refl }) (plays B b) (plays C o)) ∙ sym (o .ends-at call))
 
-    same-levels : B .levels r en d c m ys ≡ C .levels r en d c m ys
-    same-levels = sym (b .replays r en d c m ys .levels) ∙ (ap (levelsOf M₀ c m) same-events ∙ o .replays r en d c m ys .levels)
+    same-levels : B .levels call ≡ C .levels call
+    same-levels = sym (b .replays call .levels) ∙ (ap (levelsOf M₀ c m) same-events ∙ o .replays call .levels)
 
-    fine-alike : Alike B C r en d c m ys
+    fine-alike : Alike B C call
     fine-alike =
-        let p = b .replays r en d c m ys in
-        let q = o .replays r en d c m ys in
-        let u = b .drives r en d c m ys f in
-        let v = o .drives r en d c m ys f in
-        let t : toldOf (B .events r en d c m ys) (B .levels r en d c m ys) ≡ toldOf (C .events r en d c m ys) (C .levels r en d c m ys) =
-        ap (λ (k : List ℕ). toldOf k (B .levels r en d c m ys)) same-events ∙ ap (toldOf (C .events r en d c m ys)) same-levels
+        let p = b .replays call in
+        let q = o .replays call in
+        let u = b .drives call f in
+        let v = o .drives call f in
+        let t : toldOf (B .events call) (B .levels call) ≡ toldOf (C .events call) (C .levels call) =
+        ap (λ (k : List ℕ). toldOf k (B .levels call)) same-events ∙ ap (toldOf (C .events call)) same-levels
         in
-        let w = told-same (answers ourDriver r xs (toldOf (C .events r en d c m ys) (C .levels r en d c m ys)) 0) _ _
-        (subst (λ (k : List ℕ). Reports (answers ourDriver r xs k 0) (B .report r en d c m ys)) t (u .answer 0)) (v .answer 0)
+        let w = told-same (answers ourDriver r xs (toldOf (C .events call) (C .levels call)) 0) _ _
+        (subst (λ (k : List ℕ). Reports (answers ourDriver r xs k 0) (B .report call)) t (u .answer 0)) (v .answer 0)
         in
         record {
           report = report-same _ _ (w .0) (w .1) (w .2)
@@ -220,11 +234,11 @@ module _ (B C : Bench) (b : Settled B) (o : Settled C) (r : Request) (en d : ℕ
         }
 
 pub bench-pinned : BenchPinned
-bench-pinned B C b o r en d c m ys = go (benchVerdict r en d c m ys) refl
+bench-pinned B C b o call = go (verdictOf call) refl
   where
-    go : (v : Verdict) → benchVerdict r en d c m ys ≡ v → Alike B C r en d c m ys
-    go Fine f = fine-alike B C b o r en d c m ys f
-    go (Judged x) f = refused-alike B C b o r en d c m ys x f
+    go : (v : Verdict) → verdictOf call ≡ v → Alike B C call
+    go Fine f = fine-alike B C b o call f
+    go (Judged x) f = refused-alike B C b o call x f
 
 settled : (B : Bench) → BenchPromises B → Settled B
 settled B p = record { refuses = p .refuses; drives = p .drives; ends-at = p .ends-at; replays = p .replays }

@@ -26,8 +26,8 @@ use Rattle.driver.specs.Machine.{ourDriver}
 use Rattle.driver_promises.specs.Run.{clocksIn}
 use Rattle.bench.specs.Together.{System, startOf, answeredBy, askedOf, cycleEndedOf, endDueOf, turnOf, turnsOf, lastOf, enough}
 use Rattle.bench.specs.Tape.{sendsOf, sentCodeOf, tapeBy, turnEvents, turnLevels, tapeEventsOf, tapeLevelsOf}
-use Rattle.bench.specs.Calls.{finalOf, reportBy, benchBy, benchVerdict}
-use Rattle.bench_promises.specs.Calls.{ourBench, Replayed}
+use Rattle.bench.specs.Calls.{finalOf, reportBy, benchBy}
+use Rattle.bench_promises.specs.Calls.{ourBench, verdictOf, ReplaysKept}
 
 clocks-append : (xs ys : List ℕ) → clocksIn (xs ++ ys) ≡ clocksIn xs + clocksIn ys
 clocks-append [] ys = omega arith
@@ -127,7 +127,7 @@ module _ (r : Request) (en d : ℕ) (c : Chip) (m : Mem) (ys : List ℕ) where
       record { state = p .state ∙ q .0; memory = p .mem; levels = p .levels; cycles = omega (arith, p .cycles, q .1); clocks = omega (arith, p .clocks, q .2) }
   by (Judged x) = record { state = refl; memory = refl; levels = refl; cycles = refl; clocks = refl }
 
-pub replayed : (r : Request) (en d : ℕ) (c : Chip) (m : Mem) (ys : List ℕ) → Replayed ourBench r en d c m ys
-replayed r en d c m ys =
-    let p = by r en d c m ys (benchVerdict r en d c m ys) in
+pub replayed : ReplaysKept ourBench
+replayed k =
+    let p = by (k .request) (k .own) (k .d) (k .chip) (k .mem) (k .buffer) (verdictOf k) in
     record { state = p .state; memory = p .memory; levels = p .levels; cycles = p .cycles; clocks = p .clocks }

@@ -34,10 +34,9 @@ use Rattle.driver.specs.Step.{readyOf, driverStepOf, countsRight, rangeOf, driv
 use Rattle.driver.specs.Machine.{ourDriver}
 use Rattle.driver_promises.specs.Promises.{sent}
 use Rattle.driver_promises.specs.Run.{pollsIn}
-use Rattle.bench.specs.Calls.{otherLengthOf, shortOf, lateOf, benchVerdictOf, benchVerdict}
-use Rattle.bench_promises.specs.Ends.{Writable}
+use Rattle.bench.specs.Calls.{otherLengthOf, shortOf, lateOf, benchVerdictOf}
 use Rattle.bench_promises.specs.Tape.{withoutEnds, oddAfter, isPoll, triesAfter, endsPut, partsEnded, CycleEach}
-use Rattle.bench_promises.specs.Calls.{ourBench, Called, EndedAll, DrivenAll, EndsAtAll, CycleEachAll}
+use Rattle.bench_promises.specs.Calls.{Call, ourBench, verdictOf, Called, Allowed, EndsKept, DrivesKept, EndsAtKept, CycleEachKept}
 use Rattle.bench_promises.specs.Strays.{aloof, lateWithin, later, oneEndMore, stopFirst, closing, StraysBreak}
 use Rattle.bench_promises.proofs.Tape.{accepted, polls-told}
 use Rattle.bench_promises.proofs.Calls.{bench-promises}
@@ -102,6 +101,13 @@ mem₀ n i = mem (replicate n 255) (replicate i 255)
 abbrev byte : List ℕ
 byte = 90 ∷ []
 
+-- on a chip of part 0; and on one of part 2 at another enable
+abbrev call : ℕ → ℕ → Call
+call budget d = record { request = one 0 budget; own = 0; d = d; chip = chip₀ 0; mem = mem₀ 2048 16; buffer = byte }
+
+abbrev other : Call
+other = record { request = one 2 1; own = 1; d = 1; chip = chip₀ 2; mem = mem₀ 8192 0; buffer = byte }
+
 same-bytes : (n : ℕ) → AllBelow 256 (replicate n 255)
 same-bytes zero = tt
 same-bytes (suc n) = (omega arith, same-bytes n)
@@ -110,60 +116,60 @@ both : (n i : ℕ) (t : Target) → AllBelow 256 (cellsOf t (mem₀ n i))
 both n i TheArray = same-bytes n
 both n i TheIdent = same-bytes i
 
-called : (budget d : ℕ) → benchVerdict (one 0 budget) 0 d (chip₀ 0) (mem₀ 2048 16) byte ≡ Fine → Called (one 0 budget) d (chip₀ 0) (mem₀ 2048 16) byte
+called : (budget d : ℕ) → verdictOf (call budget d) ≡ Fine → Called (call budget d)
 unfolding standbyOf
-called budget d f = record { fine = f; idle = refl; stored = both 2048 16; lent = (omega arith, tt) }
+called budget d f = record { fine = f; enabled = refl; idle = refl; stored = both 2048 16; lent = (omega arith, tt) }
 
-fine-one : benchVerdict (one 0 1) 0 1 (chip₀ 0) (mem₀ 2048 16) byte ≡ Fine
+fine-one : verdictOf (call 1 1) ≡ Fine
 unfolding benchVerdictOf judgeOf otherLengthOf shortOf lateOf soonerOf lentVerdictOf heldVerdictOf factsOf idSizeOf enableRightOf buffersRightOf marksRightOf pinRightOf lockRightOf phaseRightOf restRightOf inRangeOf beyondAt limitOf standbyOf pinAtFirstOf noLatch
 fine-one = refl
 
-fine-two : benchVerdict (one 0 1) 0 2 (chip₀ 0) (mem₀ 2048 16) byte ≡ Fine
+fine-two : verdictOf (call 1 2) ≡ Fine
 unfolding benchVerdictOf judgeOf otherLengthOf shortOf lateOf soonerOf lentVerdictOf heldVerdictOf factsOf idSizeOf enableRightOf buffersRightOf marksRightOf pinRightOf lockRightOf phaseRightOf restRightOf inRangeOf beyondAt limitOf standbyOf pinAtFirstOf noLatch
 fine-two = refl
 
-fine-late : (d : ℕ) → lateOf d ≡ false → benchVerdict (one 0 2) 0 d (chip₀ 0) (mem₀ 2048 16) byte ≡ Fine
+fine-late : (d : ℕ) → lateOf d ≡ false → verdictOf (call 2 d) ≡ Fine
 unfolding benchVerdictOf judgeOf otherLengthOf shortOf soonerOf lentVerdictOf heldVerdictOf factsOf idSizeOf enableRightOf buffersRightOf marksRightOf pinRightOf lockRightOf phaseRightOf restRightOf inRangeOf beyondAt limitOf standbyOf pinAtFirstOf noLatch
 fine-late d e = ap (λ (b : Bool). claimOf b BadLimit) e
 
-fine-other : benchVerdict (one 2 1) 1 1 (chip₀ 2) (mem₀ 8192 0) byte ≡ Fine
+fine-other : verdictOf other ≡ Fine
 unfolding benchVerdictOf judgeOf otherLengthOf shortOf lateOf soonerOf lentVerdictOf heldVerdictOf factsOf idSizeOf enableRightOf buffersRightOf marksRightOf pinRightOf lockRightOf phaseRightOf restRightOf inRangeOf beyondAt limitOf standbyOf pinAtFirstOf noLatch
 fine-other = refl
 
-free : Writable (one 0 1 .place) (chip₀ 0 .line .core)
+free : (budget d : ℕ) → Allowed (call budget d)
 unfolding standbyOf pinAtFirstOf factsOf
-free = refl
+free budget d = record { writes = refl; writable = refl }
 
 -- ---- aloof: our driver sends a Start
 first-sent : sent ourDriver (one 2 1) byte (1 ∷ []) 0 ≡ 2 ∷ []
 unfolding driverNextOf rangeOf driverStepOf readyOf countsRight judgeOf soonerOf factsOf idSizeOf enableRightOf beyondAt limitOf kOf allowedOf pagesMetOf
 first-sent = refl
 
-aloof-breaks : DrivenAll aloof → ⊥
-aloof-breaks p = let e = ap (λ (l : List ℕ). length l) (p (one 2 1) 1 1 (chip₀ 2) (mem₀ 8192 0) byte fine-other .events ∙ first-sent) in omega arith
+aloof-breaks : DrivesKept aloof → ⊥
+aloof-breaks p = let e = ap (λ (l : List ℕ). length l) (p other fine-other .events ∙ first-sent) in omega arith
 
 -- ---- late within the budget: one poll more
 one-page : (budget : ℕ) → kOf (one 0 budget) ≡ 1
 unfolding kOf pagesMetOf factsOf
 one-page budget = refl
 
-late-breaks : EndedAll lateWithin → ⊥
+late-breaks : EndsKept lateWithin → ⊥
 unfolding lateOf
 late-breaks p =
-    let a = p (one 0 2) 1 (chip₀ 0) (mem₀ 2048 16) byte (called 2 1 (fine-late 1 refl)) refl free (omega arith) .polls in
-    let b = bench-promises .ends (one 0 2) 2 (chip₀ 0) (mem₀ 2048 16) byte (called 2 2 (fine-late 2 refl)) refl free (omega arith) .polls in
+    let a = p (call 2 1) (called 2 1 (fine-late 1 refl)) (free 2 1) (omega arith) .polls in
+    let b = bench-promises .ends (call 2 2) (called 2 2 (fine-late 2 refl)) (free 2 2) (omega arith) .polls in
     omega (arith, one-page 2)
 
 -- ---- later: with d = 2 and budget 1 there is one poll, and no end on the tape
-later-breaks : EndsAtAll later → ⊥
+later-breaks : EndsAtKept later → ⊥
 later-breaks p =
-    let es = ourBench .events (one 0 1) 0 2 (chip₀ 0) (mem₀ 2048 16) byte in
+    let es = ourBench .events (call 1 2) in
     let k = called 1 2 fine-two in
-    let q = polls-told (one 0 1) byte _ _ es _ (accepted (one 0 1) 0 2 (chip₀ 0) (mem₀ 2048 16) byte fine-two) (bench-promises .drives (one 0 1) 0 2 (chip₀ 0) (mem₀ 2048 16) byte fine-two) in
-    let o = bench-promises .uses-up (one 0 1) 2 (chip₀ 0) (mem₀ 2048 16) byte k refl free (omega arith) (omega arith) .polls in
+    let q = polls-told (one 0 1) byte _ _ es _ (accepted (one 0 1) 0 2 (chip₀ 0) (mem₀ 2048 16) byte fine-two) (bench-promises .drives (call 1 2) fine-two) in
+    let o = bench-promises .uses-up (call 1 2) k (free 1 2) (omega arith) (omega arith) .polls in
     let n : pollsIn false (withoutEnds es) ≡ 1 = sym q ∙ o in
-    let a : es ≡ withoutEnds es = bench-promises .ends-at (one 0 1) 0 2 (chip₀ 0) (mem₀ 2048 16) byte ∙ no-ends 2 false 0 (withoutEnds es) (omega arith) in
-    let b = ap (λ (l : List ℕ). length l) (sym a ∙ p (one 0 1) 0 1 (chip₀ 0) (mem₀ 2048 16) byte) in
+    let a : es ≡ withoutEnds es = bench-promises .ends-at (call 1 2) ∙ no-ends 2 false 0 (withoutEnds es) (omega arith) in
+    let b = ap (λ (l : List ℕ). length l) (sym a ∙ p (call 1 1)) in
     omega (arith, one-end false (withoutEnds es) (omega arith))
 
 -- ---- one end more
@@ -171,16 +177,16 @@ without-last : (es : List ℕ) → withoutEnds (es ++ (4 ∷ [])) ≡ withoutEnd
 without-last [] = refl
 without-last (e ∷ es) = ap (λ (l : List ℕ). cond (eqb e 4) l (e ∷ l)) (without-last es)
 
-more-breaks : EndsAtAll oneEndMore → ⊥
+more-breaks : EndsAtKept oneEndMore → ⊥
 more-breaks p =
-    let es = ourBench .events (one 0 1) 0 1 (chip₀ 0) (mem₀ 2048 16) byte in
-    let a = p (one 0 1) 0 1 (chip₀ 0) (mem₀ 2048 16) byte ∙ (ap (endsPut 1 false 0) (without-last es) ∙ sym (bench-promises .ends-at (one 0 1) 0 1 (chip₀ 0) (mem₀ 2048 16) byte)) in
+    let es = ourBench .events (call 1 1) in
+    let a = p (call 1 1) ∙ (ap (endsPut 1 false 0) (without-last es) ∙ sym (bench-promises .ends-at (call 1 1))) in
     omega (arith, ap (λ (l : List ℕ). length l) a, length-append es (4 ∷ []))
 
 -- ---- a Stop on an idle chip begins nothing
-stop-breaks : CycleEachAll stopFirst ours → ⊥
+stop-breaks : CycleEachKept stopFirst ours → ⊥
 unfolding cyclesOf begunOf eventOf asksOf placedOf stopBegunOf standbyOf factsOf
-stop-breaks p = let z : _≡_ {A = ℕ} 0 1 = p (one 0 1) 1 (chip₀ 0) (mem₀ 2048 16) byte (called 1 1 fine-one) refl free 1 in omega arith
+stop-breaks p = let z : _≡_ {A = ℕ} 0 1 = p (call 1 1) (called 1 1 fine-one) (free 1 1) 1 in omega arith
 
 -- ---- the other Stop: where both chips keep it, no part ends
 module _ (f : Facts) (en : ℕ) where
@@ -204,16 +210,16 @@ module _ (f : Facts) (en : ℕ) where
           (λ i. (let w = q (suc i) in omega (arith, ap (λ (b : Bool). partsEnded b (take i es)) s))) in
           omega (arith, ap (λ (b : Bool). partsEnded b es) s)
 
-closing-breaks : CycleEachAll ourBench closing → ⊥
+closing-breaks : CycleEachKept ourBench closing → ⊥
 closing-breaks p =
-    let es = ourBench .events (one 0 1) 0 1 (chip₀ 0) (mem₀ 2048 16) byte in
+    let es = ourBench .events (call 1 1) in
     let k = called 1 1 fine-one in
-    let o = bench-promises .cycle-each (one 0 1) 1 (chip₀ 0) (mem₀ 2048 16) byte k refl free in
-    let n = no-parts (factsOf 0) 0 (chip₀ 0) es o (p (one 0 1) 1 (chip₀ 0) (mem₀ 2048 16) byte k refl free) in
+    let o = bench-promises .cycle-each (call 1 1) k (free 1 1) in
+    let n = no-parts (factsOf 0) 0 (chip₀ 0) es o (p (call 1 1) k (free 1 1)) in
     let w = ap (cyclesOf (ours (factsOf 0) 0) (chip₀ 0)) (take-all (length es) es (omega arith)) in
     let v = ap (partsEnded false) (take-all (length es) es (omega arith)) in
-    let r = bench-promises .replays (one 0 1) 0 1 (chip₀ 0) (mem₀ 2048 16) byte .cycles in
-    let c = bench-promises .ends (one 0 1) 1 (chip₀ 0) (mem₀ 2048 16) byte k refl free (omega arith) .cycles in
+    let r = bench-promises .replays (call 1 1) .cycles in
+    let c = bench-promises .ends (call 1 1) k (free 1 1) (omega arith) .cycles in
     omega (arith, o (length es), one-page 1)
 
 pub strays-break : StraysBreak

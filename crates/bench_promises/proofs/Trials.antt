@@ -25,7 +25,7 @@ use Rattle.driver_promises.specs.Run.{addressBytes}
 use Rattle.bench.specs.Together.{askedOf, cycleEndedOf, endDueOf, turnOf, turnsOf}
 use Rattle.bench.proofs.Laws.{granted}
 use Rattle.bench_promises.specs.Calls.{Called}
-use Rattle.bench_promises.specs.Trials.{ranAt30, doneWith, around30, driverTrials, TrialsRight, wholeArray, WholeArray}
+use Rattle.bench_promises.specs.Trials.{ranAt30, doneWith, around30, driverTrials, TrialsRight, wholeArray, wholeArrayOn, WholeArray}
 
 pub trials-right : TrialsRight
 unfolding factsOf idSizeOf enableRightOf eventOf eventRightOf soonerOf lentVerdictOf heldVerdictOf rollOf beforeOf onwardOf enabledOf namedOf decodeOf addressStartOf selectedOf loadArrayOf loadIdOf loadedOf refusesOf latchedOf filledOf lockedByOf takenOf receivedOf receiveActOf receiveLevelOf movedOf sentOf sendLevelOf clockedOf clockActOf clockLevelOf startedOf startActOf asksOf placedOf stoppedOf stopActOf stopBegunOf endedByOf endedOf endActOf pinnedOf resetOf nextOf actOf levelOf begunOf marksRightOf pinRightOf lockRightOf phaseRightOf restRightOf inRangeOf noLatch oneOf counterPageOf committedOf cycleStoredOf storedOf storeOf shownOf seenOf stateOf chipLevelOf afterOf memoryOf levelsOf cyclesOf pinAtFirstOf standbyOf codedOf deliveredIdOf deliveredOf buffersRightOf runVerdictOf bitsOf byteOf firstWrong trialRunOf trialOf sends readOne writes lastLevel acknowledged released cellIs counterIs begins sameOf endsWith chipTrials beyondAt limitOf judgeOf allowedOf kOf toPageEndOf pagesMetOf selectAt wireOf bitOf shiftOf readyOf bitsAt leadAt lowAt dataAt pollMoveOf answeredOf takeAt heardMoveOf bitsMoveOf driverStepOf countsRight rangeOf driverNextOf byteKeptOf bufferOf askedOf cycleEndedOf endDueOf turnOf turnsOf ranAt30 doneWith around30 driverTrials
@@ -41,7 +41,7 @@ unfolding addressBytesOf factsOf
 bytes budget = refl
 
 -- its budget is not refused
-some-polls : (budget : ℕ) (c : Chip) (m : Mem) (ys : List ℕ) → Called (wholeArray budget) 1 c m ys → 1 ≤ budget
+some-polls : (budget : ℕ) (c : Chip) (m : Mem) (ys : List ℕ) → Called (wholeArrayOn budget c m ys) → 1 ≤ budget
 unfolding allowedOf
 some-polls budget c m ys k =
     let a = granted (wholeArray budget) 0 1 c (length (m .cells)) (length (m .ident)) (length ys) (k .fine) .asked in
@@ -49,7 +49,7 @@ some-polls budget c m ys k =
 
 pub whole-array : WholeArray
 whole-array B p budget c m ys k u =
-    let z = p .ends (wholeArray budget) 1 c m ys k refl u (some-polls budget c m ys k) in
+    let z = p .ends (wholeArrayOn budget c m ys) k u (some-polls budget c m ys k) in
     let n = pages budget in
     record {
       done = z .done;

@@ -1,92 +1,24 @@
 -- The idle versions of document 01, 'Strength of the promises', as runs of driver and chip: each breaks the one promise that is named with it.
 -- A driver alone is in driver_promises/specs/Idle.antt, a chip alone in chip_promises/specs/Idle.antt and Invented.antt.
 -- Assumes nothing.
-use Prim.Native.Nat.{ℕ, _+_, _≤_, _<_}
+use Prim.Native.Nat.{ℕ, _+_, _<_}
 use mathlib.Core.Path.{_≡_}
-use mathlib.Core.Bool.{true, false}
-use mathlib.Core.List.{List, [], _++_}
-use lib.ListN.{length, drop}
+use mathlib.Core.Bool.{cond}
+use mathlib.Core.List.{[]}
 use Rattle.parts.specs.declared.Facts.{Facts}
 use Rattle.parts.specs.declared.Refusal.{Refusal}
 use Rattle.parts.specs.declared.Verdict.the-variants.{Fine, Refused as Judged}
-use Rattle.parts.specs.Bytes.{AllBelow}
+use Rattle.parts.specs.Refusals.{isFine}
 use Rattle.state.specs.declared.Chip.{Chip}
-use Rattle.chip.specs.Memory.{Mem}
 use Rattle.chip.specs.Model.{Model, ours}
-use Rattle.chip_laws.specs.Range.{Typed}
 use Rattle.chip_promises.specs.Idle.{constant}
 use Rattle.chip_promises.specs.Invented.{inventingModel}
-use Rattle.driver.specs.declared.Request.{Request}
-use Rattle.driver.specs.Machine.{Machine, ourDriver}
+use Rattle.driver.specs.Machine.{ourDriver}
 use Rattle.driver_promises.specs.Idle.{refusingDriver}
 use Rattle.bench.specs.declared.Report.{Report}
-use Rattle.bench.specs.Calls.{refusedBy, benchVerdict, benchOver}
-use Rattle.bench_promises.specs.Ends.{Writable}
-use Rattle.bench_promises.specs.Calls.{Bench, ourBench, Called, Written, ReadThere, Ended, UsedUp, Untouched, Replayed, readOf, BenchPromises}
+use Rattle.bench.specs.Calls.{refusedBy}
+use Rattle.bench_promises.specs.Calls.{Call, Bench, benchUnder, ourBench, WritesKept, ReadsKept, ReadsBackKept, EndsKept, UsesUpKept, RefusesKept, ReplaysKept}
 use Rattle.bench_promises.specs.Numbers.{Judge, BenchNumbers}
-
--- any driver on any chip
-abbrev pub benchUnder : Machine → (Facts → ℕ → Model) → Bench
-benchUnder D M =
-    record {
-      report = λ r en d c m ys. benchOver D M r en d c m ys .report;
-      memory = λ r en d c m ys. benchOver D M r en d c m ys .mem;
-      buffer = λ r en d c m ys. benchOver D M r en d c m ys .buffer;
-      events = λ r en d c m ys. benchOver D M r en d c m ys .events;
-      levels = λ r en d c m ys. benchOver D M r en d c m ys .levels;
-    }
-
-abbrev pub OursUnder : Type 0
-OursUnder = ourBench ≡ benchUnder ourDriver ours
-
--- ---- the promises of a run one by one: those fields of `BenchPromises` that something below breaks
-
-module _ (B : Bench) where
-  -- demand 2: "what our driver reports written is then stored"
-  abbrev pub WritesKept : Type 0
-  WritesKept = (r : Request) (d : ℕ) (c : Chip) (m : Mem) (ys : List ℕ) → Called r d c m ys → r .reads ≡ false → Written B r (r .enable) d c m ys
-
-  -- demand 2: "what it reads is what is there"
-  abbrev pub ReadsKept : Type 0
-  ReadsKept = (r : Request) (d : ℕ) (c : Chip) (m : Mem) (ys : List ℕ) → Called r d c m ys → r .reads ≡ true → ReadThere B r (r .enable) d c m ys
-
-  -- demand 2: written and read back
-  abbrev pub ReadsBackKept : Type 0
-  ReadsBackKept =
-      (r : Request) (d e : ℕ) (c : Chip) (m : Mem) (ys zs : List ℕ) → Called r d c m ys → Typed c → r .reads ≡ false
-      → B .report r (r .enable) d c m ys .verdict ≡ Fine → 1 ≤ e → e ≤ 65535 → r .length ≤ length zs → AllBelow 256 zs
-      → B .buffer (readOf r) (r .enable) e (B .report r (r .enable) d c m ys .chip) (B .memory r (r .enable) d c m ys) zs ≡ ys ++ drop (r .length) zs
-
-  -- demand 3: "ends done and not refused", with one cycle for each page
-  abbrev pub EndsKept : Type 0
-  EndsKept =
-      (r : Request) (d : ℕ) (c : Chip) (m : Mem) (ys : List ℕ) → Called r d c m ys → r .reads ≡ false → Writable (r .place) (c .line .core)
-      → d ≤ r .budget → Ended B r (r .enable) d c m ys
-
-  -- refusal 11, with the polls that the budget allows
-  abbrev pub UsesUpKept : Type 0
-  UsesUpKept =
-      (r : Request) (d : ℕ) (c : Chip) (m : Mem) (ys : List ℕ) → Called r d c m ys → r .reads ≡ false → Writable (r .place) (c .line .core)
-      → 1 ≤ r .length → r .budget < d → UsedUp B r (r .enable) d c m ys
-
-  -- a refused call gives the number of the refusal table
-  abbrev pub RefusesKept : Type 0
-  RefusesKept =
-      (r : Request) (en d : ℕ) (c : Chip) (m : Mem) (ys : List ℕ) (x : Refusal) → benchVerdict r en d c m ys ≡ Judged x → Untouched B r en d c m ys x
-
-  -- the tape is the run
-  abbrev pub ReplaysKept : Type 0
-  ReplaysKept = (r : Request) (en d : ℕ) (c : Chip) (m : Mem) (ys : List ℕ) → Replayed B r en d c m ys
-
--- so what breaks one of them breaks the whole
-pub record EachIsPromised : Type 0 where
-  pub writes : (B : Bench) → BenchPromises B → WritesKept B
-  pub reads : (B : Bench) → BenchPromises B → ReadsKept B
-  pub reads-back : (B : Bench) → BenchPromises B → ReadsBackKept B
-  pub ends : (B : Bench) → BenchPromises B → EndsKept B
-  pub uses-up : (B : Bench) → BenchPromises B → UsesUpKept B
-  pub refuses : (B : Bench) → BenchPromises B → RefusesKept B
-  pub replays : (B : Bench) → BenchPromises B → ReplaysKept B
 
 -- ---- "the chip or driver that refuses everything (refusal table, demand 2)", whichever refusal it is
 
@@ -96,13 +28,7 @@ refusingJudge x r en d c m ys = Judged x
 -- the whole run, whichever of the two refuses
 abbrev pub refusingBench : Refusal → Bench
 refusingBench x =
-    record {
-      report = λ r en d c m ys. refusedBy x c;
-      memory = λ r en d c m ys. m;
-      buffer = λ r en d c m ys. ys;
-      events = λ r en d c m ys. [];
-      levels = λ r en d c m ys. [];
-    }
+    record { report = λ k. refusedBy x (k .chip); memory = λ k. k .mem; buffer = λ k. k .buffer; events = λ k. []; levels = λ k. [] }
 
 pub record RefusingRunBreaks : Type 0 where
   -- the refusal table: a call in order has number 0, and bad calls have more numbers than one
@@ -145,15 +71,23 @@ abbrev pub counting : ℕ → ℕ → Report → Report
 counting cycles polls p =
     record { verdict = p .verdict; polls = p .polls + polls; bytes = p .bytes; cycles = p .cycles + cycles; clocks = p .clocks; chip = p .chip }
 
-abbrev pub inventingBench : ℕ → ℕ → Bench
-inventingBench cycles polls =
+-- ours, but for what its report is made into
+abbrev pub reporting : (Call → Report → Report) → Bench
+reporting f =
     record {
-      report = λ r en d c m ys. counting cycles polls (ourBench .report r en d c m ys);
+      report = λ k. f k (ourBench .report k);
       memory = ourBench .memory;
       buffer = ourBench .buffer;
       events = ourBench .events;
       levels = ourBench .levels;
     }
+
+abbrev pub inventingBench : ℕ → ℕ → Bench
+inventingBench cycles polls = reporting (λ k p. counting cycles polls p)
+
+-- only in writes that are done
+abbrev pub inventingDone : ℕ → Bench
+inventingDone polls = reporting (λ k p. cond (k .request .reads) p (cond (isFine (p .verdict)) (counting 0 polls p) p))
 
 pub record InventingRunBreaks : Type 0 where
   -- the tape begins fewer
@@ -161,6 +95,8 @@ pub record InventingRunBreaks : Type 0 where
   -- a read polls nothing; a write that is refused with 11 spent its budget
   pub read-polls : (n k : ℕ) → 0 < k → ReadsKept (inventingBench n k) → ⊥
   pub write-polls : (n k : ℕ) → 0 < k → UsesUpKept (inventingBench n k) → ⊥
+  -- and one that is done polled d times for each page
+  pub done-polls : (k : ℕ) → 0 < k → EndsKept (inventingDone k) → ⊥
   -- the chip: one that begins no cycle, and one that begins a cycle at every event
   pub none-begun : EndsKept (benchUnder ourDriver (inventingModel (λ c e. 0))) → ⊥
   pub one-each : ReadsKept (benchUnder ourDriver (inventingModel (λ c e. 1))) → ⊥
@@ -168,36 +104,32 @@ pub record InventingRunBreaks : Type 0 where
 -- whoever keeps the tape and sends what ours sends counts the cycles and the clocks that ours counts
 abbrev pub CountsFromTape : Type 0
 CountsFromTape =
-    (B : Bench) → ReplaysKept B → (r : Request) (en d : ℕ) (c : Chip) (m : Mem) (ys : List ℕ)
-    → B .events r en d c m ys ≡ ourBench .events r en d c m ys
-    → (B .report r en d c m ys .cycles ≡ ourBench .report r en d c m ys .cycles) × (B .report r en d c m ys .clocks ≡ ourBench .report r en d c m ys .clocks)
+    (B : Bench) → ReplaysKept B → (k : Call) → B .events k ≡ ourBench .events k
+    → (B .report k .cycles ≡ ourBench .report k .cycles) × (B .report k .clocks ≡ ourBench .report k .clocks)
 
 -- so does our driver on a chip that is ours but for the cycles it says it begins, whatever it says
 abbrev pub RunInventsNothing : Type 0
 RunInventsNothing =
-    (count : Chip → ℕ → ℕ) → ReplaysKept (benchUnder ourDriver (inventingModel count)) → (r : Request) (en d : ℕ) (c : Chip) (m : Mem) (ys : List ℕ)
-    → benchUnder ourDriver (inventingModel count) .report r en d c m ys .cycles ≡ ourBench .report r en d c m ys .cycles
+    (count : Chip → ℕ → ℕ) → ReplaysKept (benchUnder ourDriver (inventingModel count)) → (k : Call)
+    → benchUnder ourDriver (inventingModel count) .report k .cycles ≡ ourBench .report k .cycles
 
 -- ---- more of the kind
 
+-- all bytes done, with nothing sent
+abbrev pub claimed : Call → Report
+claimed k = record { verdict = Fine; polls = 0; bytes = k .request .length; cycles = 0; clocks = 0; chip = k .chip }
+
 -- it reports everything done, and does nothing
 abbrev pub boasting : Bench
-boasting =
-    record {
-      report = λ r en d c m ys. record { verdict = Fine; polls = 0; bytes = r .length; cycles = 0; clocks = 0; chip = c };
-      memory = λ r en d c m ys. m;
-      buffer = λ r en d c m ys. ys;
-      events = λ r en d c m ys. [];
-      levels = λ r en d c m ys. [];
-    }
+boasting = record { report = claimed; memory = λ k. k .mem; buffer = λ k. k .buffer; events = λ k. []; levels = λ k. [] }
 
 -- ours, but what was read is not in the buffer
 abbrev pub blind : Bench
-blind = record { report = ourBench .report; memory = ourBench .memory; buffer = λ r en d c m ys. ys; events = ourBench .events; levels = ourBench .levels }
+blind = record { report = ourBench .report; memory = ourBench .memory; buffer = λ k. k .buffer; events = ourBench .events; levels = ourBench .levels }
 
 -- ours, with a tape that has nothing
 abbrev pub untold : Bench
-untold = record { report = ourBench .report; memory = ourBench .memory; buffer = ourBench .buffer; events = λ r en d c m ys. []; levels = λ r en d c m ys. [] }
+untold = record { report = ourBench .report; memory = ourBench .memory; buffer = ourBench .buffer; events = λ k. []; levels = λ k. [] }
 
 pub record OtherRunsBreak : Type 0 where
   pub boasting-writes : WritesKept boasting → ⊥

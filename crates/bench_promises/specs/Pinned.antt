@@ -1,31 +1,26 @@
 -- Four of the promises of the run leave nothing open: two runs that keep them have the same tape, and answer and leave the same, for every
 -- call on every chip. So a run that differs from ours anywhere breaks one of the four.
 -- Assumes nothing.
-use Prim.Native.Nat.{ℕ}
 use mathlib.Core.Path.{_≡_}
-use mathlib.Core.List.{List}
-use Rattle.state.specs.declared.Chip.{Chip}
-use Rattle.chip.specs.Memory.{Mem}
-use Rattle.driver.specs.declared.Request.{Request}
-use Rattle.bench_promises.specs.Calls.{Bench, ourBench, UntouchedAll, DrivenAll, EndsAtAll, ReplayedAll, BenchPromises}
+use Rattle.bench_promises.specs.Calls.{Call, Bench, ourBench, RefusesKept, DrivesKept, EndsAtKept, ReplaysKept, BenchPromises}
 
 -- what a refused call leaves, whose events the others are, where their ends stand, and that the tape is the run
 pub record Settled (B : Bench) : Type 0 where
-  pub refuses : UntouchedAll B
-  pub drives : DrivenAll B
-  pub ends-at : EndsAtAll B
-  pub replays : ReplayedAll B
+  pub refuses : RefusesKept B
+  pub drives : DrivesKept B
+  pub ends-at : EndsAtKept B
+  pub replays : ReplaysKept B
 
-pub record Alike (B C : Bench) (r : Request) (en d : ℕ) (c : Chip) (m : Mem) (ys : List ℕ) : Type 0 where
-  pub report : B .report r en d c m ys ≡ C .report r en d c m ys
-  pub memory : B .memory r en d c m ys ≡ C .memory r en d c m ys
-  pub buffer : B .buffer r en d c m ys ≡ C .buffer r en d c m ys
-  pub events : B .events r en d c m ys ≡ C .events r en d c m ys
-  pub levels : B .levels r en d c m ys ≡ C .levels r en d c m ys
+pub record Alike (B C : Bench) (k : Call) : Type 0 where
+  pub report : B .report k ≡ C .report k
+  pub memory : B .memory k ≡ C .memory k
+  pub buffer : B .buffer k ≡ C .buffer k
+  pub events : B .events k ≡ C .events k
+  pub levels : B .levels k ≡ C .levels k
 
 abbrev pub BenchPinned : Type 0
-BenchPinned = (B C : Bench) → Settled B → Settled C → (r : Request) (en d : ℕ) (c : Chip) (m : Mem) (ys : List ℕ) → Alike B C r en d c m ys
+BenchPinned = (B C : Bench) → Settled B → Settled C → (k : Call) → Alike B C k
 
 -- a run that keeps the promises is ours
 abbrev pub OnlyOurs : Type 0
-OnlyOurs = (B : Bench) → BenchPromises B → (r : Request) (en d : ℕ) (c : Chip) (m : Mem) (ys : List ℕ) → Alike B ourBench r en d c m ys
+OnlyOurs = (B : Bench) → BenchPromises B → (k : Call) → Alike B ourBench k

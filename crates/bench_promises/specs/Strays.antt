@@ -1,58 +1,50 @@
 -- Runs that stray from ours on the tape: each breaks a promise, at its field.
 -- Assumes nothing.
 use Prim.Native.Nat.{ℕ, _+_, _-_}
-use mathlib.Core.Bool.{cond}
+use mathlib.Core.Bool.{Bool, cond}
 use mathlib.Core.List.{[], _∷_, _++_}
 use lib.Dec.{eqb, ltb}
 use Rattle.parts.specs.declared.Facts.{Facts}
-use Rattle.parts.specs.declared.Verdict.the-variants.{Fine}
-use Rattle.state.specs.declared.Chip.{Chip}
 use Rattle.chip.specs.Model.{Model, ours}
-use Rattle.driver.specs.declared.Request.{Request}
-use Rattle.bench.specs.declared.Report.{Report}
-use Rattle.bench_promises.specs.Calls.{Bench, ourBench, EndedAll, DrivenAll, EndsAtAll, CycleEachAll}
+use Rattle.bench_promises.specs.Calls.{Call, Bench, ourBench, EndsKept, DrivesKept, EndsAtKept, CycleEachKept}
+use Rattle.bench_promises.specs.Idle.{claimed}
 
 -- ---- `drives`: ours on a chip at the request's enable; at any other it sends nothing and reports all bytes done
 
-abbrev pub claimed : Request → Chip → Report
-claimed r c = record { verdict = Fine; polls = 0; bytes = r .length; cycles = 0; clocks = 0; chip = c }
+abbrev pub named : Call → Bool
+named k = eqb (k .own) (k .request .enable)
 
 abbrev pub aloof : Bench
 aloof =
     record {
-      report = λ r en d c m ys. cond (eqb en (r .enable)) (ourBench .report r en d c m ys) (claimed r c);
-      memory = λ r en d c m ys. cond (eqb en (r .enable)) (ourBench .memory r en d c m ys) m;
-      buffer = λ r en d c m ys. cond (eqb en (r .enable)) (ourBench .buffer r en d c m ys) ys;
-      events = λ r en d c m ys. cond (eqb en (r .enable)) (ourBench .events r en d c m ys) [];
-      levels = λ r en d c m ys. cond (eqb en (r .enable)) (ourBench .levels r en d c m ys) [];
+      report = λ k. cond (named k) (ourBench .report k) (claimed k);
+      memory = λ k. cond (named k) (ourBench .memory k) (k .mem);
+      buffer = λ k. cond (named k) (ourBench .buffer k) (k .buffer);
+      events = λ k. cond (named k) (ourBench .events k) [];
+      levels = λ k. cond (named k) (ourBench .levels k) [];
+    }
+
+-- ours, of a call with another d
+abbrev pub delayed : (Call → ℕ) → Bench
+delayed by =
+    let j : Call → Call = λ k. record { request = k .request; own = k .own; d = by k; chip = k .chip; mem = k .mem; buffer = k .buffer } in
+    record {
+      report = λ k. ourBench .report (j k);
+      memory = λ k. ourBench .memory (j k);
+      buffer = λ k. ourBench .buffer (j k);
+      events = λ k. ourBench .events (j k);
+      levels = λ k. ourBench .levels (j k);
     }
 
 -- ---- `ends`, its polls: ours, but where the budget allows one poll more each cycle ends one poll late
 
-abbrev pub lateBy : Request → ℕ → ℕ
-lateBy r d = cond (ltb d (r .budget)) (d + 1) d
-
 abbrev pub lateWithin : Bench
-lateWithin =
-    record {
-      report = λ r en d. ourBench .report r en (lateBy r d);
-      memory = λ r en d. ourBench .memory r en (lateBy r d);
-      buffer = λ r en d. ourBench .buffer r en (lateBy r d);
-      events = λ r en d. ourBench .events r en (lateBy r d);
-      levels = λ r en d. ourBench .levels r en (lateBy r d);
-    }
+lateWithin = delayed (λ k. cond (ltb (k .d) (k .request .budget)) (k .d + 1) (k .d))
 
 -- ---- `ends-at`: ours run with d + 1, so that each cycle ends one poll late; and ours with one end more, after all events
 
 abbrev pub later : Bench
-later =
-    record {
-      report = λ r en d. ourBench .report r en (d + 1);
-      memory = λ r en d. ourBench .memory r en (d + 1);
-      buffer = λ r en d. ourBench .buffer r en (d + 1);
-      events = λ r en d. ourBench .events r en (d + 1);
-      levels = λ r en d. ourBench .levels r en (d + 1);
-    }
+later = delayed (λ k. k .d + 1)
 
 abbrev pub oneEndMore : Bench
 oneEndMore =
@@ -60,8 +52,8 @@ oneEndMore =
       report = ourBench .report;
       memory = ourBench .memory;
       buffer = ourBench .buffer;
-      events = λ r en d c m ys. ourBench .events r en d c m ys ++ (4 ∷ []);
-      levels = λ r en d c m ys. ourBench .levels r en d c m ys ++ (2 ∷ []);
+      events = λ k. ourBench .events k ++ (4 ∷ []);
+      levels = λ k. ourBench .levels k ++ (2 ∷ []);
     }
 
 -- ---- `cycle-each`: a Stop before all events, so that each Stop that begins a cycle is counted as the end of polls
@@ -72,8 +64,8 @@ stopFirst =
       report = ourBench .report;
       memory = ourBench .memory;
       buffer = ourBench .buffer;
-      events = λ r en d c m ys. 3 ∷ ourBench .events r en d c m ys;
-      levels = λ r en d c m ys. 2 ∷ ourBench .levels r en d c m ys;
+      events = λ k. 3 ∷ ourBench .events k;
+      levels = λ k. 2 ∷ ourBench .levels k;
     }
 
 -- and a chip, ours but that the Stop at the end of a page's polls begins the cycle: as many in all, each at another place
@@ -87,9 +79,9 @@ closing f en =
     }
 
 pub record StraysBreak : Type 0 where
-  pub aloof : DrivenAll aloof → ⊥
-  pub late-within : EndedAll lateWithin → ⊥
-  pub later : EndsAtAll later → ⊥
-  pub one-end-more : EndsAtAll oneEndMore → ⊥
-  pub stop-first : CycleEachAll stopFirst ours → ⊥
-  pub closing : CycleEachAll ourBench closing → ⊥
+  pub aloof : DrivesKept aloof → ⊥
+  pub late-within : EndsKept lateWithin → ⊥
+  pub later : EndsAtKept later → ⊥
+  pub one-end-more : EndsAtKept oneEndMore → ⊥
+  pub stop-first : CycleEachKept stopFirst ours → ⊥
+  pub closing : CycleEachKept ourBench closing → ⊥

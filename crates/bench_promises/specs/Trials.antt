@@ -23,8 +23,7 @@ use Rattle.parts.specs.declared.Verdict.the-variants.{Fine}
 use Rattle.state.specs.declared.Chip.{Chip}
 use Rattle.chip.specs.Memory.{Mem}
 use Rattle.bench.specs.declared.Report.{Report}
-use Rattle.bench_promises.specs.Ends.{Writable}
-use Rattle.bench_promises.specs.Calls.{Bench, Called, BenchPromises}
+use Rattle.bench_promises.specs.Calls.{Call, Bench, Called, Allowed, BenchPromises}
 
 -- 11. "Part 2, 5 bytes at 30: 30..31, 32..34; with d = 1, 117 clocks"
 abbrev pub fiveBytes : List ℕ
@@ -69,6 +68,9 @@ TrialsRight = firstWrong (chipTrials ++ driverTrials) ≡ 0
 abbrev pub wholeArray : ℕ → Request
 wholeArray budget = record { part = 0; enable = 0; place = Array (record { 0 = 0 }); reads = false; length = 2048; budget = budget }
 
+abbrev pub wholeArrayOn : ℕ → Chip → Mem → List ℕ → Call
+wholeArrayOn budget c m ys = record { request = wholeArray budget; own = 0; d = 1; chip = c; mem = m; buffer = ys }
+
 pub record WholeArrayWritten (p : Report) : Type 0 where
   pub done : p .verdict ≡ Fine
   pub cycles : p .cycles ≡ 128
@@ -77,5 +79,5 @@ pub record WholeArrayWritten (p : Report) : Type 0 where
 
 abbrev pub WholeArray : Type 0
 WholeArray =
-    (B : Bench) → BenchPromises B → (budget : ℕ) (c : Chip) (m : Mem) (ys : List ℕ) → Called (wholeArray budget) 1 c m ys
-    → Writable (wholeArray budget .place) (c .line .core) → WholeArrayWritten (B .report (wholeArray budget) 0 1 c m ys)
+    (B : Bench) → BenchPromises B → (budget : ℕ) (c : Chip) (m : Mem) (ys : List ℕ) → Called (wholeArrayOn budget c m ys)
+    → Allowed (wholeArrayOn budget c m ys) → WholeArrayWritten (B .report (wholeArrayOn budget c m ys))
