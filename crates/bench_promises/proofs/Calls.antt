@@ -398,8 +398,11 @@ reads-back r d e c m ys zs k typed w done room′ =
     (sym (ext-getD 0 ys (take (r .length) (drop x s)) (omega (arith, length-take (r .length) (drop x s), length-drop x s))
     (λ i h. sym (z .reported i (omega arith)) ∙ (sym (getD-drop x s i 0) ∙ sym (getD-take (r .length) (drop x s) i 0 (omega arith))))))
 
--- the chip's own enable is the request's
-at-own : (P : Call → Type 0) (k : Call) → Called k → (Called (callOf (k .request) (k .d) (k .chip) (k .mem) (k .buffer)) → P (callOf (k .request) (k .d) (k .chip) (k .mem) (k .buffer))) → P k
+-- the chip's own enable is the request's, so the call is that of its row
+abbrev rowOf : Call → Call
+rowOf k = callOf (k .request) (k .d) (k .chip) (k .mem) (k .buffer)
+
+at-own : (P : Call → Type 0) (k : Call) → Called k → (Called (rowOf k) → P (rowOf k)) → P k
 at-own P k q f =
     let j : ℕ → Call = λ e. record { request = k .request; own = e; d = k .d; chip = k .chip; mem = k .mem; buffer = k .buffer } in
     subst (λ (e : ℕ). P (j e)) (sym (q .enabled)) (f (subst (λ (e : ℕ). Called (j e)) (q .enabled) q))
