@@ -56,7 +56,7 @@ use Rattle.bench.specs.Together.{System, startOf, clockOf, ends, answeredBy, as
 use Rattle.bench.specs.Held.{Fit}
 use Rattle.bench.specs.Tape.{sendsOf}
 use Rattle.bench.proofs.Laws.{Small, small, quiet, fine-step, fit-on}
-use Rattle.bench_promises.specs.Together.{ourRun, Begins, Session, answerOf, first, InRange, Safe, ReadRight}
+use Rattle.bench_promises.specs.Together.{ourRun, Begins, Session, answerOf, first, ChipRanged, Safe, ReadRight}
 use Rattle.bench_promises.specs.Ends.{Complete}
 use Rattle.bench_promises.specs.Trials.{fiveBytes, fiveAt30}
 use Rattle.bench_promises.specs.Accepted.{BeginAccepted, Accepts, StepsAccepted, finishedBy, steppedBy, nextCalledOf, endCalledOf, callsOf, byCalls, CallsAreRun, TrueOfCalls, CallsWriteSafe, CallsReadRight, CallsWriteEnd, refusingEnds, nineLeft, RefusedMidwayBreaks}
@@ -218,7 +218,7 @@ module _ (part en : ℕ) where
 
 -- ---- from the start
 
-module _ (r : Request) (xs : List ℕ) (c : Chip) (m : Mem) (b : Begins r xs c m) (v : InRange r c) where
+module _ (r : Request) (xs : List ℕ) (c : Chip) (m : Mem) (b : Begins r xs c m) (v : ChipRanged r c) where
   start-fits : Fits (r .part) (r .enable) (startOf r xs c m)
   unfolding enableRightOf buffersRightOf
   start-fits =
@@ -324,7 +324,7 @@ begins = record { accepted = record { fine = refl; size = refl }; bytes = below;
 abbrev choosing : List Bool → Session
 choosing bs = record { request = fiveAt30; buffer = fiveBytes; chip = chip₀; mem = mem₀; begins = begins; choices = bs }
 
-in-range₀ : InRange fiveAt30 chip₀
+in-range₀ : ChipRanged fiveAt30 chip₀
 in-range₀ = let s = standby-in-range 2 false (λ e. absurd (false≢true e)) in record { typed = s .1; ranged = s .0 }
 
 -- Start, the 45 clocks of select, address and the two bytes of the first page, Stop: its cycle runs

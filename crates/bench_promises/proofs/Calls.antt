@@ -39,7 +39,7 @@ use Rattle.bench.proofs.Laws.{Granted, granted, granted-fine, run-first, run-le
 use Rattle.bench_promises.specs.Ground.{targetOf}
 use Rattle.bench_promises.specs.Together.{Begins, answerOf, reportedOf, otherOf, Safe, ReadRight}
 use Rattle.bench_promises.specs.Ends.{Writable, Shut, Complete}
-use Rattle.bench_promises.specs.Calls.{Call, ourBench, Called, readOf, readBack, Room, Written, ReadThere, Ended, UsedUp, Protected, RefusesKept, BenchPromises}
+use Rattle.bench_promises.specs.Calls.{BenchCall, ourBench, Called, readOf, readBack, RoomBack, Written, ReadThere, Ended, UsedUp, Protected, RefusesKept, BenchPromises}
 use Rattle.bench_promises.specs.Tape.{pollsOfPages, CycleEach}
 use Rattle.driver_promises.proofs.Numbers.{less-or-more}
 use Rattle.bench_promises.proofs.Stored.{room-is, all-done, write-safe, read-right, read-ends, finished}
@@ -58,7 +58,7 @@ use Rattle.bench_promises.proofs.Tape.{driven, done-clocks, read-clocks
 use Rattle.chip.specs.Model.{ours}
 
 -- the call of a row, on a chip at the request's enable
-abbrev callOf : Request → ℕ → Chip → Mem → List ℕ → Call
+abbrev callOf : Request → ℕ → Chip → Mem → List ℕ → BenchCall
 callOf r d c m ys = record { request = r; own = r .enable; d = d; chip = c; mem = m; buffer = ys }
 
 -- ---- a call that is not refused
@@ -382,7 +382,7 @@ read-fine r d e c m ys zs k typed w lo hi room =
     }
 
 reads-back : (r : Request) (d e : ℕ) (c : Chip) (m : Mem) (ys zs : List ℕ) → Called (callOf r d c m ys) → Typed c → r .reads ≡ false → ourBench .report (callOf r d c m ys) .verdict ≡ Fine
-    → Room (callOf r d c m ys) e zs → ourBench .buffer (readBack ourBench (callOf r d c m ys) e zs) ≡ ys ++ drop (r .length) zs
+    → RoomBack (callOf r d c m ys) e zs → ourBench .buffer (readBack ourBench (callOf r d c m ys) e zs) ≡ ys ++ drop (r .length) zs
 reads-back r d e c m ys zs k typed w done room′ =
     let z = written enough refl r d c m ys k w in
     let v = read-fine r d e c m ys zs k typed w (room′ .low) (room′ .high) (room′ .long) in
@@ -399,12 +399,12 @@ reads-back r d e c m ys zs k typed w done room′ =
     (λ i h. sym (z .reported i (omega arith)) ∙ (sym (getD-drop x s i 0) ∙ sym (getD-take (r .length) (drop x s) i 0 (omega arith))))))
 
 -- the chip's own enable is the request's, so the call is that of its row
-abbrev rowOf : Call → Call
+abbrev rowOf : BenchCall → BenchCall
 rowOf k = callOf (k .request) (k .d) (k .chip) (k .mem) (k .buffer)
 
-at-own : (P : Call → Type 0) (k : Call) → Called k → (Called (rowOf k) → P (rowOf k)) → P k
+at-own : (P : BenchCall → Type 0) (k : BenchCall) → Called k → (Called (rowOf k) → P (rowOf k)) → P k
 at-own P k q f =
-    let j : ℕ → Call = λ e. record { request = k .request; own = e; d = k .d; chip = k .chip; mem = k .mem; buffer = k .buffer } in
+    let j : ℕ → BenchCall = λ e. record { request = k .request; own = e; d = k .d; chip = k .chip; mem = k .mem; buffer = k .buffer } in
     subst (λ (e : ℕ). P (j e)) (sym (q .enabled)) (f (subst (λ (e : ℕ). Called (j e)) (q .enabled) q))
 
 pub bench-promises : BenchPromises ourBench
@@ -413,7 +413,7 @@ bench-promises =
       writes = λ k q w. at-own (Written ourBench) k q (λ q′. written enough refl (k .request) (k .d) (k .chip) (k .mem) (k .buffer) q′ w);
       reads = λ k q w. at-own (ReadThere ourBench) k q (λ q′. taken enough refl (k .request) (k .d) (k .chip) (k .mem) (k .buffer) q′ w);
       reads-back = λ k e zs q t w v s.
-          at-own (λ j. ourBench .report j .verdict ≡ Fine → Room j e zs → ourBench .buffer (readBack ourBench j e zs) ≡ k .buffer ++ drop (k .request .length) zs) k q
+          at-own (λ j. ourBench .report j .verdict ≡ Fine → RoomBack j e zs → ourBench .buffer (readBack ourBench j e zs) ≡ k .buffer ++ drop (k .request .length) zs) k q
           (λ q′ v′ s′. reads-back (k .request) (k .d) e (k .chip) (k .mem) (k .buffer) zs q′ t w v′ s′) v s;
       ends = λ k q a h. at-own (Ended ourBench) k q (λ q′. ends enough refl (k .request) (k .d) (k .chip) (k .mem) (k .buffer) q′ (a .writes) (a .writable) h);
       cycle-each = λ k q a.

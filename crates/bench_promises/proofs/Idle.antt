@@ -44,9 +44,9 @@ use Rattle.bench.specs.Together.{System, askedOf, cycleEndedOf, endDueOf, turnO
 use Rattle.bench.specs.Tape.{sendsOf}
 use Rattle.bench.specs.declared.Report.{Report}
 use Rattle.bench.specs.Calls.{otherLengthOf, shortOf, lateOf, reportBy, benchVerdictOf, benchVerdict}
-use Rattle.bench_promises.specs.Calls.{Call, Bench, benchUnder, ourBench, verdictOf, Called, Allowed, WritesKept, ReadsKept, ReadsBackKept, EndsKept, RefusesKept, ReplaysKept}
+use Rattle.bench_promises.specs.Calls.{BenchCall, Bench, benchUnder, ourBench, verdictOf, Called, OpenCall, WritesKept, ReadsKept, ReadsBackKept, EndsKept, RefusesKept, ReplaysKept}
 use Rattle.bench_promises.specs.Numbers.{Judge, BenchNumbers}
-use Rattle.bench_promises.specs.Idle.{refusingJudge, refusingBench, RefusingRunBreaks, ConstantRunBreaks, forgetful, ForgetfulRunBreaks, counting, inventingDone, InventingRunBreaks, CountsFromTape, RunInventsNothing, boasting, blind, untold, OtherRunsBreak}
+use Rattle.bench_promises.specs.Idle.{refusingJudge, refusingBench, RefusingRunBreaks, ConstantRunBreaks, forgetful, ForgetfulRunBreaks, countingMore, inventingDone, InventingRunBreaks, CountsFromTape, RunInventsNothing, boasting, blind, untold, OtherRunsBreak}
 use Rattle.bench_promises.proofs.Calls.{bench-promises}
 use Rattle.bench_promises.proofs.Recount.{same-events}
 use Rattle.bench_promises.proofs.Rest.{says, Rests, after, report-is, memory-is, buffer-is}
@@ -65,7 +65,7 @@ abbrev byte : List ℕ
 byte = 90 ∷ []
 
 -- that call on a chip as delivered
-abbrev call : Bool → ℕ → Call
+abbrev call : Bool → ℕ → BenchCall
 call reads d = record { request = one reads; own = 0; d = d; chip = chip₀; mem = mem₀; buffer = byte }
 
 same-bytes : (n : ℕ) → AllBelow 256 (replicate n 255)
@@ -97,7 +97,7 @@ writes = called .1
 late : Called (call false 2)
 late = called .2
 
-free : (d : ℕ) → Allowed (call false d)
+free : (d : ℕ) → OpenCall (call false d)
 unfolding standbyOf pinAtFirstOf factsOf
 free d = record { writes = refl; writable = refl }
 
@@ -131,7 +131,7 @@ refused x v e f = false≢true (ap isFine (sym e ∙ f))
 -- ---- what refuses everything
 
 -- no part, and no enable of part 0
-abbrev astray : ℕ → ℕ → Call
+abbrev astray : ℕ → ℕ → BenchCall
 astray part enable =
     record {
       request = record { part = part; enable = enable; place = Array (record { 0 = 0 }); reads = true; length = 1; budget = 1 };
@@ -290,7 +290,7 @@ abbrev forgets : Bench
 forgets = benchUnder ourDriver forgetful
 
 -- read, from this chip and memory
-abbrev reading : Chip → Mem → Call
+abbrev reading : Chip → Mem → BenchCall
 reading c m = record { request = one true; own = 0; d = 1; chip = c; mem = m; buffer = byte }
 
 module _ (p : ReadsBackKept forgets) where
@@ -323,7 +323,7 @@ done-polls k h p =
     let q = ourBench .report (call false 1) in
     let a = p (call false 1) writes (free 1) (omega arith) .polls in
     let b = bench-promises .ends (call false 1) writes (free 1) (omega arith) in
-    let e = ap {B = ℕ} (λ (x : Bool). cond x (counting 0 k q) q .polls) (ap isFine (b .done)) in
+    let e = ap {B = ℕ} (λ (x : Bool). cond x (countingMore 0 k q) q .polls) (ap isFine (b .done)) in
     omega (arith, h, a, b .polls, e)
 
 pub inventing-run-breaks : InventingRunBreaks

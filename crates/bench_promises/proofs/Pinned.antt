@@ -24,9 +24,9 @@ use Rattle.driver_promises.specs.Promises.{Accepted, after, answers}
 use Rattle.driver_promises.proofs.Promises.{promises}
 use Rattle.bench.specs.declared.Report.{Report}
 use Rattle.bench.specs.Together.{System}
-use Rattle.bench_promises.specs.Tape.{withoutEnds, levelsHeard, toldOf, Reports, oddAfter, isPoll, triesAfter, endsPut}
-use Rattle.bench_promises.specs.Calls.{Call, Bench, ourBench, verdictOf, BenchPromises}
-use Rattle.bench_promises.specs.Pinned.{Settled, Alike, BenchPinned, OnlyOurs}
+use Rattle.bench_promises.specs.Tape.{withoutEnds, levelsHeard, toldOn, Reports, oddAfter, isPoll, triesAfter, endsPut}
+use Rattle.bench_promises.specs.Calls.{BenchCall, Bench, ourBench, verdictOf, BenchPromises}
+use Rattle.bench_promises.specs.Pinned.{Settled, SameRun, BenchPinned, OnlyOurs}
 use Rattle.bench_promises.proofs.Steps.{after-more, drives-of}
 use Rattle.bench_promises.proofs.Driven.{Coded, sends-coded, not-end}
 use Rattle.bench_promises.proofs.Tape.{accepted}
@@ -164,7 +164,7 @@ told-same (Send e) p q x y = absurd x
 told-same (Done i n) p q x y = (x .0 ∙ sym (y .0), x .1 ∙ sym (y .1), x .2 ∙ sym (y .2))
 told-same (Refused f i n) p q x y = (x .0 ∙ sym (y .0), x .1 ∙ sym (y .1), x .2 ∙ sym (y .2))
 
-module _ (B C : Bench) (b : Settled B) (o : Settled C) (call : Call) where
+module _ (B C : Bench) (b : Settled B) (o : Settled C) (call : BenchCall) where
   abbrev r : Request
   r = call .request
 
@@ -183,7 +183,7 @@ module _ (B C : Bench) (b : Settled B) (o : Settled C) (call : Call) where
   abbrev its-own : verdictOf call ≡ Fine → Accepted r (take (r .length) ys)
   its-own = accepted r (call .own) (call .d) c m ys
 
-  refused-alike : (x : Refusal) → verdictOf call ≡ Judged x → Alike B C call
+  refused-alike : (x : Refusal) → verdictOf call ≡ Judged x → SameRun B C call
   refused-alike x f =
       let p = b .refuses call x f in
       let q = o .refuses call x f in
@@ -212,16 +212,16 @@ module _ (B C : Bench) (b : Settled B) (o : Settled C) (call : Call) where
     same-levels : B .levels call ≡ C .levels call
     same-levels = sym (b .replays call .levels) ∙ (ap (levelsOf M₀ c m) same-events ∙ o .replays call .levels)
 
-    fine-alike : Alike B C call
+    fine-alike : SameRun B C call
     fine-alike =
         let p = b .replays call in
         let q = o .replays call in
         let u = b .drives call f in
         let v = o .drives call f in
-        let t : toldOf (B .events call) (B .levels call) ≡ toldOf (C .events call) (C .levels call) =
-        ap (λ (k : List ℕ). toldOf k (B .levels call)) same-events ∙ ap (toldOf (C .events call)) same-levels
+        let t : toldOn (B .events call) (B .levels call) ≡ toldOn (C .events call) (C .levels call) =
+        ap (λ (k : List ℕ). toldOn k (B .levels call)) same-events ∙ ap (toldOn (C .events call)) same-levels
         in
-        let w = told-same (answers ourDriver r xs (toldOf (C .events call) (C .levels call)) 0) _ _
+        let w = told-same (answers ourDriver r xs (toldOn (C .events call) (C .levels call)) 0) _ _
         (subst (λ (k : List ℕ). Reports (answers ourDriver r xs k 0) (B .report call)) t (u .answer 0)) (v .answer 0)
         in
         record {
@@ -236,7 +236,7 @@ module _ (B C : Bench) (b : Settled B) (o : Settled C) (call : Call) where
 pub bench-pinned : BenchPinned
 bench-pinned B C b o call = go (verdictOf call) refl
   where
-    go : (v : Verdict) → verdictOf call ≡ v → Alike B C call
+    go : (v : Verdict) → verdictOf call ≡ v → SameRun B C call
     go Fine f = fine-alike B C b o call f
     go (Judged x) f = refused-alike B C b o call x f
 

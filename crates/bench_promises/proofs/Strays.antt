@@ -36,7 +36,7 @@ use Rattle.driver_promises.specs.Promises.{sent}
 use Rattle.driver_promises.specs.Run.{pollsIn}
 use Rattle.bench.specs.Calls.{otherLengthOf, shortOf, lateOf, benchVerdictOf}
 use Rattle.bench_promises.specs.Tape.{withoutEnds, oddAfter, isPoll, triesAfter, endsPut, partsEnded, CycleEach}
-use Rattle.bench_promises.specs.Calls.{Call, ourBench, verdictOf, Called, Allowed, EndsKept, DrivesKept, EndsAtKept, CycleEachKept}
+use Rattle.bench_promises.specs.Calls.{BenchCall, ourBench, verdictOf, Called, OpenCall, EndsKept, DrivesKept, EndsAtKept, CycleEachKept}
 use Rattle.bench_promises.specs.Strays.{aloof, lateWithin, later, oneEndMore, stopFirst, closing, StraysBreak}
 use Rattle.bench_promises.proofs.Tape.{accepted, polls-told}
 use Rattle.bench_promises.proofs.Calls.{bench-promises}
@@ -102,10 +102,10 @@ abbrev byte : List ℕ
 byte = 90 ∷ []
 
 -- on a chip of part 0; and on one of part 2 at another enable
-abbrev call : ℕ → ℕ → Call
+abbrev call : ℕ → ℕ → BenchCall
 call budget d = record { request = one 0 budget; own = 0; d = d; chip = chip₀ 0; mem = mem₀ 2048 16; buffer = byte }
 
-abbrev other : Call
+abbrev other : BenchCall
 other = record { request = one 2 1; own = 1; d = 1; chip = chip₀ 2; mem = mem₀ 8192 0; buffer = byte }
 
 same-bytes : (n : ℕ) → AllBelow 256 (replicate n 255)
@@ -136,7 +136,7 @@ fine-other : verdictOf other ≡ Fine
 unfolding benchVerdictOf judgeOf otherLengthOf shortOf lateOf soonerOf lentVerdictOf heldVerdictOf factsOf idSizeOf enableRightOf buffersRightOf marksRightOf pinRightOf lockRightOf phaseRightOf restRightOf inRangeOf beyondAt limitOf standbyOf pinAtFirstOf noLatch
 fine-other = refl
 
-free : (budget d : ℕ) → Allowed (call budget d)
+free : (budget d : ℕ) → OpenCall (call budget d)
 unfolding standbyOf pinAtFirstOf factsOf
 free budget d = record { writes = refl; writable = refl }
 

@@ -29,7 +29,7 @@ use Rattle.bench.specs.Tape.{tapeEventsOf, tapeLevelsOf}
 use Rattle.bench.specs.Calls.{finalOf, reportBy, BenchLeft, benchBy, benchVerdict, benchOf}
 use Rattle.bench.proofs.Laws.{granted, run-first, run-length}
 use Rattle.bench_promises.specs.Together.{answerOf}
-use Rattle.bench_promises.specs.Tape.{withoutEnds, toldOf, Reports, Driven, EndsAt}
+use Rattle.bench_promises.specs.Tape.{withoutEnds, toldOn, Reports, Driven, EndsAt}
 use Rattle.bench_promises.proofs.Steps.{drives-of}
 use Rattle.bench_promises.proofs.Driven.{walks, turns-ended}
 use Rattle.bench_promises.proofs.Placed.{tape-placed}
@@ -113,33 +113,33 @@ without-clocks (e ∷ es) = go (eqb e 4) refl (without-clocks es)
 
 -- the answer was done, and the clocks on the tape are those of the events sent
 done-as : (r : Request) (ys : List ℕ) (p : Report) (left es ls : List ℕ) → Accepted r (take (r .length) ys) → Driven r ys p left es ls → p .verdict ≡ Fine
-    → DoneOf ourDriver r (take (r .length) ys) (toldOf es ls) 0 (r .reads) (p .polls) × (clocksIn es ≡ clocksIn (sent ourDriver r (take (r .length) ys) (toldOf es ls) 0))
-done-as r ys p left es ls a v f = (go (answers ourDriver r (take (r .length) ys) (toldOf es ls) 0) refl (v .answer 0), sym (without-clocks es) ∙ ap clocksIn (v .events))
+    → DoneOf ourDriver r (take (r .length) ys) (toldOn es ls) 0 (r .reads) (p .polls) × (clocksIn es ≡ clocksIn (sent ourDriver r (take (r .length) ys) (toldOn es ls) 0))
+done-as r ys p left es ls a v f = (go (answers ourDriver r (take (r .length) ys) (toldOn es ls) 0) refl (v .answer 0), sym (without-clocks es) ∙ ap clocksIn (v .events))
   where
-    go : (k : Answer) → answers ourDriver r (take (r .length) ys) (toldOf es ls) 0 ≡ k → Reports k p → DoneOf ourDriver r (take (r .length) ys) (toldOf es ls) 0 (r .reads) (p .polls)
+    go : (k : Answer) → answers ourDriver r (take (r .length) ys) (toldOn es ls) 0 ≡ k → Reports k p → DoneOf ourDriver r (take (r .length) ys) (toldOn es ls) 0 (r .reads) (p .polls)
     go (Send e) z k = absurd k
-    go (Done q n) z k = subst (DoneOf ourDriver r (take (r .length) ys) (toldOf es ls) 0 (r .reads)) (sym (k .1)) (promises .done-all r (take (r .length) ys) a (toldOf es ls) 0 q n z .plan)
+    go (Done q n) z k = subst (DoneOf ourDriver r (take (r .length) ys) (toldOn es ls) 0 (r .reads)) (sym (k .1)) (promises .done-all r (take (r .length) ys) a (toldOn es ls) 0 q n z .plan)
     go (Refused x q n) z k = absurd (false≢true (ap isFine (sym (k .0) ∙ f)))
 
 module _ (r : Request) (ys : List ℕ) (p : Report) (left es ls : List ℕ) (a : Accepted r (take (r .length) ys)) (v : Driven r ys p left es ls) (f : p .verdict ≡ Fine) where
   pub done-clocks : r .reads ≡ false → clocksIn es ≡ 9 * (kOf r * (1 + addressBytes r) + r .length + p .polls)
   done-clocks w =
       let t = done-as r ys p left es ls a v f in
-      t .1 ∙ subst (λ (b : Bool). DoneOf ourDriver r (take (r .length) ys) (toldOf es ls) 0 b (p .polls)) w (t .0) .clocks
+      t .1 ∙ subst (λ (b : Bool). DoneOf ourDriver r (take (r .length) ys) (toldOn es ls) 0 b (p .polls)) w (t .0) .clocks
 
   pub read-clocks : r .reads ≡ true → 1 ≤ r .length → clocksIn es ≡ 9 * (2 + addressBytes r + r .length)
   read-clocks w h =
       let t = done-as r ys p left es ls a v f in
-      t .1 ∙ subst (λ (b : Bool). DoneOf ourDriver r (take (r .length) ys) (toldOf es ls) 0 b (p .polls)) w (t .0) .clocks h
+      t .1 ∙ subst (λ (b : Bool). DoneOf ourDriver r (take (r .length) ys) (toldOn es ls) 0 b (p .polls)) w (t .0) .clocks h
 
 -- the polls that are reported are the polls on the tape
 pub polls-told : (r : Request) (ys : List ℕ) (p : Report) (left es ls : List ℕ) → Accepted r (take (r .length) ys) → Driven r ys p left es ls → p .polls ≡ pollsIn false (withoutEnds es)
-polls-told r ys p left es ls a v = go (answers ourDriver r (take (r .length) ys) (toldOf es ls) 0) refl (v .answer 0) ∙ ap (pollsIn false) (sym (v .events))
+polls-told r ys p left es ls a v = go (answers ourDriver r (take (r .length) ys) (toldOn es ls) 0) refl (v .answer 0) ∙ ap (pollsIn false) (sym (v .events))
   where
-    go : (k : Answer) → answers ourDriver r (take (r .length) ys) (toldOf es ls) 0 ≡ k → Reports k p → p .polls ≡ pollsIn false (sent ourDriver r (take (r .length) ys) (toldOf es ls) 0)
+    go : (k : Answer) → answers ourDriver r (take (r .length) ys) (toldOn es ls) 0 ≡ k → Reports k p → p .polls ≡ pollsIn false (sent ourDriver r (take (r .length) ys) (toldOn es ls) 0)
     go (Send e) z k = absurd k
-    go (Done q n) z k = k .1 ∙ promises .polls-sent r (take (r .length) ys) a (toldOf es ls) 0 .done q n z
-    go (Refused x q n) z k = k .1 ∙ promises .polls-sent r (take (r .length) ys) a (toldOf es ls) 0 .refused x q n z
+    go (Done q n) z k = k .1 ∙ promises .polls-sent r (take (r .length) ys) a (toldOn es ls) 0 .done q n z
+    go (Refused x q n) z k = k .1 ∙ promises .polls-sent r (take (r .length) ys) a (toldOn es ls) 0 .refused x q n z
 
 -- ---- the ends stand before poll number d
 module _ (r : Request) (en d : ℕ) (c : Chip) (m : Mem) (ys : List ℕ) where

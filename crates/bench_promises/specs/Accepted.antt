@@ -21,12 +21,12 @@ use Rattle.driver.specs.declared.Answer.the-variants.{Send, Done, Refused}
 use Rattle.driver.specs.Step.{rangeOf, beginOf}
 use Rattle.driver.specs.Machine.{Machine, ourDriver}
 use Rattle.bench.specs.Together.{System, clockOf, ends}
-use Rattle.bench_promises.specs.Together.{Runs, ourRun, Session, Writes, Reads, answerOf, first, after, InRange, SafeAfter, ReadRightAfter}
+use Rattle.bench_promises.specs.Together.{Runs, ourRun, Session, Writes, Reads, answerOf, first, afterChoices, ChipRanged, SafeAfter, ReadRightAfter}
 use Rattle.bench_promises.specs.Ends.{Timely, Complete}
 
 -- a session on a chip in range
 abbrev pub Ranged : Session → Type 0
-Ranged w = InRange (w .request) (w .chip)
+Ranged w = ChipRanged (w .request) (w .chip)
 
 -- ---- no call is refused for the state
 
@@ -45,7 +45,7 @@ pub record Accepts (S : Step) (r : Request) (s : System) : Type 0 where
 
 -- at every moment of every run
 abbrev pub StepsAccepted : Step → Runs → Type 0
-StepsAccepted S run = (w : Session) → Ranged w → Accepts S (w .request) (after run w)
+StepsAccepted S run = (w : Session) → Ranged w → Accepts S (w .request) (afterChoices run w)
 
 -- ---- the same interleaving, of calls only
 
@@ -101,13 +101,13 @@ byCalls D S f enable bs s = callsOf S (s .driver .request .part) enable D bs s
 
 -- the run of calls is that run
 abbrev pub CallsAreRun : Machine → Step → Type 0
-CallsAreRun D S = (w : Session) → Ranged w → after (byCalls D S) w ≡ after ourRun w
+CallsAreRun D S = (w : Session) → Ranged w → afterChoices (byCalls D S) w ≡ afterChoices ourRun w
 
 -- ---- so whatever is true at a moment of that run is true of calls
 
 module _ (D : Machine) (S : Step) where
   abbrev pub TrueOfCalls : Type 1
-  TrueOfCalls = (P : System → Type 0) (w : Session) → Ranged w → P (after ourRun w) → P (after (byCalls D S) w)
+  TrueOfCalls = (P : System → Type 0) (w : Session) → Ranged w → P (afterChoices ourRun w) → P (afterChoices (byCalls D S) w)
 
   -- `WritesSafe`, `ReadsRight` and `WritesEnd`
   abbrev pub CallsWriteSafe : Type 0
@@ -117,7 +117,7 @@ module _ (D : Machine) (S : Step) where
   CallsReadRight = (w : Session) → Ranged w → Reads w → ReadRightAfter (byCalls D S) w
 
   abbrev pub CallsWriteEnd : Type 0
-  CallsWriteEnd = (w : Session) → Ranged w → Timely w → Complete (w .request) (after (byCalls D S) w)
+  CallsWriteEnd = (w : Session) → Ranged w → Timely w → Complete (w .request) (afterChoices (byCalls D S) w)
 
 -- ---- what is refused midway
 

@@ -33,7 +33,7 @@ use Rattle.bench_promises.specs.Ends.{Writable, Shut}
 use Rattle.bench_promises.specs.Tape.{pollsOfPages, Driven, EndsAt, CycleEach}
 
 -- one call: the request, the chip's own enable, d, the chip, its two lent buffers, and the driver's
-pub record Call : Type 0 where
+pub record BenchCall : Type 0 where
   pub request : Request
   pub own : ℕ
   pub d : ℕ
@@ -43,16 +43,16 @@ pub record Call : Type 0 where
 
 -- a run of driver and model: what it answers, the two memories and the lent buffer after it
 pub record Bench : Type 0 where
-  pub report : Call → Report
-  pub memory : Call → Mem
-  pub buffer : Call → List ℕ
+  pub report : BenchCall → Report
+  pub memory : BenchCall → Mem
+  pub buffer : BenchCall → List ℕ
   -- the tape: every event that the chip is given, and its level for each
-  pub events : Call → List ℕ
-  pub levels : Call → List ℕ
+  pub events : BenchCall → List ℕ
+  pub levels : BenchCall → List ℕ
 
 -- any driver on any chip, each call as crate bench defines it
 module _ (D : Machine) (M : Facts → ℕ → Model) where
-  abbrev leftBy : Call → BenchLeft
+  abbrev leftBy : BenchCall → BenchLeft
   leftBy k = benchOver D M (k .request) (k .own) (k .d) (k .chip) (k .mem) (k .buffer)
 
   abbrev pub benchUnder : Bench
@@ -71,31 +71,31 @@ ourBench = benchUnder ourDriver ours
 -- ---- calls
 
 -- what refuses it before it begins (1 to 8)
-abbrev pub verdictOf : Call → Verdict
+abbrev pub verdictOf : BenchCall → Verdict
 verdictOf k = benchVerdict (k .request) (k .own) (k .d) (k .chip) (k .mem) (k .buffer)
 
 -- one that is not refused, on an idle chip of the named part and enable; the lent buffers hold bytes
-pub record Called (k : Call) : Type 0 where
+pub record Called (k : BenchCall) : Type 0 where
   pub fine : verdictOf k ≡ Fine
   pub enabled : k .own ≡ k .request .enable
   pub idle : k .chip .line .phase ≡ Idle
   pub stored : (t : Target) → AllBelow 256 (cellsOf t (k .mem))
   pub lent : AllBelow 256 (k .buffer)
 
-abbrev pub Reads : Call → Type 0
-Reads k = k .request .reads ≡ true
+abbrev pub ReadCall : BenchCall → Type 0
+ReadCall k = k .request .reads ≡ true
 
-abbrev pub Writes : Call → Type 0
-Writes k = k .request .reads ≡ false
+abbrev pub WriteCall : BenchCall → Type 0
+WriteCall k = k .request .reads ≡ false
 
 -- a write that pin and lock allow
-pub record Allowed (k : Call) : Type 0 where
-  pub writes : Writes k
+pub record OpenCall (k : BenchCall) : Type 0 where
+  pub writes : WriteCall k
   pub writable : Writable (k .request .place) (k .chip .line .core)
 
 -- a write that the pin or the lock forbids
-pub record Forbidden (k : Call) : Type 0 where
-  pub writes : Writes k
+pub record ShutCall (k : BenchCall) : Type 0 where
+  pub writes : WriteCall k
   pub shut : Shut (k .request .place) (k .chip .line .core)
 
 -- the same place, read
@@ -103,11 +103,11 @@ abbrev pub readOf : Request → Request
 readOf r = record { part = r .part; enable = r .enable; place = r .place; reads = true; length = r .length; budget = r .budget }
 
 -- after a call, its place is read, with e for d and the buffer zs
-abbrev pub readBack : Bench → Call → ℕ → List ℕ → Call
+abbrev pub readBack : Bench → BenchCall → ℕ → List ℕ → BenchCall
 readBack B k e zs = record { request = readOf (k .request); own = k .own; d = e; chip = B .report k .chip; mem = B .memory k; buffer = zs }
 
 -- any d from 1 to 65,535, and a buffer long enough
-pub record Room (k : Call) (e : ℕ) (zs : List ℕ) : Type 0 where
+pub record RoomBack (k : BenchCall) (e : ℕ) (zs : List ℕ) : Type 0 where
   pub low : 1 ≤ e
   pub high : e ≤ 65535
   pub long : k .request .length ≤ length zs
@@ -115,7 +115,7 @@ pub record Room (k : Call) (e : ℕ) (zs : List ℕ) : Type 0 where
 
 -- ---- what a run makes of a call
 
-module _ (B : Bench) (k : Call) where
+module _ (B : Bench) (k : BenchCall) where
   abbrev r : Request
   r = k .request
 
@@ -210,45 +210,45 @@ module _ (B : Bench) (k : Call) where
 
 module _ (B : Bench) where
   abbrev pub WritesKept : Type 0
-  WritesKept = (k : Call) → Called k → Writes k → Written B k
+  WritesKept = (k : BenchCall) → Called k → WriteCall k → Written B k
 
   abbrev pub ReadsKept : Type 0
-  ReadsKept = (k : Call) → Called k → Reads k → ReadThere B k
+  ReadsKept = (k : BenchCall) → Called k → ReadCall k → ReadThere B k
 
   -- a write that is done and then read back gives the bytes that were to be written; `Typed` is what the types say of every chip that
   -- code can hold
   abbrev pub ReadsBackKept : Type 0
   ReadsBackKept =
-      (k : Call) (e : ℕ) (zs : List ℕ) → Called k → Typed (k .chip) → Writes k → B .report k .verdict ≡ Fine → Room k e zs
+      (k : BenchCall) (e : ℕ) (zs : List ℕ) → Called k → Typed (k .chip) → WriteCall k → B .report k .verdict ≡ Fine → RoomBack k e zs
       → B .buffer (readBack B k e zs) ≡ k .buffer ++ drop (k .request .length) zs
 
   abbrev pub EndsKept : Type 0
-  EndsKept = (k : Call) → Called k → Allowed k → k .d ≤ k .request .budget → Ended B k
+  EndsKept = (k : BenchCall) → Called k → OpenCall k → k .d ≤ k .request .budget → Ended B k
 
   -- whatever d is: each part's own Stop begins a cycle of the chip M, at every moment of the tape, and nothing else does
   abbrev pub CycleEachKept : (Facts → ℕ → Model) → Type 0
-  CycleEachKept M = (k : Call) → Called k → Allowed k → CycleEach (M (factsOf (k .request .part)) (k .own)) (k .chip) (B .events k)
+  CycleEachKept M = (k : BenchCall) → Called k → OpenCall k → CycleEach (M (factsOf (k .request .part)) (k .own)) (k .chip) (B .events k)
 
   abbrev pub UsesUpKept : Type 0
-  UsesUpKept = (k : Call) → Called k → Allowed k → 1 ≤ k .request .length → k .request .budget < k .d → UsedUp B k
+  UsesUpKept = (k : BenchCall) → Called k → OpenCall k → 1 ≤ k .request .length → k .request .budget < k .d → UsedUp B k
 
   abbrev pub ProtectsKept : Type 0
-  ProtectsKept = (k : Call) → Called k → Forbidden k → 1 ≤ k .request .length → Protected B k
+  ProtectsKept = (k : BenchCall) → Called k → ShutCall k → 1 ≤ k .request .length → Protected B k
 
   -- also of a chip at another enable
   abbrev pub RefusesKept : Type 0
-  RefusesKept = (k : Call) (x : Refusal) → verdictOf k ≡ Judged x → Untouched B k x
+  RefusesKept = (k : BenchCall) (x : Refusal) → verdictOf k ≡ Judged x → Untouched B k x
 
   -- every call that is not refused before it begins, on any chip, is our driver's run, so all that it promises over any levels holds
   abbrev pub DrivesKept : Type 0
-  DrivesKept = (k : Call) → verdictOf k ≡ Fine → Driven (k .request) (k .buffer) (B .report k) (B .buffer k) (B .events k) (B .levels k)
+  DrivesKept = (k : BenchCall) → verdictOf k ≡ Fine → Driven (k .request) (k .buffer) (B .report k) (B .buffer k) (B .events k) (B .levels k)
 
   abbrev pub EndsAtKept : Type 0
-  EndsAtKept = (k : Call) → EndsAt (k .d) (B .events k)
+  EndsAtKept = (k : BenchCall) → EndsAt (k .d) (B .events k)
 
   -- of every call, refused or not
   abbrev pub ReplaysKept : Type 0
-  ReplaysKept = (k : Call) → Replayed B k
+  ReplaysKept = (k : BenchCall) → Replayed B k
 
 pub record BenchPromises (B : Bench) : Type 0 where
   pub writes : WritesKept B

@@ -24,7 +24,7 @@ use Rattle.driver_promises.specs.Promises.{Accepted}
 use Rattle.bench.specs.Together.{System, askedOf, cycleEndedOf, turnsOf, pollNext, enough}
 use Rattle.bench_promises.specs.Ground.{targetOf}
 use Rattle.line.specs.declared.Target.the-variants.{Ident as TheIdent}
-use Rattle.bench_promises.specs.Together.{Runs, Session, Writes, Enough, answerOf, askings, first, after}
+use Rattle.bench_promises.specs.Together.{Runs, Session, Writes, Enough, answerOf, askings, first, afterChoices}
 use Rattle.chip.specs.Model.{ours}
 use Rattle.chip_promises.specs.States.{NotBusy}
 
@@ -68,25 +68,25 @@ Shut (Ident i) c = (isHigh (c .pin) ≡ true) ⊎ (c .locked ≡ true)
 
 module _ (run : Runs) where
   abbrev pub WritesEnd : Type 0
-  WritesEnd = (w : Session) → Timely w → Complete (w .request) (after run w)
+  WritesEnd = (w : Session) → Timely w → Complete (w .request) (afterChoices run w)
 
   -- whenever a write is done, in time or not, it has begun one cycle for each page
   abbrev pub DoneCycles : Type 0
-  DoneCycles = (w : Session) → Writes w → (q n : ℕ) → answerOf (after run w) ≡ Done q n → after run w .cycles ≡ kOf (w .request)
+  DoneCycles = (w : Session) → Writes w → (q n : ℕ) → answerOf (afterChoices run w) ≡ Done q n → afterChoices run w .cycles ≡ kOf (w .request)
 
   -- an identification write is one part, so one cycle
   abbrev pub IdentOnce : Type 0
   IdentOnce = (w : Session) → Writes w → targetOf (w .request .place) ≡ TheIdent → 1 ≤ w .request .length
-      → (q n : ℕ) → answerOf (after run w) ≡ Done q n → after run w .cycles ≡ 1
+      → (q n : ℕ) → answerOf (afterChoices run w) ≡ Done q n → afterChoices run w .cycles ≡ 1
 
   -- a byte that may be written is never refused with 10, in time or not
   abbrev pub WritesTaken : Type 0
-  WritesTaken = (w : Session) → Writes w → Allowed w → (q n : ℕ) → answerOf (after run w) ≡ Refused NoData q n → ⊥
+  WritesTaken = (w : Session) → Writes w → Allowed w → (q n : ℕ) → answerOf (afterChoices run w) ≡ Refused NoData q n → ⊥
 
   -- a write that is forbidden ends in refusal 10: no byte is reported, nothing stored changes, no cycle begins
   abbrev pub ShutRefused : Type 0
   ShutRefused = (w : Session) → Writes w → Shut (w .request .place) (w .chip .line .core) → 1 ≤ w .request .length → Enough w
-      → (answerOf (after run w) ≡ Refused NoData 0 0) × (after run w .mem ≡ w .mem) × (after run w .cycles ≡ 0)
+      → (answerOf (afterChoices run w) ≡ Refused NoData 0 0) × (afterChoices run w .mem ≡ w .mem) × (afterChoices run w .cycles ≡ 0)
 
 -- ---- the run with d: n turns, each an asking, with an end of the cycle before it where poll number d is next
 

@@ -17,7 +17,7 @@ use Rattle.driver.specs.Machine.{ourDriver}
 use Rattle.driver_promises.specs.Idle.{refusingDriver}
 use Rattle.bench.specs.declared.Report.{Report}
 use Rattle.bench.specs.Calls.{refusedBy}
-use Rattle.bench_promises.specs.Calls.{Call, Bench, benchUnder, ourBench, WritesKept, ReadsKept, ReadsBackKept, EndsKept, UsesUpKept, RefusesKept, ReplaysKept}
+use Rattle.bench_promises.specs.Calls.{BenchCall, Bench, benchUnder, ourBench, WritesKept, ReadsKept, ReadsBackKept, EndsKept, UsesUpKept, RefusesKept, ReplaysKept}
 use Rattle.bench_promises.specs.Numbers.{Judge, BenchNumbers}
 
 -- ---- "the chip or driver that refuses everything (refusal table, demand 2)", whichever refusal it is
@@ -67,12 +67,12 @@ pub record ForgetfulRunBreaks : Type 0 where
 -- ---- "invented cycle or poll counts (cycles are well-placed Stops, polls are events sent)"
 
 -- ours, but it counts so many cycles and so many polls more
-abbrev pub counting : ℕ → ℕ → Report → Report
-counting cycles polls p =
+abbrev pub countingMore : ℕ → ℕ → Report → Report
+countingMore cycles polls p =
     record { verdict = p .verdict; polls = p .polls + polls; bytes = p .bytes; cycles = p .cycles + cycles; clocks = p .clocks; chip = p .chip }
 
 -- ours, but for what its report is made into
-abbrev pub reporting : (Call → Report → Report) → Bench
+abbrev pub reporting : (BenchCall → Report → Report) → Bench
 reporting f =
     record {
       report = λ k. f k (ourBench .report k);
@@ -83,11 +83,11 @@ reporting f =
     }
 
 abbrev pub inventingBench : ℕ → ℕ → Bench
-inventingBench cycles polls = reporting (λ k p. counting cycles polls p)
+inventingBench cycles polls = reporting (λ k p. countingMore cycles polls p)
 
 -- only in writes that are done
 abbrev pub inventingDone : ℕ → Bench
-inventingDone polls = reporting (λ k p. cond (k .request .reads) p (cond (isFine (p .verdict)) (counting 0 polls p) p))
+inventingDone polls = reporting (λ k p. cond (k .request .reads) p (cond (isFine (p .verdict)) (countingMore 0 polls p) p))
 
 pub record InventingRunBreaks : Type 0 where
   -- the tape begins fewer
@@ -104,19 +104,19 @@ pub record InventingRunBreaks : Type 0 where
 -- whoever keeps the tape and sends what ours sends counts the cycles and the clocks that ours counts
 abbrev pub CountsFromTape : Type 0
 CountsFromTape =
-    (B : Bench) → ReplaysKept B → (k : Call) → B .events k ≡ ourBench .events k
+    (B : Bench) → ReplaysKept B → (k : BenchCall) → B .events k ≡ ourBench .events k
     → (B .report k .cycles ≡ ourBench .report k .cycles) × (B .report k .clocks ≡ ourBench .report k .clocks)
 
 -- so does our driver on a chip that is ours but for the cycles it says it begins, whatever it says
 abbrev pub RunInventsNothing : Type 0
 RunInventsNothing =
-    (count : Chip → ℕ → ℕ) → ReplaysKept (benchUnder ourDriver (inventingModel count)) → (k : Call)
+    (count : Chip → ℕ → ℕ) → ReplaysKept (benchUnder ourDriver (inventingModel count)) → (k : BenchCall)
     → benchUnder ourDriver (inventingModel count) .report k .cycles ≡ ourBench .report k .cycles
 
 -- ---- more of the kind
 
 -- all bytes done, with nothing sent
-abbrev pub claimed : Call → Report
+abbrev pub claimed : BenchCall → Report
 claimed k = record { verdict = Fine; polls = 0; bytes = k .request .length; cycles = 0; clocks = 0; chip = k .chip }
 
 -- it reports everything done, and does nothing

@@ -2,7 +2,7 @@
 -- call on every chip. So a run that differs from ours anywhere breaks one of the four.
 -- Assumes nothing.
 use mathlib.Core.Path.{_≡_}
-use Rattle.bench_promises.specs.Calls.{Call, Bench, ourBench, RefusesKept, DrivesKept, EndsAtKept, ReplaysKept, BenchPromises}
+use Rattle.bench_promises.specs.Calls.{BenchCall, Bench, ourBench, RefusesKept, DrivesKept, EndsAtKept, ReplaysKept, BenchPromises}
 
 -- what a refused call leaves, whose events the others are, where their ends stand, and that the tape is the run
 pub record Settled (B : Bench) : Type 0 where
@@ -11,7 +11,7 @@ pub record Settled (B : Bench) : Type 0 where
   pub ends-at : EndsAtKept B
   pub replays : ReplaysKept B
 
-pub record Alike (B C : Bench) (k : Call) : Type 0 where
+pub record SameRun (B C : Bench) (k : BenchCall) : Type 0 where
   pub report : B .report k ≡ C .report k
   pub memory : B .memory k ≡ C .memory k
   pub buffer : B .buffer k ≡ C .buffer k
@@ -19,8 +19,8 @@ pub record Alike (B C : Bench) (k : Call) : Type 0 where
   pub levels : B .levels k ≡ C .levels k
 
 abbrev pub BenchPinned : Type 0
-BenchPinned = (B C : Bench) → Settled B → Settled C → (k : Call) → Alike B C k
+BenchPinned = (B C : Bench) → Settled B → Settled C → (k : BenchCall) → SameRun B C k
 
 -- a run that keeps the promises is ours
 abbrev pub OnlyOurs : Type 0
-OnlyOurs = (B : Bench) → BenchPromises B → (k : Call) → Alike B ourBench k
+OnlyOurs = (B : Bench) → BenchPromises B → (k : BenchCall) → SameRun B ourBench k

@@ -6,12 +6,12 @@ use mathlib.Core.List.{[], _∷_, _++_}
 use lib.Dec.{eqb, ltb}
 use Rattle.parts.specs.declared.Facts.{Facts}
 use Rattle.chip.specs.Model.{Model, ours}
-use Rattle.bench_promises.specs.Calls.{Call, Bench, ourBench, EndsKept, DrivesKept, EndsAtKept, CycleEachKept}
+use Rattle.bench_promises.specs.Calls.{BenchCall, Bench, ourBench, EndsKept, DrivesKept, EndsAtKept, CycleEachKept}
 use Rattle.bench_promises.specs.Idle.{claimed}
 
 -- ---- `drives`: ours on a chip at the request's enable; at any other it sends nothing and reports all bytes done
 
-abbrev pub named : Call → Bool
+abbrev pub named : BenchCall → Bool
 named k = eqb (k .own) (k .request .enable)
 
 abbrev pub aloof : Bench
@@ -25,9 +25,9 @@ aloof =
     }
 
 -- ours, of a call with another d
-abbrev pub delayed : (Call → ℕ) → Bench
+abbrev pub delayed : (BenchCall → ℕ) → Bench
 delayed by =
-    let j : Call → Call = λ k. record { request = k .request; own = k .own; d = by k; chip = k .chip; mem = k .mem; buffer = k .buffer } in
+    let j : BenchCall → BenchCall = λ k. record { request = k .request; own = k .own; d = by k; chip = k .chip; mem = k .mem; buffer = k .buffer } in
     record {
       report = λ k. ourBench .report (j k);
       memory = λ k. ourBench .memory (j k);

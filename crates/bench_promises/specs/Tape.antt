@@ -32,8 +32,8 @@ levelsHeard (e ∷ es) [] = []
 levelsHeard (e ∷ es) (l ∷ ls) = cond (eqb e ends) (levelsHeard es ls) (l ∷ levelsHeard es ls)
 
 -- what a driver is told on a tape: the line is high at first, and then the level of each of its events
-abbrev pub toldOf : List ℕ → List ℕ → List ℕ
-toldOf es ls = 1 ∷ levelsHeard es ls
+abbrev pub toldOn : List ℕ → List ℕ → List ℕ
+toldOn es ls = 1 ∷ levelsHeard es ls
 
 -- a report of a driver's last answer; one that would still send has none
 abbrev pub Reports : Answer → Report → Type 0
@@ -43,9 +43,9 @@ Reports (Refused f polls bytes) p = (p .verdict ≡ Judged f) × (p .polls ≡ p
 
 -- a report, the lent buffer after it and a tape are those of our driver, told the tape's levels; whatever it is told next, it has finished
 pub record Driven (r : Request) (ys : List ℕ) (p : Report) (left es ls : List ℕ) : Type 0 where
-  pub events : withoutEnds es ≡ sent ourDriver r (take (r .length) ys) (toldOf es ls) 0
-  pub answer : (l : ℕ) → Reports (answers ourDriver r (take (r .length) ys) (toldOf es ls) l) p
-  pub buffer : left ≡ after ourDriver r (take (r .length) ys) (toldOf es ls) 0 .buffer ++ drop (r .length) ys
+  pub events : withoutEnds es ≡ sent ourDriver r (take (r .length) ys) (toldOn es ls) 0
+  pub answer : (l : ℕ) → Reports (answers ourDriver r (take (r .length) ys) (toldOn es ls) l) p
+  pub buffer : left ≡ after ourDriver r (take (r .length) ys) (toldOn es ls) 0 .buffer ++ drop (r .length) ys
 
 -- ---- where the ends stand. The Stops of a write are in turn the end of a part's data and the end of its polls; `odd` says whether their
 -- number is odd so far

@@ -90,8 +90,8 @@ module _ (w : Session) where
   first = startOf (w .request) (w .buffer) (w .chip) (w .mem)
 
 -- and after them
-abbrev pub after : Runs → Session → System
-after run w = run (factsOf (w .request .part)) (w .request .enable) (w .choices) (first w)
+abbrev pub afterChoices : Runs → Session → System
+afterChoices run w = run (factsOf (w .request .part)) (w .request .enable) (w .choices) (first w)
 
 -- the memory that a request does not speak of
 abbrev pub otherOf : Target → Target
@@ -107,7 +107,7 @@ module _ (r : Request) where
   asked m i = byteIn m (fromOf (r .place) + i)
 
   -- a chip in range; `Typed` is what the types say of every chip that code can hold
-  pub record InRange (c : Chip) : Type 0 where
+  pub record ChipRanged (c : Chip) : Type 0 where
     pub typed : Typed c
     pub ranged : inRangeOf (factsOf (r .part)) c ≡ true
 
@@ -146,10 +146,10 @@ module _ (r : Request) (xs : List ℕ) (c : Chip) (m : Mem) (s : System) where
 module _ (run : Runs) where
   module _ (w : Session) where
     abbrev pub SafeAfter : Type 0
-    SafeAfter = Safe (w .request) (w .buffer) (w .chip) (w .mem) (after run w)
+    SafeAfter = Safe (w .request) (w .buffer) (w .chip) (w .mem) (afterChoices run w)
 
     abbrev pub ReadRightAfter : Type 0
-    ReadRightAfter = ReadRight (w .request) (w .buffer) (w .chip) (w .mem) (after run w)
+    ReadRightAfter = ReadRight (w .request) (w .buffer) (w .chip) (w .mem) (afterChoices run w)
 
   -- writes, of the array and of the identification page
   abbrev pub WritesSafe : Type 0
@@ -161,8 +161,8 @@ module _ (run : Runs) where
 
   -- and asked often enough it is done
   abbrev pub ReadsEnd : Type 0
-  ReadsEnd = (w : Session) → Reads w → Enough w → answerOf (after run w) ≡ Done 0 (w .request .length)
+  ReadsEnd = (w : Session) → Reads w → Enough w → answerOf (afterChoices run w) ≡ Done 0 (w .request .length)
 
   -- a chip in range stays in range, so that a next request is not refused for the state
   abbrev pub StaysInRange : Type 0
-  StaysInRange = (w : Session) → InRange (w .request) (w .chip) → InRange (w .request) (after run w .chip)
+  StaysInRange = (w : Session) → ChipRanged (w .request) (w .chip) → ChipRanged (w .request) (afterChoices run w .chip)

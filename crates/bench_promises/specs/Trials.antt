@@ -23,7 +23,7 @@ use Rattle.parts.specs.declared.Verdict.the-variants.{Fine}
 use Rattle.state.specs.declared.Chip.{Chip}
 use Rattle.chip.specs.Memory.{Mem}
 use Rattle.bench.specs.declared.Report.{Report}
-use Rattle.bench_promises.specs.Calls.{Call, Bench, Called, Allowed, BenchPromises}
+use Rattle.bench_promises.specs.Calls.{BenchCall, Bench, Called, OpenCall, BenchPromises}
 
 -- 11. "Part 2, 5 bytes at 30: 30..31, 32..34; with d = 1, 117 clocks"
 abbrev pub fiveBytes : List ℕ
@@ -68,7 +68,7 @@ TrialsRight = firstWrong (chipTrials ++ driverTrials) ≡ 0
 abbrev pub wholeArray : ℕ → Request
 wholeArray budget = record { part = 0; enable = 0; place = Array (record { 0 = 0 }); reads = false; length = 2048; budget = budget }
 
-abbrev pub wholeArrayOn : ℕ → Chip → Mem → List ℕ → Call
+abbrev pub wholeArrayOn : ℕ → Chip → Mem → List ℕ → BenchCall
 wholeArrayOn budget c m ys = record { request = wholeArray budget; own = 0; d = 1; chip = c; mem = m; buffer = ys }
 
 pub record WholeArrayWritten (p : Report) : Type 0 where
@@ -80,4 +80,4 @@ pub record WholeArrayWritten (p : Report) : Type 0 where
 abbrev pub WholeArray : Type 0
 WholeArray =
     (B : Bench) → BenchPromises B → (budget : ℕ) (c : Chip) (m : Mem) (ys : List ℕ) → Called (wholeArrayOn budget c m ys)
-    → Allowed (wholeArrayOn budget c m ys) → WholeArrayWritten (B .report (wholeArrayOn budget c m ys))
+    → OpenCall (wholeArrayOn budget c m ys) → WholeArrayWritten (B .report (wholeArrayOn budget c m ys))

@@ -19,6 +19,7 @@ use Rattle.driver_promises.proofs.Numbers.{request-numbers}
 use Rattle.bench_promises.specs.Ground.{targetOf}
 use Rattle.bench_promises.specs.Together.{Session, Reads, otherOf, byteIn}
 use Rattle.bench_promises.proofs.Sessions.{writes-safe, reads-right, reads-end, writes-end}
+use Rattle.bench_promises.proofs.Accepted.{steps-accepted, calls-are-run}
 use Rattle.bench_promises.proofs.Calls.{bench-promises}
 use Rattle.bench_promises.proofs.Numbers.{bench-numbers}
 use Rattle.bench_promises.proofs.Trials.{trials-right}
@@ -79,6 +80,7 @@ demand-2 =
       other = other;
       lock = lock;
       unread = λ w h. reads-right w h .mem;
+      calls = (calls-are-run, steps-accepted);
       run = bench-promises;
     }
 

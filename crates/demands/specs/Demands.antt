@@ -23,9 +23,11 @@ use Rattle.driver.specs.Request.{fromOf, judgeOf, kOf}
 use Rattle.driver_promises.specs.Numbers.{RequestNumbers}
 use Rattle.bench.specs.Together.{System}
 use Rattle.bench.specs.Calls.{benchVerdict}
+use Rattle.driver.specs.Machine.{ourDriver}
 use Rattle.bench_promises.specs.Ground.{targetOf}
-use Rattle.bench_promises.specs.Together.{ourRun, Session, Writes, Reads, Enough, answerOf, reportedOf, after, otherOf, byteIn, asked}
+use Rattle.bench_promises.specs.Together.{ourRun, Session, Writes, Reads, Enough, answerOf, reportedOf, afterChoices, otherOf, byteIn, asked}
 use Rattle.bench_promises.specs.Ends.{Timely}
+use Rattle.bench_promises.specs.Accepted.{StepsAccepted, CallsAreRun}
 use Rattle.bench_promises.specs.Calls.{ourBench, BenchPromises}
 use Rattle.bench_promises.specs.Numbers.{BenchNumbers}
 use Rattle.bench_promises.specs.Trials.{TrialsRight}
@@ -54,7 +56,7 @@ pub record Demand1 : Type 0 where
 -- "On an idle chip of the named part and enable, power kept and no outside event but cycle ends": a `Session` of bench_promises/specs/Together.antt.
 -- Driver and chip after its choices, and what the driver answers when it is asked next
 abbrev pub now : Session → System
-now = after ourRun
+now = afterChoices ourRun
 
 abbrev pub says : Session → Answer
 says w = answerOf (now w)
@@ -79,7 +81,9 @@ pub record Demand2 : Type 0 where
   pub other : (w : Session) → cellsOf (otherOf (targetOf (w .request .place))) (now w .mem) ≡ cellsOf (otherOf (targetOf (w .request .place))) (w .mem)
   pub lock : (w : Session) → now w .chip .line .core .locked ≡ w .chip .line .core .locked
   pub unread : (w : Session) → Reads w → now w .mem ≡ w .mem
-  -- the same of one call that runs driver and chip to the end, and more
+  -- on a chip in range these are calls of `next` and `step`, none of which is refused for the state; and the same of one call that runs
+  -- driver and chip to the end, with what its tape says
+  pub calls : CallsAreRun ourDriver stepOf × StepsAccepted stepOf ourRun
   pub run : BenchPromises ourBench
 
 pub record Demand3 : Type 0 where
@@ -96,7 +100,7 @@ pub record Demand3 : Type 0 where
   -- the Start of a poll within the budget, our driver's write of n bytes inside the array, n at least 1, ends done and not refused, reports all n
   -- bytes": `Timely`, bench_promises/specs/Ends.antt
   pub ends : (w : Session) → Timely w → (q : ℕ) × (says w ≡ Done q (w .request .length))
-  -- "and begins exactly one cycle for each page it meets"
+  -- "and begins exactly one cycle for each page it meets"; that it is the page's own Stop that begins it says `BenchPromises`, `cycle-each`
   pub one-each : (w : Session) → Timely w → now w .cycles ≡ kOf (w .request)
 
 pub record Demands : Type 0 where

@@ -14,7 +14,7 @@ use Rattle.trace.specs.Trace.{traceOf, layingOf}
 use Rattle.driver.specs.Step.{beginOf}
 use Rattle.driver.specs.Machine.{ourDriver}
 use Rattle.bench.specs.Tape.{laidOf}
-use Rattle.bench_promises.specs.Calls.{Call, ourBench}
+use Rattle.bench_promises.specs.Calls.{BenchCall, ourBench}
 use lib.ListN.{length}
 use Rattle.sapwoodle.specs.Chips.{stepping, running, delivering}
 use Rattle.sapwoodle.specs.Images.{savingBytes, loadingBytes}
@@ -108,7 +108,7 @@ BenchRunIsOurBench =
     Is bench-run.ended bench-run.Reads.Learnt
     (λ κs a.
     let stored = mem (a .1 .1 .1 .1 .0 .now) (a .1 .1 .1 .1 .1 .0 .now) in
-    let k : Call = record { request = a .0; own = a .1 .0; d = a .1 .1 .0; chip = a .1 .1 .1 .0; mem = stored; buffer = a .1 .1 .1 .1 .1 .1 .0 .now } in
+    let k : BenchCall = record { request = a .0; own = a .1 .0; d = a .1 .1 .0; chip = a .1 .1 .1 .0; mem = stored; buffer = a .1 .1 .1 .1 .1 .1 .0 .now } in
     record { result = ourBench .report k; left = (tt, (tt, (tt, (tt, (ourBench .memory k .cells, (ourBench .memory k .ident, (ourBench .buffer k, tt))))))) })
 
 -- the tape is laid into the two lent buffers
@@ -117,7 +117,7 @@ BenchRecordIsOurBench =
     Is bench-record.ended bench-record.Reads.Learnt
     (λ κs a.
     let stored = mem (a .1 .1 .1 .1 .0 .now) (a .1 .1 .1 .1 .1 .0 .now) in
-    let k : Call = record { request = a .0; own = a .1 .0; d = a .1 .1 .0; chip = a .1 .1 .1 .0; mem = stored; buffer = a .1 .1 .1 .1 .1 .1 .0 .now } in
+    let k : BenchCall = record { request = a .0; own = a .1 .0; d = a .1 .1 .0; chip = a .1 .1 .1 .0; mem = stored; buffer = a .1 .1 .1 .1 .1 .1 .0 .now } in
     let events = laidOf (a .1 .1 .1 .1 .1 .1 .1 .0 .now) (ourBench .events k) in
     let levels = laidOf (a .1 .1 .1 .1 .1 .1 .1 .1 .0 .now) (ourBench .levels k) in
     record {
