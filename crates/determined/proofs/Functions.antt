@@ -58,7 +58,10 @@ use Rattle.determined.specs.Functions.{
   LoadDetermined,
   LettersDetermined,
   CodeOfDetermined,
+  TraceJudgeDetermined,
+  TracePrintDetermined,
   TraceDetermined,
+  ExplainDetermined,
   JudgeDetermined,
   FromDetermined,
   AllowedDetermined,
@@ -192,8 +195,25 @@ letters-determined = record {
 pub code-of-determined : CodeOfDetermined
 code-of-determined = plainly (λ κs a u v. refl)
 
+pub trace-judge-determined : TraceJudgeDetermined
+trace-judge-determined = plainly (λ κs a u v. refl)
+
+pub trace-print-determined : TracePrintDetermined
+trace-print-determined = record {
+  taken = λ κs a. tt;
+  equal = λ κs a x y p q. same (agree (p .0) (q .0))
+      (λ i. (tt, (tt, (tt, (tt, (agree (p .1) (q .1) i, tt))))));
+}
+
 pub trace-determined : TraceDetermined
 trace-determined = of-machine (λ κs a. tt) trace-is
+
+pub explain-determined : ExplainDetermined
+explain-determined = record {
+  taken = λ κs a. tt;
+  equal = λ κs a x y p q. same (agree (p .0) (q .0))
+      (λ i. (tt, (agree (p .1) (q .1) i, tt)));
+}
 
 pub judge-determined : JudgeDetermined
 judge-determined = plainly (λ κs a u v. refl)

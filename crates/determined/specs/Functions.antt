@@ -39,7 +39,10 @@ use Rattle.image.proofs.save as save
 use Rattle.image.proofs.load as load
 use Rattle.trace.proofs.letters as letters
 use Rattle.trace.proofs.code_of as code-of
+use Rattle.trace.proofs.judge as trace-judge
+use Rattle.trace.proofs.print as trace-print
 use Rattle.trace.proofs.trace as trace
+use Rattle.explain.proofs.explain as explain
 use Rattle.driver.proofs.judge as judge
 use Rattle.driver.proofs.from as from
 use Rattle.driver.proofs.allowed as allowed
@@ -199,8 +202,18 @@ LettersDetermined = DeterminedAs letters.ended (λ κs r. part r) letters.Reads.
 abbrev pub CodeOfDetermined : Type 0
 CodeOfDetermined = Determined code-of.ended code-of.Reads.Asked code-of.Reads.Learnt
 
+abbrev pub TraceJudgeDetermined : Type 0
+TraceJudgeDetermined = Determined trace-judge.ended trace-judge.Reads.Asked trace-judge.Reads.Learnt
+
+abbrev pub TracePrintDetermined : Type 0
+TracePrintDetermined = Determined trace-print.ended trace-print.Reads.Asked trace-print.Reads.Learnt
+
 abbrev pub TraceDetermined : Type 0
 TraceDetermined = Determined trace.ended trace.Reads.Asked trace.Reads.Learnt
+
+-- the answer and the lent buffer: what it tells on the way is promised nowhere
+abbrev pub ExplainDetermined : Type 0
+ExplainDetermined = Determined explain.ended explain.Reads.Asked explain.Reads.Learnt
 
 -- ---- driver
 

@@ -1,17 +1,31 @@
-// A trace told for people: one line a byte, and one for each cycle begun or ended. It drives the proved chip, event by event,
-// and only prints; the functions are proved safe, and what they print is promised nowhere.
+// A trace told for people: one line a byte, and one for each cycle begun or ended. It drives the proved chip, event by event, and gathers the
+// answer of `trace` as it goes: that is proved. What it prints on the way is promised nowhere.
+ghost use mathlib.Core.Path.{_≡_};
 ghost use Prim.Native.Nat.{_<_, _≤_};
+ghost use mathlib.Core.Bool.{false};
 ghost use lib.ListN.{length};
+ghost use Rattle.parts.specs.Table.{factsOf, idSizeOf};
+ghost use Rattle.parts.specs.declared.Verdict.the-variants.{Fine};
+ghost use Rattle.chip.specs.Model.{ours};
+ghost use Rattle.chip.specs.Memory.{mem};
+ghost use Rattle.chip.specs.Delivery.{standbyOf, deliveredOf};
+ghost use Rattle.chip.specs.Runs.{levelsOf, cyclesOf};
+ghost use Rattle.chip.specs.Calls.{stepOf};
+ghost use Rattle.chip_laws.specs.Runs.{stepsOf};
+ghost use Rattle.trace.specs.Trace.{codesOf, refusalTextOf, tracedVerdictOf, tracedOf, traceOf, layingOf};
 use chip::Stepped;
 use line::Line;
 use line::Phase;
 use line::Recv;
 use line::Target;
+use parts::Refusal;
+use parts::Verdict;
 use state::Chip;
 use text::say;
 use text::say_address;
 use text::say_byte;
 use text::say_number;
+use trace::Traced;
 
 // The clocks since the last Start, Stop or whole byte.
 struct Note {
@@ -24,7 +38,7 @@ struct Note {
 }
 
 struct Told {
-    chip: Chip,
+    stepped: Stepped,
     note: Note,
 }
 
@@ -286,64 +300,129 @@ fn turn(
     code: u8,
     array: &mut [u8],
     id: &mut [u8],
-) -> Told {
+) -> Told
+    ensures answer { λ r. ⌜ r .stepped ≡ stepOf part enable held (mem (now (array .entry)) (now (id .entry))) code .answer ⌝ }
+    ensures cells { λ _. ⌜ now (array .exit) ≡ stepOf part enable held (mem (now (array .entry)) (now (id .entry))) code .mem .cells ⌝ }
+    ensures ident { λ _. ⌜ now (id .exit) ≡ stepOf part enable held (mem (now (array .entry)) (now (id .entry))) code .mem .ident ⌝ }
+{
     let before = held.line;
     let stepped = chip::step(part, enable, held, array, id, code);
     let next = tell(part, note, place, before, code, stepped);
-    let kept = stepped.chip;
     Told {
-        chip: kept,
+        stepped: stepped,
         note: next,
     }
 }
 
-fn walk(part: u8, enable: u8, letters: &[u8], array: &mut [u8], id: &mut [u8])
-    requires { ⌜ length (now letters) ≤ 32768 ⌝ }
+// Every letter's step, one after the other: the levels into the lent buffer, and the sum of the cycles.
+fn follow(
+    part: u8,
+    enable: u8,
+    first: Chip,
+    letters: &[u8],
+    array: &mut [u8],
+    id: &mut [u8],
+    levels: &mut [u8],
+) -> usize
+    requires { ⌜ (length (now letters) ≤ 32768) × (length (now levels) ≡ length (now letters)) ⌝ }
+    ensures count { λ n. ⌜ n ≡ stepsOf part enable first (mem (now (array .entry)) (now (id .entry))) (codesOf (now (letters .entry))) .cycles ⌝ }
+    ensures levels { λ _. ⌜ now (levels .exit)
+        ≡ stepsOf part enable first (mem (now (array .entry)) (now (id .entry))) (codesOf (now (letters .entry))) .levels ⌝ }
 {
-    let delivered = chip::deliver(part, array, id);
-    let mut held = delivered.chip;
+    let mut held = first;
     let mut note = nothing(0);
+    let mut cycles: usize = 0;
     let mut i = 0;
     while i < letters.len() {
         let code = trace::code_of(letters[i]);
         let t = turn(part, enable, held, note, i, code, array, id);
-        let next = t.chip;
+        let s = t.stepped;
         let noted = t.note;
+        let next = s.chip;
+        levels[i] = s.level;
+        cycles += s.cycles as usize;
         held = next;
         note = noted;
         i += 1;
     }
+    cycles
 }
 
-fn walk_whole(part: u8, enable: u8, letters: &[u8])
-    requires { ⌜ length (now letters) ≤ 32768 ⌝ }
+// From delivery. A text that is judged fine: its steps are its run.
+fn walk(
+    part: u8,
+    enable: u8,
+    letters: &[u8],
+    array: &mut [u8],
+    id: &mut [u8],
+    levels: &mut [u8],
+) -> usize
+    requires { ⌜ (tracedVerdictOf part enable (codesOf (now letters)) ≡ Fine) × (length (now levels) ≡ length (now letters))
+        × (length (now array) ≡ factsOf part .size) × (length (now id) ≡ idSizeOf (factsOf part)) ⌝ }
+    ensures count { λ n. ⌜ n ≡ cyclesOf (ours (factsOf part) enable) (standbyOf (factsOf part) false) (codesOf (now (letters .entry))) ⌝ }
+    ensures levels { λ _. ⌜ now (levels .exit)
+        ≡ levelsOf (ours (factsOf part) enable) (standbyOf (factsOf part) false) (deliveredOf part) (codesOf (now (letters .entry))) ⌝ }
+{
+    let delivered = chip::deliver(part, array, id);
+    let held = delivered.chip;
+    follow(part, enable, held, letters, array, id, levels)
+}
+
+fn tell_fitted(
+    part: u8,
+    enable: u8,
+    letters: &[u8],
+    array: &mut [u8],
+    id: &mut [u8],
+    levels: &mut [u8],
+    out: &mut [u8],
+) -> Traced
+    requires { ⌜ (tracedVerdictOf part enable (codesOf (now letters)) ≡ Fine) × (length (now levels) ≡ length (now letters))
+        × (length (now array) ≡ factsOf part .size) × (length (now id) ≡ idSizeOf (factsOf part)) ⌝ }
+    ensures answer { λ r. ⌜ r ≡ layingOf (now (out .entry)) (tracedOf part enable (codesOf (now (letters .entry)))) .answer ⌝ }
+    ensures text { λ _. ⌜ now (out .exit) ≡ layingOf (now (out .entry)) (tracedOf part enable (codesOf (now (letters .entry)))) .out ⌝ }
+{
+    let cycles = walk(part, enable, letters, array, id, levels);
+    trace::print(part, Verdict::Fine, levels, cycles, out)
+}
+
+fn tell_letters(part: u8, enable: u8, letters: &[u8], out: &mut [u8]) -> Traced
+    requires { ⌜ tracedVerdictOf part enable (codesOf (now letters)) ≡ Fine ⌝ }
+    ensures answer { λ r. ⌜ r ≡ layingOf (now (out .entry)) (tracedOf part enable (codesOf (now (letters .entry)))) .answer ⌝ }
+    ensures text { λ _. ⌜ now (out .exit) ≡ layingOf (now (out .entry)) (tracedOf part enable (codesOf (now (letters .entry)))) .out ⌝ }
 {
     let mut array = [0u8; 32768];
     let mut id = [0u8; 64];
-    walk(
+    let mut levels = [0u8; 32768];
+    let n = letters.len();
+    tell_fitted(
         part,
         enable,
         letters,
         fitted::array(part, &mut array),
         fitted::id(part, &mut id),
-    );
+        &mut levels[..n],
+        out,
+    )
 }
 
-fn explain_letters(part: u8, enable: u8, letters: &[u8]) {
-    if letters.len() <= 32768 {
-        walk_whole(part, enable, letters);
-    }
+fn refused(r: Refusal, out: &mut [u8]) -> Traced
+    ensures answer { λ x. ⌜ x ≡ layingOf (now (out .entry)) (refusalTextOf r) .answer ⌝ }
+    ensures text { λ _. ⌜ now (out .exit) ≡ layingOf (now (out .entry)) (refusalTextOf r) .out ⌝ }
+{
+    let none = [0u8; 1];
+    trace::print(0, Verdict::Refused(r), &none[..0], 0, out)
 }
 
-// Tells a trace that is not refused: that is the caller's to see.
-pub fn explain(text: &[u8]) {
-    if 4 <= text.len() {
-        let part = text[0];
-        let enable = text[2];
-        if 48 <= part {
-            if 48 <= enable {
-                explain_letters(part - 48, enable - 48, trace::letters(text));
-            }
-        }
+// The answer of `trace`, from one reading and one run of the text; the run is told on the way. Of a refused text nothing is told.
+pub fn explain(text: &[u8], out: &mut [u8]) -> Traced
+    ensures answer { λ r. ⌜ r ≡ layingOf (now (out .entry)) (traceOf (now (text .entry))) .answer ⌝ }
+    ensures text { λ _. ⌜ now (out .exit) ≡ layingOf (now (out .entry)) (traceOf (now (text .entry))) .out ⌝ }
+{
+    let judged = trace::judge(text);
+    let verdict = judged.verdict;
+    match verdict {
+        Verdict::Fine => tell_letters(judged.part, judged.enable, trace::letters(text), out),
+        Verdict::Refused(r) => refused(r, out),
     }
 }

@@ -112,22 +112,10 @@ fn answer(text: &[u8]) {
     answer_in(text, &mut out);
 }
 
-// An answer that is no refusal begins with `part`.
-fn is_answered(out: &[u8]) -> bool {
-    if 0 < out.len() {
-        return out[0] == b'p';
-    }
-    false
-}
-
 // The trace told byte by byte, then its answer; of a refused one only the answer.
 fn tell_in(text: &[u8], out: &mut [u8]) {
-    let t = trace::trace(text, out);
+    let t = explain::explain(text, out);
     let n = t.length;
-    let answered = is_answered(out);
-    if answered {
-        explain::explain(text);
-    }
     put(&out[..n]);
 }
 

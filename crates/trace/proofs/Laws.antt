@@ -53,6 +53,12 @@ each-ahead g [] (suc i) = refl
 each-ahead g (x ∷ xs) zero = refl
 each-ahead g (x ∷ xs) (suc i) = each-ahead g xs i
 
+-- each element is what its own letter gives
+pub each-at : (g : ℕ → ℕ) (xs : List ℕ) (i : ℕ) → i < length xs → getD (eachOf g xs) i 0 ≡ g (getD xs i 0)
+each-at g [] i h = absurd (not-suc-le-zero h)
+each-at g (x ∷ xs) zero h = refl
+each-at g (x ∷ xs) (suc i) h = each-at g xs i (le-of-suc-le-suc h)
+
 -- where the letters end: behind the first line, inside the text
 pub letters-range : (t : List ℕ) → 4 ≤ length t → (4 ≤ lettersEndOf t) × (lettersEndOf t ≤ length t)
 unfolding lettersEndOf

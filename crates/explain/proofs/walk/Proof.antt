@@ -1,68 +1,43 @@
-use mathlib.Core.Path.{_≡_}
+use Rattle.explain.proofs.Laws.{few-letters, steps-run}
+use Rattle.trace.specs.Trace.{codesOf}
+use Rattle.chip_laws.specs.Runs.{stepsOf}
+use Rattle.chip.specs.Memory.{mem}
+use Rattle.chip.specs.declared.Delivered.{Delivered}
+use Rattle.state.specs.declared.Chip.{Chip}
+use denote.Ref.{now}
 use lib.ListN.{length}
-use Prim.Native.Nat.{_-_, _≤_}
+use mathlib.Core.Path.{ap, _∙_}
 use borrow.Author.Needs.{needs}
-use native.Mathlib.Omega.{arith}
 use Rattle.explain.proofs.walk.Statement.{statement}
 use Rattle.explain.proofs.walk.Tie as tie
 
-abbrev Inv-loop : tie.InvT-loop
-Inv-loop part enable letters array₀ id₀ held₀ note₀ i₀ array id held note i = (i ≤ length letters) × (length array ≡ length array₀) × (length id ≡ length id₀)
-
-abbrev μ-loop : tie.MeasureT-loop
-μ-loop part enable letters array₀ id₀ held₀ note₀ i₀ array id held note i = length letters - i
-
-deliver-requires : tie.Need-deliver-requires Inv-loop μ-loop
+deliver-requires : tie.Need-deliver-requires
 deliver-requires c κs = search needs
 
-nothing-requires : tie.Need-nothing-requires Inv-loop μ-loop
-nothing-requires c κs = search needs
+follow-requires : tie.Need-follow-requires
+follow-requires c κs = (few-letters (c .before .before .before .before .before .before .before .before .before .before .before .before .before .before .before .args .part) (c .before .before .before .before .before .before .before .before .before .before .before .before .before .before .before .args .enable) (now (c .before .before .before .before .before .before .before .before .before .before .before .before .before .before .before .args .letters)) (c .before .before .before .before .before .before .before .before .before .before .before .before .before .before .before .pre .0), c .before .before .before .before .before .before .before .before .before .before .before .before .before .before .before .pre .1)
 
-loop-holds : tie.Need-loop-holds Inv-loop μ-loop
-loop-holds c = search needs
-
-shared-slice-read-code-of : tie.Need-shared-slice-read-code-of Inv-loop μ-loop
-shared-slice-read-code-of c = search needs
-
-code-of-requires : tie.Need-code-of-requires Inv-loop μ-loop
-code-of-requires c κs = search needs
-
-turn-requires : tie.Need-turn-requires Inv-loop μ-loop
-turn-requires c κs = search needs
-
-add-i : tie.Need-add-i Inv-loop μ-loop
-add-i c = omega (arith, c .before .before .before .before .before .before .before .before .before .before .before .loop-test .taken, c .before .before .before .before .before .before .before .before .before .before .before .before .before .before .before .before .before .before .before .before .before .before .before .before .before .pre)
-
-loop-less : tie.Need-loop-less Inv-loop μ-loop
-loop-less c = search needs
-
-loop-again : tie.Need-loop-again Inv-loop μ-loop
-loop-again c = search needs
-
-same-length : tie.Need-same-length Inv-loop μ-loop
+same-length : tie.Need-same-length
 same-length c = search needs
 
-same-length-2 : tie.Need-same-length-2 Inv-loop μ-loop
+same-length-2 : tie.Need-same-length-2
 same-length-2 c = search needs
 
-returns : tie.Need-returns Inv-loop μ-loop
-returns c = search needs
+same-length-3 : tie.Need-same-length-3
+same-length-3 c = search needs
+
+returns : tie.Need-returns
+returns c =
+    let s = c .before .before .before .before .before .before .before .before .before .before .before .before .before .before .before .before .before .before .before .before .before .before in
+    let d = c .before .before .before .before .before .before .before .before .before .before .before .before .before .before .before .deliver in
+    let f = c .before .before .before .before .before .before .follow in
+    let es = codesOf (now (s .args .letters)) in
+    let here = mem (d .last .1 .0) (d .last .1 .1 .0) in
+    let stands = ap (λ (x : Delivered). x .chip) (d .ensures .0) in
+    let run = steps-run (s .args .part) (s .args .enable) es (d .last .1 .0) (d .last .1 .1 .0) (mem (now (s .args .array)) (now (s .args .id))) (length (now (s .args .array))) (length (now (s .args .id))) (s .pre .0) (s .pre .2) (s .pre .3) (d .kept .1 .0) (d .kept .1 .1 .0) (d .ensures .1 .0) (d .ensures .1 .1) in
+    (f .ensures .0 ∙ ap (λ (x : Chip). stepsOf (s .args .part) (s .args .enable) x here es .cycles) stands ∙ run .0, f .ensures .1 ∙ ap (λ (x : Chip). stepsOf (s .args .part) (s .args .enable) x here es .levels) stands ∙ run .1)
 
 pub walk-spec : {M : Type 1} → statement M
 walk-spec =
     tie.close
-    (tie.spec
-    Inv-loop
-    μ-loop
-    deliver-requires
-    nothing-requires
-    loop-holds
-    shared-slice-read-code-of
-    code-of-requires
-    turn-requires
-    add-i
-    loop-less
-    loop-again
-    same-length
-    same-length-2
-    returns)
+    (tie.spec deliver-requires follow-requires same-length same-length-2 same-length-3 returns)

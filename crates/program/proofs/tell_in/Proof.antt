@@ -5,20 +5,14 @@ use borrow.Author.Needs.{needs}
 use Rattle.program.proofs.tell_in.Statement.{statement}
 use Rattle.program.proofs.tell_in.Tie as tie
 
-trace-requires : tie.Need-trace-requires
-trace-requires c κs = search needs
-
-is-answered-requires : tie.Need-is-answered-requires
-is-answered-requires c κs = search needs
-
 explain-requires : tie.Need-explain-requires
 explain-requires c κs = search needs
 
 slice-reshare-prefix-put : tie.Need-slice-reshare-prefix-put
-slice-reshare-prefix-put c = length-fits _ _ _ _ (c .before .before .before .before .before .trace .ensures .0) (sym (c .before .before .before .before .before .trace .kept .1 .0))
+slice-reshare-prefix-put c = length-fits _ _ _ _ (c .before .before .explain .ensures .0) (sym (c .before .before .explain .kept .1 .0))
 
 slice-aggregate-put : tie.Need-slice-aggregate-put
-slice-aggregate-put c = sym (length-take-le _ _ (length-fits _ _ _ _ (c .before .before .before .before .before .before .trace .ensures .0) (sym (c .before .before .before .before .before .before .trace .kept .1 .0))))
+slice-aggregate-put c = sym (length-take-le _ _ (length-fits _ _ _ _ (c .before .before .before .explain .ensures .0) (sym (c .before .before .before .explain .kept .1 .0))))
 
 put-requires : tie.Need-put-requires
 put-requires c κs = search needs
@@ -33,8 +27,6 @@ pub tell-in-spec : {M : Type 1} → statement M
 tell-in-spec =
     tie.close
     (tie.spec
-    trace-requires
-    is-answered-requires
     explain-requires
     slice-reshare-prefix-put
     slice-aggregate-put
