@@ -10,8 +10,7 @@ use native.Mathlib.Omega.{arith}
 use lib.ListN.{length, getD, take, drop, set, drop-of-length-le}
 use lib.Seq.{drop-cons}
 use borrow.Author.Tests.{le-ltb}
-use Rattle.parts.specs.declared.Refusal.{Refusal}
-use Rattle.parts.specs.declared.Verdict.the-variants.{Fine, Refused}
+use Rattle.parts.specs.declared.Verdict.the-variants.{Fine}
 use Rattle.parts.specs.Table.{factsOf, idSizeOf}
 use Rattle.state.specs.declared.Chip.{Chip}
 use Rattle.chip.specs.declared.Stepped.{Stepped}
@@ -20,17 +19,12 @@ use Rattle.chip.specs.Model.{ours}
 use Rattle.chip.specs.Delivery.{standbyOf, deliveredOf}
 use Rattle.chip.specs.Runs.{levelsOf, cyclesOf}
 use Rattle.chip.specs.Calls.{deliverVerdictOf, deliverMem, stepOf, runVerdictOf}
-use Rattle.chip.proofs.Laws.{run-fine}
 use Rattle.chip_laws.specs.Runs.{stepsOf}
 use Rattle.chip_laws.proofs.Range.{standby-in-range}
 use Rattle.chip_laws.proofs.Runs.{run-begun, same-steps}
-use Rattle.trace.specs.declared.Judged.{Judged}
-use Rattle.trace.specs.Trace.{codeOf, codesOf, lettersOf, answerTextOf, refusalTextOf, reportTextOf, tracedVerdictOf, tracedOf, judgedOf, traceOf, layingOf, printingOf}
-use Rattle.trace.specs.Promises.{foretold}
+use Rattle.trace.specs.Trace.{answerTextOf, reportTextOf, tracedVerdictOf, tracedOf, layingOf, printingOf}
 use Rattle.trace.proofs.Laws.{take-all}
-use Rattle.trace.proofs.Texts.{each-length}
 use Rattle.trace.proofs.Runs.{delivered-too}
-use Rattle.trace.proofs.Promises.{prints-as-judged, judged-fine}
 
 -- ---- the turns
 
@@ -105,12 +99,6 @@ module _ (part en : ℕ) (es s d : List ℕ) (m : Mem) (n k : ℕ) where
 
 -- ---- the answer
 
-pub few-letters : (part en : ℕ) (xs : List ℕ) → tracedVerdictOf part en (codesOf xs) ≡ Fine → length xs ≤ 32768
-unfolding tracedVerdictOf
-few-letters part en xs h =
-    let few = run-fine part en (standbyOf (factsOf part) false) (factsOf part .size) (idSizeOf (factsOf part)) (codesOf xs) (length (codesOf xs)) h .0 in
-    omega (arith, few, each-length codeOf xs)
-
 -- what is printed of the levels and the cycles gathered is what is printed of the run
 pub printed-run : (out : List ℕ) (part en : ℕ) (es levels : List ℕ) (cycles : ℕ) → length levels ≤ 32768 → tracedVerdictOf part en es ≡ Fine
     → levels ≡ levelsOf (ours (factsOf part) en) (standbyOf (factsOf part) false) (deliveredOf part) es
@@ -121,12 +109,3 @@ printed-run out part en es levels cycles few fine l k =
     let lines : answerTextOf part levels cycles ≡ reportTextOf part (tracedVerdictOf part en es) (levelsOf (ours (factsOf part) en) (standbyOf (factsOf part) false) (deliveredOf part) es) (cyclesOf (ours (factsOf part) en) (standbyOf (factsOf part) false) es) =
     rw (l, k, fine) refl in
     rw (le-ltb 32768 (length levels) few) (ap (layingOf out) lines)
-
--- a text is answered as it was judged
-module _ (t : List ℕ) (j : Judged) (h : j ≡ judgedOf t) where
-  pub judged-right : (xs : List ℕ) → xs ≡ lettersOf t → j .verdict ≡ Fine
-      → (tracedVerdictOf (j .part) (j .enable) (codesOf xs) ≡ Fine) × (traceOf t ≡ tracedOf (j .part) (j .enable) (codesOf xs))
-  judged-right xs e v = rw (h, e) (judged-fine t (ap (λ (x : Judged). x .verdict) (sym h) ∙ v))
-
-  pub judged-refused : (r : Refusal) → j .verdict ≡ Refused r → traceOf t ≡ refusalTextOf r
-  judged-refused r e = prints-as-judged t ∙ ap (λ (x : Judged). foretold t x (x .verdict)) (sym h) ∙ ap (foretold t j) e

@@ -22,12 +22,9 @@ use Rattle.parts.proofs.Laws.{known, unknown}
 use Rattle.parts.proofs.Claims.{Later, later-claim, later-sooner, given-first}
 use Rattle.chip.specs.Calls.{scanOf}
 use Rattle.chip.proofs.Laws.{scan-later}
-use Rattle.trace.specs.Trace.{headRightOf, lettersEndOf, lettersOf, codeOf, codesOf, leadingOf, decimalOf, refusalTextOf, tracedVerdictOf, tracedOf, traceOf, roomVerdictOf, layingOf}
-use Rattle.trace.specs.Numbers.{Tracing, partNamed, enableNamed, takenAt, Named, Short, refusedLine, refusedAt, runLines, callNumber, printed, Prints, TraceNumbers, OneTraceNumber, EagerBreaks}
+use Rattle.trace.specs.Trace.{headRightOf, lettersEndOf, lettersOf, codeOf, codesOf, leadingOf, decimalOf, refusalTextOf, tracedVerdictOf, tracedOf, traceOf, roomVerdictOf}
+use Rattle.trace.specs.Numbers.{Tracing, tracing, partNamed, enableNamed, takenAt, Named, Short, refusedLine, refusedAt, runLines, callNumber, printed, Prints, TraceNumbers, OneTraceNumber, EagerBreaks}
 use Rattle.trace.proofs.Runs.{claimed-letters, trace-right}
-
-abbrev tracing : Tracing
-tracing t out = layingOf out (traceOf t)
 
 -- ---- a text laid into a lent buffer
 

@@ -14,11 +14,15 @@ use Rattle.chip.specs.Model.{ours}
 use Rattle.chip.specs.Delivery.{standbyOf, deliveredOf}
 use Rattle.chip.specs.Runs.{levelsOf, cyclesOf}
 use Rattle.chip.specs.Calls.{scanOf}
-use Rattle.trace.specs.Trace.{headRightOf, lettersOf, codeOf, codesOf, refusedWord, atWord, newline, decimalOf, linesOf, charsOf, refusalTextOf, reportTextOf, tracedVerdictOf, TraceLeft, layingOf}
+use Rattle.trace.specs.Trace.{headRightOf, lettersOf, codeOf, codesOf, refusedWord, atWord, newline, decimalOf, linesOf, charsOf, refusalTextOf, reportTextOf, tracedVerdictOf, traceOf, TraceLeft, layingOf}
 
 -- any function of the text and the lent buffer
 abbrev pub Tracing : Type 0
 Tracing = List ℕ → List ℕ → TraceLeft
+
+-- ours
+abbrev pub tracing : Tracing
+tracing t out = layingOf out (traceOf t)
 
 -- ---- what a text names
 

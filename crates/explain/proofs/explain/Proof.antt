@@ -1,4 +1,4 @@
-use Rattle.explain.proofs.Laws.{judged-right, judged-refused}
+use Rattle.trace.proofs.Promises.{judged-right, judged-refused}
 use Rattle.trace.specs.Trace.{layingOf}
 use denote.Ref.{now}
 use mathlib.Core.List.{List}

@@ -1,4 +1,5 @@
-use Rattle.explain.proofs.Laws.{few-letters, printed-run}
+use Rattle.trace.proofs.Promises.{few-letters}
+use Rattle.explain.proofs.Laws.{printed-run}
 use Rattle.trace.specs.Trace.{codesOf, TraceLeft}
 use native.Mathlib.Omega.{arith}
 use denote.Ref.{now}

@@ -1,4 +1,4 @@
-use Rattle.explain.proofs.Laws.{few-letters}
+use Rattle.trace.proofs.Promises.{few-letters}
 use Rattle.trace.proofs.Runs.{id-most}
 use Rattle.parts.proofs.Laws.{sound}
 use native.Mathlib.Omega.{arith}

@@ -1,4 +1,5 @@
-use Rattle.explain.proofs.Laws.{few-letters, steps-run}
+use Rattle.trace.proofs.Promises.{few-letters}
+use Rattle.explain.proofs.Laws.{steps-run}
 use Rattle.trace.specs.Trace.{codesOf}
 use Rattle.chip_laws.specs.Runs.{stepsOf}
 use Rattle.chip.specs.Memory.{mem}
