@@ -215,7 +215,7 @@ fn choose(word: &[u8]) {
     }
     let version = check::same(word, b"version");
     if version {
-        return put(b"sapwoodle 0.7.2\n");
+        return put(b"sapwoodle 0.7.3\n");
     }
     let help = check::same(word, b"help");
     if help {
