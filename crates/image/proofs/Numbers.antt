@@ -2,15 +2,13 @@
 -- Assumes nothing.
 use Prim.Native.Nat.{ℕ, _<_, _≤_}
 use mathlib.Core.Path.{_≡_, refl, sym, ap, _∙_}
-use mathlib.Core.Bool.{Bool, true, false, not, cond}
+use mathlib.Core.Bool.{Bool, true, false, not}
 use mathlib.Core.List.{List, [], _∷_}
-use mathlib.Core.Logic.{_⊎_, inl, inr}
 use native.Mathlib.Decide.{ℕ-discrete, decLt}
 use native.Mathlib.Omega.{arith}
-use lib.ListN.{length, getD}
-use lib.Dec.{ltb, eqb}
-use borrow.Author.Tests.{lt-ltb, le-ltb, eq-eqb, eqb-true}
-use Rattle.parts.specs.declared.Facts.{Facts}
+use lib.ListN.{length}
+use lib.Dec.{ltb}
+use borrow.Author.Tests.{lt-ltb, le-ltb}
 use Rattle.parts.specs.declared.Refusal.{Refusal}
 use Rattle.parts.specs.declared.Refusal.the-variants.{NoPart, WrongEnable, WrongBuffer, BadState, ShortBuffer, BadImage}
 use Rattle.parts.specs.declared.Verdict.{Verdict}
@@ -18,16 +16,16 @@ use Rattle.parts.specs.declared.Verdict.the-variants.{Fine, Refused}
 use Rattle.parts.specs.Table.{factsOf, idSizeOf, buffersRightOf, enableRightOf}
 use Rattle.parts.specs.Refusals.{rankOf, verdictNumberOf, claimOf, soonerOf, lentVerdictOf}
 use Rattle.parts.proofs.Laws.{known, unknown, buffers-right, buffers-wrong}
-use Rattle.parts.proofs.Claims.{Later, later-claim, later-sooner, given-first, lent-unknown, lent-wrong, fine-lent}
-use Rattle.parts.proofs.Tests.{both}
+use Rattle.parts.proofs.Claims.{refused-not, Later, later-claim, later-sooner, given-first, lent-unknown, lent-wrong, fine-lent}
 use Rattle.state.specs.declared.Chip.{Chip}
 use Rattle.state.specs.Range.{inRangeOf}
 use Rattle.chip.specs.Memory.{Mem, mem}
 use Rattle.chip.specs.Delivery.{standbyOf}
-use Rattle.image.specs.Layout.{imageLengthOf, partIn, imageMarkRightOf, lockByteRightOf, formedOf}
-use Rattle.image.specs.Calls.{saveVerdictOf, saveBy, saving, judgedOf, loadVerdictOf, loadBy, loading}
-use Rattle.image.specs.Promises.{Saving, Loading, BuffersFit}
-use Rattle.image.specs.Numbers.{imageBytes, saveNumber, SaveNumbers, FormRight, Openable, loadNumber, LoadNumbers, OneImageNumber, RoomFirstBreaks, FormFirstBreaks}
+use Rattle.image.specs.Layout.{imageLengthOf, partIn, formedOf}
+use Rattle.image.specs.Calls.{saveVerdictOf, saveBy, saving, judgedOf, loadVerdictOf, loading}
+use Rattle.image.specs.Promises.{Saving, Loading, BuffersFit, Form}
+use Rattle.image.specs.Numbers.{saveNumber, SaveNumbers, Openable, loadNumber, LoadNumbers, OneImageNumber, RoomFirstBreaks, FormFirstBreaks}
+use Rattle.image.proofs.Kept.{load-verdict, accepts-only, accepts-all}
 
 -- ---- the two lent buffers
 
@@ -81,9 +79,9 @@ module _ (part : ℕ) (c : Chip) (m : Mem) (out : List ℕ) where
       (ap (λ (v : Verdict). soonerOf v (soonerOf state short)) f ∙ ap (λ (b : Bool). soonerOf (claimOf (not b) BadState) short) o
       ∙ given-first BadState short (later-claim (rankOf BadState) (ltb (length out) (imageLengthOf (factsOf part))) ShortBuffer (omega arith)))
 
-  room : (b : Bool) → lent part m ≡ Fine → inRangeOf (factsOf part) c ≡ true → ltb (length out) (imageBytes part) ≡ b
+  room : (b : Bool) → lent part m ≡ Fine → inRangeOf (factsOf part) c ≡ true → ltb (length out) (imageLengthOf (factsOf part)) ≡ b
       → saveNumber saving part c m out ≡ verdictNumberOf (claimOf b ShortBuffer)
-  unfolding saveVerdictOf soonerOf imageLengthOf
+  unfolding saveVerdictOf soonerOf
   room b f o e = save-number (claimOf b ShortBuffer) (rw (f, o, e) refl)
 
 pub save-numbers : SaveNumbers saving
@@ -92,54 +90,9 @@ save-numbers part c m out =
       no-part = λ h. lent-first part c m out NoPart (omega arith) (lent-1 part m h);
       wrong-buffer = λ k w. lent-first part c m out WrongBuffer (omega arith) (lent-3 part m k w);
       bad-state = λ k f o. state-first part c m out (lent-0 part m k f) o;
-      short-buffer = λ k f o h. room part c m out true (lent-0 part m k f) o (lt-ltb (length out) (imageBytes part) h);
-      none = λ k f o h. room part c m out false (lent-0 part m k f) o (le-ltb (length out) (imageBytes part) h);
+      short-buffer = λ k f o h. room part c m out true (lent-0 part m k f) o (lt-ltb (length out) (imageLengthOf (factsOf part)) h);
+      none = λ k f o h. room part c m out false (lent-0 part m k f) o (le-ltb (length out) (imageLengthOf (factsOf part)) h);
     }
-
--- ---- the form of an image
-
-mark-facts : (l : List ℕ) → imageMarkRightOf l ≡ true
-    → ((getD l 0 0 ≡ 0x45) × (getD l 1 0 ≡ 0x50) × (getD l 2 0 ≡ 0x52)) × ((getD l 3 0 ≡ 0x00) × (getD l 4 0 ≡ 0x01))
-unfolding imageMarkRightOf
-mark-facts l h =
-    let a = both (eqb (getD l 0 0) 0x45) _ h in
-    let b = both (eqb (getD l 1 0) 0x50) _ (a .1) in
-    let c = both (eqb (getD l 2 0) 0x52) _ (b .1) in
-    let d = both (eqb (getD l 3 0) 0x00) (eqb (getD l 4 0) 0x01) (c .1) in
-    ((eqb-true (getD l 0 0) 0x45 (a .0), eqb-true (getD l 1 0) 0x50 (b .0), eqb-true (getD l 2 0) 0x52 (c .0)), (eqb-true (getD l 3 0) 0x00 (d .0), eqb-true (getD l 4 0) 0x01 (d .1)))
-
-lock-facts : (f : Facts) (b : ℕ) → lockByteRightOf f b ≡ true → (b ≡ 0) ⊎ ((b ≡ 1) × (f .ident ≡ true))
-unfolding lockByteRightOf
-lock-facts f b h = go (eqb b 0) refl h
-  where
-    go : (x : Bool) → eqb b 0 ≡ x → cond x true (cond (eqb b 1) (f .ident) false) ≡ true → (b ≡ 0) ⊎ ((b ≡ 1) × (f .ident ≡ true))
-    go true e k = inl (eqb-true b 0 e)
-    go false e k = let p = both (eqb b 1) (f .ident) k in inr (eqb-true b 1 (p .0), p .1)
-
-form-facts : (l : List ℕ) → formedOf (factsOf (partIn l)) l ≡ true → FormRight l
-unfolding formedOf imageLengthOf
-form-facts l h =
-    let a = both (eqb (length l) (imageBytes (partIn l))) _ h in
-    let b = both (imageMarkRightOf l) (lockByteRightOf (factsOf (partIn l)) (getD l 6 0)) (a .1) in
-    let m = mark-facts l (b .0) in
-    record { bytes = eqb-true (length l) (imageBytes (partIn l)) (a .0); mark = m .0; version = m .1; lock = lock-facts (factsOf (partIn l)) (getD l 6 0) (b .1) }
-
-lock-right : (f : Facts) (b : ℕ) → (b ≡ 0) ⊎ ((b ≡ 1) × (f .ident ≡ true)) → lockByteRightOf f b ≡ true
-unfolding lockByteRightOf
-lock-right f b (inl e) = rw e refl
-lock-right f b (inr p) = rw (p .0, p .1) refl
-
-form-right : (l : List ℕ) → FormRight l → formedOf (factsOf (partIn l)) l ≡ true
-unfolding formedOf imageLengthOf imageMarkRightOf
-form-right l r =
-    rw (eq-eqb (length l) (imageBytes (partIn l)) (r .bytes), r .mark .0, r .mark .1, r .mark .2, r .version .0, r .version .1, lock-right (factsOf (partIn l)) (getD l 6 0) (r .lock)) refl
-
-form-wrong : (l : List ℕ) → (FormRight l → ⊥) → formedOf (factsOf (partIn l)) l ≡ false
-form-wrong l w = go (formedOf (factsOf (partIn l)) l) refl
-  where
-    go : (b : Bool) → formedOf (factsOf (partIn l)) l ≡ b → b ≡ false
-    go true e = absurd (w (form-facts l e))
-    go false e = refl
 
 -- ---- loading
 
@@ -150,21 +103,20 @@ module _ (l : List ℕ) (en : ℕ) (m : Mem) where
   abbrev form : Verdict
   form = claimOf (not (formedOf (factsOf (partIn l)) l)) BadImage
 
-  load-number : (v : Verdict) → loadVerdictOf l en (length (m .cells)) (length (m .ident)) ≡ v → loadNumber loading l en m ≡ verdictNumberOf v
-  load-number v h = ap (λ (w : Verdict). verdictNumberOf (loadBy l w .verdict)) h ∙ by v
-    where
-      by : (w : Verdict) → verdictNumberOf (loadBy l w .verdict) ≡ verdictNumberOf w
-      by Fine = refl
-      by (Refused r) = refl
+  answered : (v : Verdict) → loadVerdictOf l en (length (m .cells)) (length (m .ident)) ≡ v → loading l en m .answer .verdict ≡ v
+  answered v h = load-verdict l (loadVerdictOf l en (length (m .cells)) (length (m .ident))) ∙ h
 
   unnamed : length l < 6 → loadNumber loading l en m ≡ 12
   unfolding loadVerdictOf
-  unnamed h = load-number (Refused BadImage) (rw (lt-ltb (length l) 6 h) refl)
+  unnamed h = ap verdictNumberOf (answered (Refused BadImage) (rw (lt-ltb (length l) 6 h) refl))
 
   -- the image holds its part byte
-  judged : (v : Verdict) → 6 ≤ length l → soonerOf (lent (partIn l) m) (soonerOf enable form) ≡ v → loadNumber loading l en m ≡ verdictNumberOf v
+  held : (v : Verdict) → 6 ≤ length l → soonerOf (lent (partIn l) m) (soonerOf enable form) ≡ v → loading l en m .answer .verdict ≡ v
   unfolding loadVerdictOf judgedOf
-  judged v h e = load-number v (rw (le-ltb (length l) 6 h) e)
+  held v h e = answered v (rw (le-ltb (length l) 6 h) e)
+
+  judged : (v : Verdict) → 6 ≤ length l → soonerOf (lent (partIn l) m) (soonerOf enable form) ≡ v → loadNumber loading l en m ≡ verdictNumberOf v
+  judged v h e = ap verdictNumberOf (held v h e)
 
   later-form : (k : ℕ) → k ≤ rankOf BadImage → Later k form
   later-form k h = later-claim k (not (formedOf (factsOf (partIn l)) l)) BadImage h
@@ -207,9 +159,23 @@ module _ (l : List ℕ) (en : ℕ) (m : Mem) where
       ∙ ap (λ (b : Bool). soonerOf (Refused WrongBuffer) (soonerOf (claimOf (not b) WrongEnable) form)) (enabled e)
       ∙ given-first WrongBuffer form (later-form (rankOf WrongBuffer) (omega arith)))
 
-  form-last : (b : Bool) → Openable l en m → formedOf (factsOf (partIn l)) l ≡ b → loadNumber loading l en m ≡ verdictNumberOf (claimOf (not b) BadImage)
+  form-last : (b : Bool) → Openable l en m → formedOf (factsOf (partIn l)) l ≡ b → loading l en m .answer .verdict ≡ claimOf (not b) BadImage
   unfolding soonerOf
-  form-last b o e = judged (claimOf (not b) BadImage) (o .named) (rw (lent-0 (partIn l) m (o .known) (o .fits), enabled (o .enabled), e) refl)
+  form-last b o e = held (claimOf (not b) BadImage) (o .named) (rw (lent-0 (partIn l) m (o .known) (o .fits), enabled (o .enabled), e) refl)
+
+  -- what has the form is taken, and nothing else is
+  formed-fine : Openable l en m → Form l → loading l en m .answer .verdict ≡ Fine
+  formed-fine o f = accepts-all l en m f (enabled (o .enabled)) (o .fits)
+
+  fine-formed : Openable l en m → formedOf (factsOf (partIn l)) l ≡ true → Form l
+  fine-formed o e = accepts-only l en m (form-last true o e)
+
+  formless : Openable l en m → (Form l → ⊥) → loading l en m .answer .verdict ≡ Refused BadImage
+  formless o w = go (formedOf (factsOf (partIn l)) l) refl
+    where
+      go : (b : Bool) → formedOf (factsOf (partIn l)) l ≡ b → loading l en m .answer .verdict ≡ Refused BadImage
+      go true e = absurd (w (fine-formed o e))
+      go false e = form-last false o e
 
 pub load-numbers : LoadNumbers loading
 load-numbers l en m =
@@ -218,8 +184,8 @@ load-numbers l en m =
       no-part = part-first l en m;
       wrong-enable = enable-first l en m;
       wrong-buffer = buffer-first l en m;
-      bad-image = λ o w. form-last l en m false o (form-wrong l w);
-      none = λ o r. form-last l en m true o (form-right l r);
+      bad-image = λ o w. ap verdictNumberOf (formless l en m o w);
+      none = λ o f. ap verdictNumberOf (formed-fine l en m o f);
     }
 
 -- ---- one of the conditions holds of every call
@@ -247,21 +213,21 @@ one-save S T p q part c m out =
     part-or-not part m (λ h. a .no-part h ∙ sym (b .no-part h))
     (λ k. fit-or-not part m (λ w. a .wrong-buffer k w ∙ sym (b .wrong-buffer k w)) (λ f. ranged k f (inRangeOf (factsOf part) c) refl))
   where
-    roomy : part ≤ 5 → BuffersFit part m → inRangeOf (factsOf part) c ≡ true → Dec (length out < imageBytes part) → saveNumber S part c m out ≡ saveNumber T part c m out
+    roomy : part ≤ 5 → BuffersFit part m → inRangeOf (factsOf part) c ≡ true → Dec (length out < imageLengthOf (factsOf part)) → saveNumber S part c m out ≡ saveNumber T part c m out
     roomy k f o (yes h) = p part c m out .short-buffer k f o h ∙ sym (q part c m out .short-buffer k f o h)
     roomy k f o (no h) = p part c m out .none k f o (omega (arith, h)) ∙ sym (q part c m out .none k f o (omega (arith, h)))
 
     ranged : part ≤ 5 → BuffersFit part m → (x : Bool) → inRangeOf (factsOf part) c ≡ x → saveNumber S part c m out ≡ saveNumber T part c m out
     ranged k f false o = p part c m out .bad-state k f o ∙ sym (q part c m out .bad-state k f o)
-    ranged k f true o = roomy k f o (decLt (length out) (imageBytes part))
+    ranged k f true o = roomy k f o (decLt (length out) (imageLengthOf (factsOf part)))
 
 one-load : (L K : Loading) → LoadNumbers L → LoadNumbers K → (l : List ℕ) (en : ℕ) (m : Mem) → loadNumber L l en m ≡ loadNumber K l en m
 one-load L K p q l en m = named (decLt (length l) 6)
   where
     formed : Openable l en m → (x : Bool) → formedOf (factsOf (partIn l)) l ≡ x → loadNumber L l en m ≡ loadNumber K l en m
-    formed o true e = p l en m .none o (form-facts l e) ∙ sym (q l en m .none o (form-facts l e))
+    formed o true e = p l en m .none o (fine-formed l en m o e) ∙ sym (q l en m .none o (fine-formed l en m o e))
     formed o false e =
-        let w : (FormRight l → ⊥) = (λ r. let z : _≡_ {A = Bool} false true = sym e ∙ form-right l r in let y : _≡_ {A = ℕ} 0 1 = cc in absurd (omega arith)) in
+        let w : (Form l → ⊥) = (λ f. refused-not (sym (form-last l en m false o e) ∙ formed-fine l en m o f)) in
         p l en m .bad-image o w ∙ sym (q l en m .bad-image o w)
 
     enables : 6 ≤ length l → partIn l ≤ 5 → Dec (en < factsOf (partIn l) .enables) → loadNumber L l en m ≡ loadNumber K l en m

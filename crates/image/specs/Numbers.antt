@@ -1,30 +1,25 @@
 -- Which number a save and a load give, by plain conditions, each with all earlier ones excluded (document 01, 'Refusal numbers' and
 -- 'The image'), and 0 where none applies. Said of any functions of the form, so that another order breaks it.
 -- Assumes nothing.
-use Prim.Native.Nat.{ℕ, _+_, _<_, _≤_}
+use Prim.Native.Nat.{ℕ, _<_, _≤_}
 use mathlib.Core.Path.{_≡_}
 use mathlib.Core.Bool.{true, false, cond}
 use mathlib.Core.List.{List}
-use mathlib.Core.Logic.{_⊎_}
-use lib.ListN.{length, getD}
+use lib.ListN.{length}
 use lib.Dec.{ltb}
 use Rattle.parts.specs.declared.Refusal.the-variants.{ShortBuffer, BadImage}
 use Rattle.parts.specs.declared.Verdict.{Verdict}
 use Rattle.parts.specs.declared.Verdict.the-variants.{Refused}
-use Rattle.parts.specs.Table.{factsOf, idSizeOf}
+use Rattle.parts.specs.Table.{factsOf}
 use Rattle.parts.specs.Refusals.{verdictNumberOf}
 use Rattle.state.specs.declared.Chip.{Chip}
 use Rattle.state.specs.Range.{inRangeOf}
 use Rattle.chip.specs.Memory.{Mem}
 use Rattle.image.specs.Layout.{imageLengthOf, partIn, formedOf}
 use Rattle.image.specs.Calls.{saveVerdictOf, saveBy, saveOut, loadVerdictOf, loadBy, loadMem}
-use Rattle.image.specs.Promises.{Saving, Loading, BuffersFit}
+use Rattle.image.specs.Promises.{Saving, Loading, BuffersFit, Form}
 
 -- ---- saving: 1 3 4 6
-
--- 7 bytes, the array and the identification page
-abbrev pub imageBytes : ℕ → ℕ
-imageBytes part = 7 + factsOf part .size + idSizeOf (factsOf part)
 
 module _ (save : Saving) (part : ℕ) (c : Chip) (m : Mem) (out : List ℕ) where
   abbrev pub saveNumber : ℕ
@@ -34,21 +29,13 @@ module _ (save : Saving) (part : ℕ) (c : Chip) (m : Mem) (out : List ℕ) wher
     pub no-part : 5 < part → saveNumber ≡ 1
     pub wrong-buffer : part ≤ 5 → (BuffersFit part m → ⊥) → saveNumber ≡ 3
     pub bad-state : part ≤ 5 → BuffersFit part m → inRangeOf (factsOf part) c ≡ false → saveNumber ≡ 4
-    pub short-buffer : part ≤ 5 → BuffersFit part m → inRangeOf (factsOf part) c ≡ true → length out < imageBytes part → saveNumber ≡ 6
-    pub none : part ≤ 5 → BuffersFit part m → inRangeOf (factsOf part) c ≡ true → imageBytes part ≤ length out → saveNumber ≡ 0
+    pub short-buffer : part ≤ 5 → BuffersFit part m → inRangeOf (factsOf part) c ≡ true → length out < imageLengthOf (factsOf part) → saveNumber ≡ 6
+    pub none : part ≤ 5 → BuffersFit part m → inRangeOf (factsOf part) c ≡ true → imageLengthOf (factsOf part) ≤ length out → saveNumber ≡ 0
 
 abbrev pub SaveNumbers : Saving → Type 0
 SaveNumbers save = (part : ℕ) (c : Chip) (m : Mem) (out : List ℕ) → SaveNumber save part c m out
 
 -- ---- loading: 12 for an image that does not hold its part byte, then 1 2 3 12
-
--- "image length, mark, version or lock byte" right for the part that the image names
-pub record FormRight (l : List ℕ) : Type 0 where
-  pub bytes : length l ≡ imageBytes (partIn l)
-  pub mark : (getD l 0 0 ≡ 0x45) × (getD l 1 0 ≡ 0x50) × (getD l 2 0 ≡ 0x52)
-  pub version : (getD l 3 0 ≡ 0x00) × (getD l 4 0 ≡ 0x01)
-  -- locked only where there is an identification page
-  pub lock : (getD l 6 0 ≡ 0) ⊎ ((getD l 6 0 ≡ 1) × (factsOf (partIn l) .ident ≡ true))
 
 -- the image holds its part byte, and 1, 2 and 3 do not apply
 pub record Openable (l : List ℕ) (enable : ℕ) (m : Mem) : Type 0 where
@@ -66,8 +53,9 @@ module _ (load : Loading) (l : List ℕ) (enable : ℕ) (m : Mem) where
     pub no-part : 6 ≤ length l → 5 < partIn l → loadNumber ≡ 1
     pub wrong-enable : 6 ≤ length l → partIn l ≤ 5 → factsOf (partIn l) .enables ≤ enable → loadNumber ≡ 2
     pub wrong-buffer : 6 ≤ length l → partIn l ≤ 5 → enable < factsOf (partIn l) .enables → (BuffersFit (partIn l) m → ⊥) → loadNumber ≡ 3
-    pub bad-image : Openable l enable m → (FormRight l → ⊥) → loadNumber ≡ 12
-    pub none : Openable l enable m → FormRight l → loadNumber ≡ 0
+    -- "image length, mark, version or lock byte wrong for its part"
+    pub bad-image : Openable l enable m → (Form l → ⊥) → loadNumber ≡ 12
+    pub none : Openable l enable m → Form l → loadNumber ≡ 0
 
 abbrev pub LoadNumbers : Loading → Type 0
 LoadNumbers load = (l : List ℕ) (enable : ℕ) (m : Mem) → LoadNumber load l enable m

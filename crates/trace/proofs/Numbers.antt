@@ -22,8 +22,8 @@ use Rattle.parts.proofs.Laws.{known, unknown}
 use Rattle.parts.proofs.Claims.{Later, later-claim, later-sooner, given-first}
 use Rattle.chip.specs.Calls.{scanOf}
 use Rattle.chip.proofs.Laws.{scan-later}
-use Rattle.trace.specs.Trace.{headRightOf, lettersEndOf, lettersOf, codeOf, codesOf, leadingOf, decimalOf, refusalTextOf, tracedVerdictOf, tracedOf, traceOf, roomVerdictOf}
-use Rattle.trace.specs.Numbers.{Tracing, tracing, partNamed, enableNamed, takenAt, Named, Short, refusedLine, refusedAt, runLines, callNumber, printed, Prints, TraceNumbers, OneTraceNumber, EagerBreaks}
+use Rattle.trace.specs.Trace.{headRightOf, lettersEndOf, lettersOf, codeOf, codesOf, leadingOf, decimalOf, refusalTextOf, ranTextOf, tracedVerdictOf, tracedOf, traceOf, roomVerdictOf}
+use Rattle.trace.specs.Numbers.{Tracing, tracing, partNamed, enableNamed, takenAt, Named, Short, refusedLine, refusedAt, callNumber, printed, Prints, TraceNumbers, OneTraceNumber, EagerBreaks}
 use Rattle.trace.proofs.Runs.{claimed-letters, trace-right}
 
 -- ---- a text laid into a lent buffer
@@ -115,7 +115,7 @@ module _ (t : List ℕ) where
   unfolding tracedOf
   refused-text r h v = trace-right t h ∙ rw v refl
 
-  answered-text : headRightOf t ≡ true → tracedVerdictOf p e (codesOf (lettersOf t)) ≡ Fine → traceOf t ≡ runLines t
+  answered-text : headRightOf t ≡ true → tracedVerdictOf p e (codesOf (lettersOf t)) ≡ Fine → traceOf t ≡ ranTextOf p e (codesOf (lettersOf t))
   unfolding tracedOf
   answered-text h v = trace-right t h ∙ rw v refl
 
@@ -197,7 +197,7 @@ module _ (S T : Tracing) (p : TraceNumbers S) (q : TraceNumbers T) (t out : List
   same-letters n (yes h) = same (refusedLine 13) (p t out .too-many n h) (q t out .too-many n h)
   same-letters n (no h) =
       let s : Short t = record { named = n; few = omega (arith, h) } in
-      first-wrong t (length (lettersOf t)) (λ r. same (runLines t) (p t out .answered s r) (q t out .answered s r))
+      first-wrong t (length (lettersOf t)) (λ r. same (ranTextOf (partNamed t) (enableNamed t) (codesOf (lettersOf t))) (p t out .answered s r) (q t out .answered s r))
       (λ k i r b. same (refusedAt k) (p t out .bad-event k s i r b) (q t out .bad-event k s i r b))
 
   same-enable : headRightOf t ≡ true → partNamed t ≤ 5 → Dec (enableNamed t < factsOf (partNamed t) .enables) → Same

@@ -4,17 +4,14 @@
 use Prim.Native.Nat.{ℕ, _-_, _<_, _≤_}
 use mathlib.Core.Path.{_≡_}
 use mathlib.Core.Bool.{Bool, true, false, cond}
-use mathlib.Core.List.{List, _++_}
+use mathlib.Core.List.{List, [], _++_}
 use lib.ListN.{length, getD, take}
-use Rattle.parts.specs.declared.Refusal.the-variants.{NoPart}
+use Rattle.parts.specs.declared.Verdict.{Verdict}
 use Rattle.parts.specs.Table.{factsOf}
 use Rattle.parts.specs.Events.{eventRightOf}
 use Rattle.parts.specs.Refusals.{verdictNumberOf, isFine}
-use Rattle.chip.specs.Model.{ours}
-use Rattle.chip.specs.Delivery.{standbyOf, deliveredOf}
-use Rattle.chip.specs.Runs.{levelsOf, cyclesOf}
 use Rattle.chip.specs.Calls.{scanOf}
-use Rattle.trace.specs.Trace.{headRightOf, lettersOf, codeOf, codesOf, refusedWord, atWord, newline, decimalOf, linesOf, charsOf, refusalTextOf, reportTextOf, tracedVerdictOf, traceOf, TraceLeft, layingOf}
+use Rattle.trace.specs.Trace.{headRightOf, lettersOf, codeOf, codesOf, refusedWord, atWord, newline, decimalOf, ranTextOf, reportTextOf, traceOf, TraceLeft, layingOf}
 
 -- any function of the text and the lent buffer
 abbrev pub Tracing : Type 0
@@ -58,13 +55,6 @@ refusedLine n = refusedWord ++ decimalOf n ++ newline
 abbrev pub refusedAt : ℕ → List ℕ
 refusedAt k = refusedWord ++ decimalOf 5 ++ (atWord ++ decimalOf k ++ newline)
 
--- part, levels and cycles of the run from delivery
-abbrev pub runLines : List ℕ → List ℕ
-runLines t =
-    linesOf (partNamed t)
-    (charsOf (levelsOf (ours (factsOf (partNamed t)) (enableNamed t)) (standbyOf (factsOf (partNamed t)) false) (deliveredOf (partNamed t)) (codesOf (lettersOf t))))
-    (cyclesOf (ours (factsOf (partNamed t)) (enableNamed t)) (standbyOf (factsOf (partNamed t)) false) (codesOf (lettersOf t)))
-
 module _ (trace : Tracing) (t out : List ℕ) where
   abbrev pub callNumber : ℕ
   callNumber = verdictNumberOf (trace t out .answer .verdict)
@@ -85,7 +75,7 @@ module _ (trace : Tracing) (t out : List ℕ) where
     pub too-many : Named t → 32768 < length (lettersOf t) → Prints (refusedLine 13)
     -- the first letter that the part does not take, with its place
     pub bad-event : (k : ℕ) → Short t → k < length (lettersOf t) → ((j : ℕ) → j < k → takenAt t j ≡ true) → takenAt t k ≡ false → Prints (refusedAt k)
-    pub answered : Short t → ((j : ℕ) → j < length (lettersOf t) → takenAt t j ≡ true) → Prints (runLines t)
+    pub answered : Short t → ((j : ℕ) → j < length (lettersOf t) → takenAt t j ≡ true) → Prints (ranTextOf (partNamed t) (enableNamed t) (codesOf (lettersOf t)))
 
 abbrev pub TraceNumbers : Tracing → Type 0
 TraceNumbers trace = (t out : List ℕ) → TraceNumber trace t out
@@ -98,15 +88,11 @@ OneTraceNumber =
 
 -- ---- another order: 5 before 2
 
+abbrev scanned : List ℕ → Verdict
+scanned t = scanOf (factsOf (partNamed t) .pin) 0 (codesOf (lettersOf t))
+
 abbrev eagerText : List ℕ → List ℕ
-eagerText t =
-    cond (headRightOf t)
-    (reportTextOf (partNamed t)
-    (cond (isFine (scanOf (factsOf (partNamed t) .pin) 0 (codesOf (lettersOf t)))) (tracedVerdictOf (partNamed t) (enableNamed t) (codesOf (lettersOf t)))
-    (scanOf (factsOf (partNamed t) .pin) 0 (codesOf (lettersOf t))))
-    (levelsOf (ours (factsOf (partNamed t)) (enableNamed t)) (standbyOf (factsOf (partNamed t)) false) (deliveredOf (partNamed t)) (codesOf (lettersOf t)))
-    (cyclesOf (ours (factsOf (partNamed t)) (enableNamed t)) (standbyOf (factsOf (partNamed t)) false) (codesOf (lettersOf t))))
-    (refusalTextOf NoPart)
+eagerText t = cond (headRightOf t) (cond (isFine (scanned t)) (traceOf t) (reportTextOf (partNamed t) (scanned t) [] 0)) (traceOf t)
 
 abbrev pub eager : Tracing
 eager t out = layingOf out (eagerText t)

@@ -4,15 +4,10 @@ use Prim.Native.Nat.{ℕ, _≤_}
 use mathlib.Core.Path.{_≡_}
 use mathlib.Core.List.{List, [], _∷_, _++_}
 use lib.ListN.{length, take}
-use mathlib.Core.Bool.{false}
 use Rattle.parts.specs.declared.Verdict.{Verdict}
 use Rattle.parts.specs.declared.Verdict.the-variants.{Fine, Refused}
-use Rattle.parts.specs.Table.{factsOf}
-use Rattle.chip.specs.Model.{ours}
-use Rattle.chip.specs.Delivery.{standbyOf, deliveredOf}
-use Rattle.chip.specs.Runs.{levelsOf, cyclesOf}
 use Rattle.trace.specs.declared.Judged.{Judged}
-use Rattle.trace.specs.Trace.{newline, partWord, cyclesWord, codesOf, lettersOf, answerTextOf, refusalTextOf, judgedOf, traceOf}
+use Rattle.trace.specs.Trace.{newline, partWord, cyclesWord, codesOf, lettersOf, ranTextOf, refusalTextOf, judgedOf, traceOf}
 
 -- a program need not read further: the first line, 32,768 letters and the byte that may be a final newline, and one byte more,
 -- are too many letters whatever comes behind them
@@ -21,9 +16,7 @@ ReadsNoFurther = (t : List ℕ) → 32774 ≤ length t → traceOf t ≡ traceOf
 
 -- what is printed of a text that is judged so: the refusal, or the lines of a run from delivery
 abbrev pub foretold : List ℕ → Judged → Verdict → List ℕ
-foretold t j Fine =
-    answerTextOf (j .part) (levelsOf (ours (factsOf (j .part)) (j .enable)) (standbyOf (factsOf (j .part)) false) (deliveredOf (j .part)) (codesOf (lettersOf t)))
-    (cyclesOf (ours (factsOf (j .part)) (j .enable)) (standbyOf (factsOf (j .part)) false) (codesOf (lettersOf t)))
+foretold t j Fine = ranTextOf (j .part) (j .enable) (codesOf (lettersOf t))
 foretold t j (Refused r) = refusalTextOf r
 
 -- who judges a text, before any run, knows what `trace` will print; of any judge
