@@ -13,6 +13,8 @@ use Rattle.chip_promises.proofs.Stops.{calls-cycles-are-stops-from-delivery}
 use Rattle.chip_promises.proofs.Lock.{calls-lock-holds}
 use Rattle.chip_promises.proofs.Pin.{calls-pin-protects}
 use Rattle.page.proofs.Promise.{refuses-rightly}
+use Rattle.image.proofs.Numbers.{save-numbers, load-numbers}
+use Rattle.trace.proofs.Numbers.{trace-numbers}
 use Rattle.driver.specs.declared.Answer.the-variants.{Done}
 use Rattle.driver.specs.Request.{fromOf}
 use Rattle.driver_promises.proofs.Numbers.{request-numbers}
@@ -46,6 +48,9 @@ demand-1 =
       requested = request-numbers;
       benched = bench-numbers;
       looked = refuses-rightly;
+      saved = save-numbers;
+      loaded = load-numbers;
+      traced = trace-numbers;
       chip-kept = refused-changes-nothing;
       bytes-kept = bytes-kept;
     }

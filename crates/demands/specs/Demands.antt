@@ -15,6 +15,9 @@ use Rattle.chip_promises.specs.Pages.{differingOf, CountsEveryPage, CallsPagesF
 use Rattle.chip_promises.specs.Stops.{CallsCyclesAreStopsFromDelivery}
 use Rattle.chip_promises.specs.Lock.{CallsLockHolds}
 use Rattle.chip_promises.specs.Pin.{CallsPinProtects}
+use Rattle.image.specs.Calls.{saving, loading}
+use Rattle.image.specs.Numbers.{SaveNumbers, LoadNumbers}
+use Rattle.trace.specs.Numbers.{tracing, TraceNumbers}
 use Rattle.page.specs.Look.{lookRefusalOf}
 use Rattle.page.specs.Promise.{RefusesRightly}
 use Rattle.driver.specs.declared.Answer.{Answer}
@@ -49,6 +52,9 @@ pub record Demand1 : Type 0 where
   pub requested : RequestNumbers judgeOf
   pub benched : BenchNumbers benchVerdict
   pub looked : RefusesRightly lookRefusalOf
+  pub saved : SaveNumbers saving
+  pub loaded : LoadNumbers loading
+  pub traced : TraceNumbers tracing
   -- "A call refused for bad input changes no byte and no chip state": of the chip, of driver and chip, and of every call over bytes
   pub chip-kept : RefusedChangesNothing deliverOf stepOf runOf
   pub bytes-kept : BytesKept

@@ -23,7 +23,7 @@ use Rattle.parts.proofs.Claims.{Later, later-claim, later-sooner, given-first}
 use Rattle.chip.specs.Calls.{scanOf}
 use Rattle.chip.proofs.Laws.{scan-later}
 use Rattle.trace.specs.Trace.{headRightOf, lettersEndOf, lettersOf, codeOf, codesOf, leadingOf, decimalOf, refusalTextOf, ranTextOf, tracedVerdictOf, tracedOf, traceOf, roomVerdictOf}
-use Rattle.trace.specs.Numbers.{Tracing, tracing, partNamed, enableNamed, takenAt, Named, Short, refusedLine, refusedAt, callNumber, printed, Prints, TraceNumbers, OneTraceNumber, EagerBreaks}
+use Rattle.trace.specs.Numbers.{Tracing, tracing, partNamed, enableNamed, takenAt, TextNamed, TextShort, refusedLine, refusedAt, callNumber, printed, Prints, TraceNumbers, OneTraceNumber, EagerTraceBreaks}
 use Rattle.trace.proofs.Runs.{claimed-letters, trace-right}
 
 -- ---- a text laid into a lent buffer
@@ -193,10 +193,10 @@ module _ (S T : Tracing) (p : TraceNumbers S) (q : TraceNumbers T) (t out : List
           let l : length lines ≤ length out = omega (arith, h) in
           (a .none l .0 ∙ sym (b .none l .0), λ _. a .none l .1 ∙ sym (b .none l .1))
 
-  same-letters : Named t → Dec (32768 < length (lettersOf t)) → Same
+  same-letters : TextNamed t → Dec (32768 < length (lettersOf t)) → Same
   same-letters n (yes h) = same (refusedLine 13) (p t out .too-many n h) (q t out .too-many n h)
   same-letters n (no h) =
-      let s : Short t = record { named = n; few = omega (arith, h) } in
+      let s : TextShort t = record { named = n; few = omega (arith, h) } in
       first-wrong t (length (lettersOf t)) (λ r. same (ranTextOf (partNamed t) (enableNamed t) (codesOf (lettersOf t))) (p t out .answered s r) (q t out .answered s r))
       (λ k i r b. same (refusedAt k) (p t out .bad-event k s i r b) (q t out .bad-event k s i r b))
 
@@ -223,9 +223,9 @@ one-trace-number S T p q t out = same-head S T p q t out (headRightOf t) refl
 abbrev wrongTwice : List ℕ
 wrongTwice = 50 ∷ 32 ∷ 57 ∷ 10 ∷ 120 ∷ []
 
-pub eager-breaks : EagerBreaks
+pub eager-trace-breaks : EagerTraceBreaks
 unfolding headRightOf lettersEndOf lettersOf codeOf factsOf eventRightOf refusalTextOf decimalOf leadingOf roomVerdictOf
-eager-breaks h =
+eager-trace-breaks h =
     let q = h wrongTwice (replicate 20 0) .wrong-enable refl (omega arith) (omega arith) .none (omega arith) .1 in
     let z : _≡_ {A = ℕ} 53 50 = ap (λ (x : List ℕ). getD x 8 0) q in
     absurd (omega (arith, z))

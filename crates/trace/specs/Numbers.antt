@@ -35,14 +35,14 @@ abbrev pub takenAt : List ℕ → ℕ → Bool
 takenAt t j = eventRightOf (factsOf (partNamed t) .pin) (codeOf (getD (lettersOf t) j 0))
 
 -- the first line is right, and neither 1 nor 2 applies
-pub record Named (t : List ℕ) : Type 0 where
+pub record TextNamed (t : List ℕ) : Type 0 where
   pub head : headRightOf t ≡ true
   pub known : partNamed t ≤ 5
   pub enabled : enableNamed t < factsOf (partNamed t) .enables
 
 -- nor does 13
-pub record Short (t : List ℕ) : Type 0 where
-  pub named : Named t
+pub record TextShort (t : List ℕ) : Type 0 where
+  pub named : TextNamed t
   pub few : length (lettersOf t) ≤ 32768
 
 -- ---- what is printed
@@ -72,10 +72,10 @@ module _ (trace : Tracing) (t out : List ℕ) where
     pub malformed : headRightOf t ≡ false → Prints (refusedLine 1)
     pub no-part : headRightOf t ≡ true → 5 < partNamed t → Prints (refusedLine 1)
     pub wrong-enable : headRightOf t ≡ true → partNamed t ≤ 5 → factsOf (partNamed t) .enables ≤ enableNamed t → Prints (refusedLine 2)
-    pub too-many : Named t → 32768 < length (lettersOf t) → Prints (refusedLine 13)
+    pub too-many : TextNamed t → 32768 < length (lettersOf t) → Prints (refusedLine 13)
     -- the first letter that the part does not take, with its place
-    pub bad-event : (k : ℕ) → Short t → k < length (lettersOf t) → ((j : ℕ) → j < k → takenAt t j ≡ true) → takenAt t k ≡ false → Prints (refusedAt k)
-    pub answered : Short t → ((j : ℕ) → j < length (lettersOf t) → takenAt t j ≡ true) → Prints (ranTextOf (partNamed t) (enableNamed t) (codesOf (lettersOf t)))
+    pub bad-event : (k : ℕ) → TextShort t → k < length (lettersOf t) → ((j : ℕ) → j < k → takenAt t j ≡ true) → takenAt t k ≡ false → Prints (refusedAt k)
+    pub answered : TextShort t → ((j : ℕ) → j < length (lettersOf t) → takenAt t j ≡ true) → Prints (ranTextOf (partNamed t) (enableNamed t) (codesOf (lettersOf t)))
 
 abbrev pub TraceNumbers : Tracing → Type 0
 TraceNumbers trace = (t out : List ℕ) → TraceNumber trace t out
@@ -94,8 +94,8 @@ scanned t = scanOf (factsOf (partNamed t) .pin) 0 (codesOf (lettersOf t))
 abbrev eagerText : List ℕ → List ℕ
 eagerText t = cond (headRightOf t) (cond (isFine (scanned t)) (traceOf t) (reportTextOf (partNamed t) (scanned t) [] 0)) (traceOf t)
 
-abbrev pub eager : Tracing
-eager t out = layingOf out (eagerText t)
+abbrev pub eagerTrace : Tracing
+eagerTrace t out = layingOf out (eagerText t)
 
-abbrev pub EagerBreaks : Type 0
-EagerBreaks = TraceNumbers eager → ⊥
+abbrev pub EagerTraceBreaks : Type 0
+EagerTraceBreaks = TraceNumbers eagerTrace → ⊥

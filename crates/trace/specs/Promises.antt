@@ -7,7 +7,7 @@ use lib.ListN.{length, take}
 use Rattle.parts.specs.declared.Verdict.{Verdict}
 use Rattle.parts.specs.declared.Verdict.the-variants.{Fine, Refused}
 use Rattle.trace.specs.declared.Judged.{Judged}
-use Rattle.trace.specs.Trace.{newline, partWord, cyclesWord, codesOf, lettersOf, ranTextOf, refusalTextOf, judgedOf, traceOf}
+use Rattle.trace.specs.Trace.{newline, partWord, cyclesWord, codesOf, lettersOf, ranTextOf, refusalTextOf, textJudgedOf, traceOf}
 
 -- a program need not read further: the first line, 32,768 letters and the byte that may be a final newline, and one byte more,
 -- are too many letters whatever comes behind them
@@ -25,7 +25,7 @@ PrintsAsJudged judge = (t : List ℕ) → traceOf t ≡ foretold t (judge t) (ju
 
 -- one that refuses nothing does not
 abbrev pub trusting : List ℕ → Judged
-trusting t = record { part = judgedOf t .part; enable = judgedOf t .enable; verdict = Fine }
+trusting t = record { part = textJudgedOf t .part; enable = textJudgedOf t .enable; verdict = Fine }
 
 abbrev pub TrustingBreaks : Type 0
 TrustingBreaks = PrintsAsJudged trusting → ⊥

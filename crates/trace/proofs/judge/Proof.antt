@@ -1,5 +1,5 @@
 use Rattle.trace.proofs.Texts.{head-facts}
-use Rattle.trace.specs.Trace.{judgedOf}
+use Rattle.trace.specs.Trace.{textJudgedOf}
 use borrow.Author.Tests.{not-true, not-false}
 use native.Mathlib.Omega.{arith}
 use denote.Ref.{now}
@@ -12,7 +12,7 @@ head-right-requires : tie.Need-head-right-requires
 head-right-requires c κs = search needs
 
 returns : tie.Need-returns
-unfolding judgedOf
+unfolding textJudgedOf
 returns c = rw (← c .before .head-right .ensures, not-true (c .before .head-right .result) (c .if1 .taken))
 
 shared-slice-read-part : tie.Need-shared-slice-read-part
@@ -34,7 +34,7 @@ letters-verdict-requires : tie.Need-letters-verdict-requires
 letters-verdict-requires c κs = search needs
 
 returns-2 : tie.Need-returns-2
-unfolding judgedOf
+unfolding textJudgedOf
 returns-2 c = rw (c .letters-verdict .ensures, c .before .letters-of .ensures .0, ← c .before .before .before .before .before .head-right .ensures, not-false (c .before .before .before .before .before .head-right .result) (c .before .before .before .before .if1 .left)) refl
 
 pub judge-spec : {M : Type 1} → statement M
