@@ -229,23 +229,30 @@ pub fn judge(request: Request) -> Verdict
     parts::sooner(part, parts::sooner(enable, parts::sooner(far, polls)))
 }
 
+// A driver before its first step.
+fn fresh(request: Request) -> Driver
+    ensures { λ r. ⌜ r ≡ Rattle.driver.specs.Step.fresh request ⌝ }
+{
+    Driver {
+        request,
+        phase: Phase::Ready,
+        counts: Counts {
+            at: 0,
+            seen: 0,
+            tries: 0,
+            polls: 0,
+            byte: 0,
+        },
+    }
+}
+
 // A driver for a request. Where the request is refused, its driver answers refusal 4 at each step.
 pub fn begin(request: Request) -> Begun
     ensures { λ r. ⌜ r ≡ beginOf request ⌝ }
 {
     Begun {
         verdict: judge(request),
-        driver: Driver {
-            request,
-            phase: Phase::Ready,
-            counts: Counts {
-                at: 0,
-                seen: 0,
-                tries: 0,
-                polls: 0,
-                byte: 0,
-            },
-        },
+        driver: fresh(request),
     }
 }
 
