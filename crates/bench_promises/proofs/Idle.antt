@@ -152,11 +152,11 @@ table-breaks x p =
     let b : numberOf x ≡ 2 = ap verdictNumberOf (p (astray 0 1) WrongEnable (two-numbers .1) .verdict) in
     omega (arith, a, b)
 
-in-order : (judge : Judge) → BenchNumbers judge → verdictNumberOf (judge (one true) 0 1 chip₀ mem₀ byte) ≡ 0
+in-order : (judge : Judge) → BenchNumbers judge → verdictNumberOf (judge (call true 1)) ≡ 0
 unfolding factsOf idSizeOf marksRightOf pinRightOf lockRightOf phaseRightOf restRightOf inRangeOf standbyOf pinAtFirstOf noLatch
 in-order judge p =
     let enabled : Enabled (one true) = record { known = omega arith; enable = omega arith } in
-    p (one true) 0 1 chip₀ mem₀ byte .none
+    p (call true 1) .none
     record { enabled = enabled; ready = record { named = record { known = omega arith; enabled = omega arith; lent = (refl, refl) }; ranged = refl } }
     record { full = λ e. refl; room = λ e. omega arith }
     record { enabled = enabled; there = refl; fits = omega arith }

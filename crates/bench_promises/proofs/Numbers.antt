@@ -1,23 +1,23 @@
 -- The numbers of a run of driver and chip are given in document 01's order.
 -- Assumes nothing.
-use Prim.Native.Nat.{ℕ, _+_, _/_, _<_, _≤_}
+use Prim.Native.Nat.{ℕ, _+_, _<_, _≤_}
 use mathlib.Core.Path.{_≡_, refl, sym, ap, _∙_}
 use mathlib.Core.Bool.{Bool, true, false, not, cond}
 use mathlib.Core.Logic.{_⊎_, inl, inr, ⊎-elim}
 use mathlib.Core.List.{List, []}
 use lib.ListN.{length}
-use lib.Dec.{eqb, ltb}
+use lib.Dec.{ltb}
 use native.Mathlib.Omega.{arith}
 use native.Mathlib.Decide.{ℕ-discrete}
-use borrow.Author.Tests.{lt-ltb, le-ltb, eq-eqb, ne-eqb, ltb-true, ltb-false}
+use borrow.Author.Tests.{lt-ltb, le-ltb, eq-eqb, ne-eqb}
 use Rattle.parts.specs.declared.Refusal.{Refusal}
-use Rattle.parts.specs.declared.Refusal.the-variants.{NoPart, WrongEnable, WrongBuffer, BadState, BadEvent, ShortBuffer, Beyond, BadLimit, NoSelect, NoData, PollsUsed, BadImage, TooMany}
+use Rattle.parts.specs.declared.Refusal.the-variants.{NoPart, WrongEnable, WrongBuffer, BadState, ShortBuffer, Beyond, BadLimit}
 use Rattle.parts.specs.declared.Verdict.{Verdict}
 use Rattle.parts.specs.declared.Verdict.the-variants.{Fine, Refused}
 use Rattle.parts.specs.Table.{factsOf, enableRightOf, buffersRightOf}
 use Rattle.parts.specs.Refusals.{numberOf, rankOf, verdictNumberOf, claimOf, soonerOf, lentVerdictOf}
-use Rattle.parts.proofs.Laws.{branch, known}
-use Rattle.parts.proofs.Claims.{Later, later-claim, later-sooner}
+use Rattle.parts.proofs.Laws.{known}
+use Rattle.parts.proofs.Claims.{Later, later-claim, later-sooner, Within, within-left, within-right, exact, is-later, is-within, fine-later, unclaimed}
 use Rattle.state.specs.declared.Chip.{Chip}
 use Rattle.state.specs.Range.{inRangeOf}
 use Rattle.chip.specs.Memory.{Mem, mem}
@@ -29,88 +29,28 @@ use Rattle.driver.specs.declared.Request.{Request}
 use Rattle.driver.specs.Request.{fromOf, roomOf, thereOf, beyondAt, limitOf, judgeOf}
 use Rattle.driver_promises.specs.Numbers.{Enabled, Inside}
 use Rattle.driver_promises.proofs.Numbers.{off, enable, far, limit, judged-1, from-2, judged-2, from-7, judged-7, none-there, too-far, judged-8, low, large, less-or-more}
-use Rattle.bench.specs.Calls.{otherLengthOf, shortOf, lateOf, benchVerdictOf, benchVerdict}
+use Rattle.bench.specs.Calls.{otherLengthOf, shortOf, lateOf, benchVerdictOf}
+use Rattle.bench_promises.specs.Calls.{BenchCall, verdictOf}
 use Rattle.bench_promises.specs.Numbers.{Judge, Placed, Filled, BenchNumber, BenchNumbers, OneBenchNumber, forward, ForwardBreaks}
-
--- ---- a refusal is given where one of its rank applies and none of a lower one does
-
--- something is refused, with this rank or a lower one
-abbrev Within : ℕ → Verdict → Type 0
-Within k Fine = ⊥
-Within k (Refused r) = rankOf r ≤ k
-
-within-left : (k : ℕ) (a b : Verdict) → Within k a → Within k (soonerOf a b)
-unfolding soonerOf
-within-left k Fine b h = absurd h
-within-left k (Refused r) Fine h = h
-within-left k (Refused r) (Refused s) h = branch (Within k) (ltb (rankOf s) (rankOf r)) (λ l. lower l) (λ _. h)
-  where
-    lower : ltb (rankOf s) (rankOf r) ≡ true → rankOf s ≤ k
-    lower l = let a = ltb-true (rankOf s) (rankOf r) l in omega (arith, a, h)
-
-within-right : (k : ℕ) (a b : Verdict) → Within k b → Within k (soonerOf a b)
-unfolding soonerOf
-within-right k Fine b h = h
-within-right k (Refused r) Fine h = absurd h
-within-right k (Refused r) (Refused s) h = branch (Within k) (ltb (rankOf s) (rankOf r)) (λ _. h) (λ l. lower l)
-  where
-    lower : ltb (rankOf s) (rankOf r) ≡ false → rankOf r ≤ k
-    lower l = let a = ltb-false (rankOf s) (rankOf r) l in omega (arith, a, h)
-
-abbrev numberAt : ℕ → ℕ
-numberAt k = cond (eqb k 450) 13 (k / 100)
-
-number-at : (r : Refusal) → numberOf r ≡ numberAt (rankOf r)
-number-at NoPart = refl
-number-at WrongEnable = refl
-number-at WrongBuffer = refl
-number-at BadState = refl
-number-at (BadEvent k) = refl
-number-at ShortBuffer = refl
-number-at Beyond = refl
-number-at BadLimit = refl
-number-at NoSelect = refl
-number-at NoData = refl
-number-at PollsUsed = refl
-number-at BadImage = refl
-number-at TooMany = refl
-
-exact : (r : Refusal) (v : Verdict) → Later (rankOf r) v → Within (rankOf r) v → verdictNumberOf v ≡ numberOf r
-exact r Fine h g = absurd g
-exact r (Refused s) h g = let e : rankOf s ≡ rankOf r = omega (arith, h, g) in number-at s ∙ ap numberAt e ∙ sym (number-at r)
-
--- a verdict that is this one
-is-later : (k : ℕ) (v w : Verdict) → v ≡ w → Later k w → Later k v
-is-later k v w e h = rw e h
-
-is-within : (r : Refusal) (v : Verdict) → v ≡ Refused r → Within (rankOf r) v
-is-within r v e = rw e (omega arith)
-
-fine-later : (k : ℕ) (v : Verdict) → v ≡ Fine → Later k v
-fine-later k v e = rw e tt
-
--- a claim that does not apply
-unclaimed : (k : ℕ) (b : Bool) (x : Refusal) → b ≡ false → Later k (claimOf b x)
-unclaimed k b x e = rw e tt
 
 -- ---- the request alone
 
 module _ (r : Request) where
-  judge-later : (k : ℕ) → k ≤ 700 → Enabled r → Later k (judgeOf r)
+  judge-later : (k : ℕ) → k ≤ rankOf Beyond → Enabled r → Later k (judgeOf r)
   judge-later k h e =
       is-later k (judgeOf r) (soonerOf (far r) (limit r)) (from-7 r e)
       (later-sooner k (far r) (limit r) (later-claim k (off r) Beyond h) (later-claim k (limitOf (r .reads) (r .budget)) BadLimit (omega (arith, h))))
 
-  judge-later-2 : r .part ≤ 5 → Later 200 (judgeOf r)
+  judge-later-2 : r .part ≤ 5 → Later (rankOf WrongEnable) (judgeOf r)
   judge-later-2 h =
-      is-later 200 (judgeOf r) (soonerOf (enable r) (soonerOf (far r) (limit r))) (from-2 r h)
-      (later-sooner 200 (enable r) (soonerOf (far r) (limit r)) (later-claim 200 (not (enableRightOf (factsOf (r .part)) (r .enable))) WrongEnable (omega arith))
-      (later-sooner 200 (far r) (limit r) (later-claim 200 (off r) Beyond (omega arith)) (later-claim 200 (limitOf (r .reads) (r .budget)) BadLimit (omega arith))))
+      is-later (rankOf WrongEnable) (judgeOf r) (soonerOf (enable r) (soonerOf (far r) (limit r))) (from-2 r h)
+      (later-sooner (rankOf WrongEnable) (enable r) (soonerOf (far r) (limit r)) (later-claim (rankOf WrongEnable) (not (enableRightOf (factsOf (r .part)) (r .enable))) WrongEnable (omega arith))
+      (later-sooner (rankOf WrongEnable) (far r) (limit r) (later-claim (rankOf WrongEnable) (off r) Beyond (omega arith)) (later-claim (rankOf WrongEnable) (limitOf (r .reads) (r .budget)) BadLimit (omega arith))))
 
-  judge-later-8 : Inside r → Later 800 (judgeOf r)
+  judge-later-8 : Inside r → Later (rankOf BadLimit) (judgeOf r)
   judge-later-8 i =
-      is-later 800 (judgeOf r) (claimOf (limitOf (r .reads) (r .budget)) BadLimit) (judged-8 r (limitOf (r .reads) (r .budget)) i refl)
-      (later-claim 800 (limitOf (r .reads) (r .budget)) BadLimit (omega arith))
+      is-later (rankOf BadLimit) (judgeOf r) (claimOf (limitOf (r .reads) (r .budget)) BadLimit) (judged-8 r (limitOf (r .reads) (r .budget)) i refl)
+      (later-claim (rankOf BadLimit) (limitOf (r .reads) (r .budget)) BadLimit (omega arith))
 
 -- ---- the chip alone: behind 1, no refusal before 2
 
@@ -127,14 +67,14 @@ module _ (part en : ℕ) (c : Chip) (n i : ℕ) where
   abbrev state-4 : Verdict
   state-4 = claimOf (not (inRangeOf (factsOf part) c)) BadState
 
-  held-later : part ≤ 5 → Later 200 (heldVerdictOf part en c n i)
+  held-later : part ≤ 5 → Later (rankOf WrongEnable) (heldVerdictOf part en c n i)
   unfolding heldVerdictOf lentVerdictOf
   held-later h =
-      later-sooner 200 (soonerOf part-1 lent-3) (soonerOf enable-2 state-4)
-      (later-sooner 200 part-1 lent-3 (unclaimed 200 (not (factsOf part .known)) NoPart (ap not (known part h)))
-      (later-claim 200 (not (buffersRightOf (factsOf part) n i)) WrongBuffer (omega arith)))
-      (later-sooner 200 enable-2 state-4 (later-claim 200 (not (enableRightOf (factsOf part) en)) WrongEnable (omega arith))
-      (later-claim 200 (not (inRangeOf (factsOf part) c)) BadState (omega arith)))
+      later-sooner (rankOf WrongEnable) (soonerOf part-1 lent-3) (soonerOf enable-2 state-4)
+      (later-sooner (rankOf WrongEnable) part-1 lent-3 (unclaimed (rankOf WrongEnable) (not (factsOf part .known)) NoPart (ap not (known part h)))
+      (later-claim (rankOf WrongEnable) (not (buffersRightOf (factsOf part) n i)) WrongBuffer (omega arith)))
+      (later-sooner (rankOf WrongEnable) enable-2 state-4 (later-claim (rankOf WrongEnable) (not (enableRightOf (factsOf part) en)) WrongEnable (omega arith))
+      (later-claim (rankOf WrongEnable) (not (inRangeOf (factsOf part) c)) BadState (omega arith)))
 
 -- ---- the driver's buffer, and d
 
@@ -163,8 +103,8 @@ module _ (r : Request) (ys : List ℕ) where
   fills true f g = (refl, le-ltb (length ys) (r .length) (g refl))
   fills false f g = (ap not (eq-eqb (length ys) (r .length) (f refl)), refl)
 
-  filled : Filled r ys → (others ≡ false) × (shorts ≡ false)
-  filled f = fills (r .reads) (f .full) (f .room)
+filled : (k : BenchCall) → Filled k → (others (k .request) (k .buffer) ≡ false) × (shorts (k .request) (k .buffer) ≡ false)
+filled k f = fills (k .request) (k .buffer) (k .request .reads) (f .full) (f .room)
 
 allowed : (reads : Bool) (n : ℕ) → (reads ≡ false → (1 ≤ n) × (n ≤ 1000)) → limitOf reads n ≡ false
 unfolding limitOf
@@ -182,7 +122,25 @@ late-false d l h = ap (λ (b : Bool). cond b true (ltb 65535 d)) (le-ltb d 1 l) 
 
 -- ---- all together
 
-module _ (r : Request) (en d : ℕ) (c : Chip) (m : Mem) (ys : List ℕ) where
+module _ (k : BenchCall) where
+  abbrev r : Request
+  r = k .request
+
+  abbrev en : ℕ
+  en = k .own
+
+  abbrev d : ℕ
+  d = k .d
+
+  abbrev c : Chip
+  c = k .chip
+
+  abbrev m : Mem
+  m = k .mem
+
+  abbrev ys : List ℕ
+  ys = k .buffer
+
   abbrev held : Verdict
   held = heldVerdictOf (r .part) en c (length (m .cells)) (length (m .ident))
 
@@ -206,7 +164,7 @@ module _ (r : Request) (en d : ℕ) (c : Chip) (m : Mem) (ys : List ℕ) where
     room : Later (rankOf x) short
     delay : Later (rankOf x) late
 
-  number : (x : Refusal) → Lowest x → Within (rankOf x) given → verdictNumberOf (benchVerdict r en d c m ys) ≡ numberOf x
+  number : (x : Refusal) → Lowest x → Within (rankOf x) given → verdictNumberOf (verdictOf k) ≡ numberOf x
   unfolding benchVerdictOf
   number x l w =
       exact x given
@@ -216,7 +174,7 @@ module _ (r : Request) (en d : ℕ) (c : Chip) (m : Mem) (ys : List ℕ) where
       w
 
   -- 1 to 4: what comes of the buffer and d is later
-  early : (x : Refusal) → rankOf x ≤ 400 → Later (rankOf x) (judgeOf r) → Later (rankOf x) held → Lowest x
+  early : (x : Refusal) → rankOf x ≤ rankOf BadState → Later (rankOf x) (judgeOf r) → Later (rankOf x) held → Lowest x
   early x h a b =
       record {
         asked = a;
@@ -227,13 +185,13 @@ module _ (r : Request) (en d : ℕ) (c : Chip) (m : Mem) (ys : List ℕ) where
       }
 
   -- 7 and 8: the chip and the buffer are right
-  end : (x : Refusal) → rankOf x ≤ 800 → Placed r en c m → Filled r ys → Later (rankOf x) (judgeOf r) → Lowest x
+  end : (x : Refusal) → rankOf x ≤ rankOf BadLimit → Placed k → Filled k → Later (rankOf x) (judgeOf r) → Lowest x
   end x h p f a =
       record {
         asked = a;
         chip = fine-later (rankOf x) held (held-0 (r .part) en c m (p .ready));
-        full = unclaimed (rankOf x) (others r ys) BadState (filled r ys f .0);
-        room = unclaimed (rankOf x) (shorts r ys) ShortBuffer (filled r ys f .1);
+        full = unclaimed (rankOf x) (others r ys) BadState (filled k f .0);
+        room = unclaimed (rankOf x) (shorts r ys) ShortBuffer (filled k f .1);
         delay = later-claim (rankOf x) (lateOf d) BadLimit h;
       }
 
@@ -245,82 +203,83 @@ module _ (r : Request) (en d : ℕ) (c : Chip) (m : Mem) (ys : List ℕ) where
       within-right (rankOf x) (judgeOf r) (soonerOf held (soonerOf other (soonerOf short late)))
       (within-left (rankOf x) held (soonerOf other (soonerOf short late)) (is-within x held e))
 
-  past-chip : (k : ℕ) → Within k (soonerOf other (soonerOf short late)) → Within k given
-  past-chip k w =
-      within-right k (judgeOf r) (soonerOf held (soonerOf other (soonerOf short late))) (within-right k held (soonerOf other (soonerOf short late)) w)
+  past-chip : (n : ℕ) → Within n (soonerOf other (soonerOf short late)) → Within n given
+  past-chip n w =
+      within-right n (judgeOf r) (soonerOf held (soonerOf other (soonerOf short late))) (within-right n held (soonerOf other (soonerOf short late)) w)
 
-  number-1 : 5 < r .part → verdictNumberOf (benchVerdict r en d c m ys) ≡ 1
+  number-1 : 5 < r .part → verdictNumberOf (verdictOf k) ≡ 1
   number-1 h =
       let a = judged-1 r h in
-      number NoPart (early NoPart (omega arith) (is-later 100 (judgeOf r) (Refused NoPart) a (omega arith))
-      (is-later 100 held (Refused NoPart) (held-1 (r .part) en c (length (m .cells)) (length (m .ident)) h) (omega arith)))
+      number NoPart (early NoPart (omega arith) (is-later (rankOf NoPart) (judgeOf r) (Refused NoPart) a (omega arith))
+      (is-later (rankOf NoPart) held (Refused NoPart) (held-1 (r .part) en c (length (m .cells)) (length (m .ident)) h) (omega arith)))
       (by-request NoPart a)
 
-  number-2 : r .part ≤ 5 → (factsOf (r .part) .enables ≤ r .enable) ⊎ (factsOf (r .part) .enables ≤ en) → verdictNumberOf (benchVerdict r en d c m ys) ≡ 2
-  number-2 k h =
-      number WrongEnable (early WrongEnable (omega arith) (judge-later-2 r k) (held-later (r .part) en c (length (m .cells)) (length (m .ident)) k)) (by h)
+  number-2 : r .part ≤ 5 → (factsOf (r .part) .enables ≤ r .enable) ⊎ (factsOf (r .part) .enables ≤ en) → verdictNumberOf (verdictOf k) ≡ 2
+  number-2 n h =
+      number WrongEnable (early WrongEnable (omega arith) (judge-later-2 r n) (held-later (r .part) en c (length (m .cells)) (length (m .ident)) n)) (by h)
     where
-      by : (factsOf (r .part) .enables ≤ r .enable) ⊎ (factsOf (r .part) .enables ≤ en) → Within 200 given
-      by (inl g) = by-request WrongEnable (judged-2 r k g)
-      by (inr g) = by-chip WrongEnable (held-2 (r .part) en c (length (m .cells)) (length (m .ident)) k g)
+      by : (factsOf (r .part) .enables ≤ r .enable) ⊎ (factsOf (r .part) .enables ≤ en) → Within (rankOf WrongEnable) given
+      by (inl g) = by-request WrongEnable (judged-2 r n g)
+      by (inr g) = by-chip WrongEnable (held-2 (r .part) en c (length (m .cells)) (length (m .ident)) n g)
 
   -- 3 and 4 of the chip
-  of-chip : (x : Refusal) → rankOf x ≤ 400 → Enabled r → held ≡ Refused x → verdictNumberOf (benchVerdict r en d c m ys) ≡ numberOf x
+  of-chip : (x : Refusal) → rankOf x ≤ rankOf BadState → Enabled r → held ≡ Refused x → verdictNumberOf (verdictOf k) ≡ numberOf x
   of-chip x h e g =
       number x (early x h (judge-later r (rankOf x) (omega (arith, h)) e) (is-later (rankOf x) held (Refused x) g (omega arith))) (by-chip x g)
 
-  number-4 : Placed r en c m → r .reads ≡ false → (length ys ≡ r .length → ⊥) → verdictNumberOf (benchVerdict r en d c m ys) ≡ 4
+  number-4 : Placed k → r .reads ≡ false → (length ys ≡ r .length → ⊥) → verdictNumberOf (verdictOf k) ≡ 4
   number-4 p w h =
-      number BadState (early BadState (omega arith) (judge-later r 400 (omega arith) (p .enabled)) (fine-later 400 held (held-0 (r .part) en c m (p .ready))))
-      (past-chip 400 (within-left 400 other (soonerOf short late) (is-within BadState other (ap (λ (b : Bool). claimOf b BadState) (others-true r ys w h)))))
+      number BadState (early BadState (omega arith) (judge-later r (rankOf BadState) (omega arith) (p .enabled)) (fine-later (rankOf BadState) held (held-0 (r .part) en c m (p .ready))))
+      (past-chip (rankOf BadState) (within-left (rankOf BadState) other (soonerOf short late) (is-within BadState other (ap (λ (b : Bool). claimOf b BadState) (others-true r ys w h)))))
 
-  number-6 : Placed r en c m → r .reads ≡ true → length ys < r .length → verdictNumberOf (benchVerdict r en d c m ys) ≡ 6
+  number-6 : Placed k → r .reads ≡ true → length ys < r .length → verdictNumberOf (verdictOf k) ≡ 6
   number-6 p w h =
       number ShortBuffer
       record {
-        asked = judge-later r 600 (omega arith) (p .enabled);
-        chip = fine-later 600 held (held-0 (r .part) en c m (p .ready));
-        full = unclaimed 600 (others r ys) BadState (others-read r ys w);
-        room = later-claim 600 (shorts r ys) ShortBuffer (omega arith);
-        delay = later-claim 600 (lateOf d) BadLimit (omega arith);
+        asked = judge-later r (rankOf ShortBuffer) (omega arith) (p .enabled);
+        chip = fine-later (rankOf ShortBuffer) held (held-0 (r .part) en c m (p .ready));
+        full = unclaimed (rankOf ShortBuffer) (others r ys) BadState (others-read r ys w);
+        room = later-claim (rankOf ShortBuffer) (shorts r ys) ShortBuffer (omega arith);
+        delay = later-claim (rankOf ShortBuffer) (lateOf d) BadLimit (omega arith);
       }
-      (past-chip 600 (within-right 600 other (soonerOf short late)
-      (within-left 600 short late (is-within ShortBuffer short (ap (λ (b : Bool). claimOf b ShortBuffer) (shorts-true r ys w h))))))
+      (past-chip (rankOf ShortBuffer) (within-right (rankOf ShortBuffer) other (soonerOf short late)
+      (within-left (rankOf ShortBuffer) short late (is-within ShortBuffer short (ap (λ (b : Bool). claimOf b ShortBuffer) (shorts-true r ys w h))))))
 
-  number-7 : Placed r en c m → Filled r ys → off r ≡ true → verdictNumberOf (benchVerdict r en d c m ys) ≡ 7
+  number-7 : Placed k → Filled k → off r ≡ true → verdictNumberOf (verdictOf k) ≡ 7
   number-7 p f h =
-      number Beyond (end Beyond (omega arith) p f (judge-later r 700 (omega arith) (p .enabled))) (by-request Beyond (judged-7 r (p .enabled) h))
+      number Beyond (end Beyond (omega arith) p f (judge-later r (rankOf Beyond) (omega arith) (p .enabled))) (by-request Beyond (judged-7 r (p .enabled) h))
 
-  number-8 : Placed r en c m → Filled r ys → Inside r → Within 800 given → verdictNumberOf (benchVerdict r en d c m ys) ≡ 8
+  number-8 : Placed k → Filled k → Inside r → Within (rankOf BadLimit) given → verdictNumberOf (verdictOf k) ≡ 8
   number-8 p f i w = number BadLimit (end BadLimit (omega arith) p f (judge-later-8 r i)) w
 
   over : r .reads ≡ false → (r .budget < 1) ⊎ (1000 < r .budget) → limitOf (r .reads) (r .budget) ≡ true
   over w (inl h) = low r w h
   over w (inr h) = large r w h
 
-  delayed : (d < 1) ⊎ (65535 < d) → Within 800 given
+  delayed : (d < 1) ⊎ (65535 < d) → Within (rankOf BadLimit) given
   delayed h =
-      past-chip 800 (within-right 800 other (soonerOf short late)
-      (within-right 800 short late (is-within BadLimit late (ap (λ (b : Bool). claimOf b BadLimit) (late-true d h)))))
+      past-chip (rankOf BadLimit) (within-right (rankOf BadLimit) other (soonerOf short late)
+      (within-right (rankOf BadLimit) short late (is-within BadLimit late (ap (λ (b : Bool). claimOf b BadLimit) (late-true d h)))))
 
-  number-0 : Placed r en c m → Filled r ys → Inside r → limitOf (r .reads) (r .budget) ≡ false → lateOf d ≡ false → verdictNumberOf (benchVerdict r en d c m ys) ≡ 0
+  number-0 : Placed k → Filled k → Inside r → limitOf (r .reads) (r .budget) ≡ false → lateOf d ≡ false → verdictNumberOf (verdictOf k) ≡ 0
   unfolding benchVerdictOf soonerOf
-  number-0 p f i l t = rw (judged-8 r false i l, held-0 (r .part) en c m (p .ready), filled r ys f .0, filled r ys f .1, t) refl
+  number-0 p f i l t = rw (judged-8 r false i l, held-0 (r .part) en c m (p .ready), filled k f .0, filled k f .1, t) refl
 
-pub bench-numbers : BenchNumbers benchVerdict
-bench-numbers r en d c m ys =
+pub bench-numbers : BenchNumbers verdictOf
+bench-numbers k =
+    let r = k .request in
     record {
-      no-part = number-1 r en d c m ys;
-      wrong-enable = number-2 r en d c m ys;
-      wrong-buffer = λ e k w. of-chip r en d c m ys WrongBuffer (omega arith) e (held-3 (r .part) en c (length (m .cells)) (length (m .ident)) (e .known) k w);
-      bad-state = λ e k w. of-chip r en d c m ys BadState (omega arith) e (held-4 (r .part) en c m k w);
-      other-length = number-4 r en d c m ys;
-      short-buffer = number-6 r en d c m ys;
-      no-page = λ p f h. number-7 r en d c m ys p f (none-there r h);
-      beyond = λ p f h g. number-7 r en d c m ys p f (too-far r h g);
-      bad-budget = λ p f i w h. number-8 r en d c m ys p f i (by-request r en d c m ys BadLimit (judged-8 r true i (over r en d c m ys w h)));
-      bad-delay = λ p f i h. number-8 r en d c m ys p f i (delayed r en d c m ys h);
-      none = λ p f i b l h. number-0 r en d c m ys p f i (allowed (r .reads) (r .budget) b) (late-false d l h);
+      no-part = number-1 k;
+      wrong-enable = number-2 k;
+      wrong-buffer = λ e n w. of-chip k WrongBuffer (omega arith) e (held-3 (r .part) (k .own) (k .chip) (length (k .mem .cells)) (length (k .mem .ident)) (e .known) n w);
+      bad-state = λ e n w. of-chip k BadState (omega arith) e (held-4 (r .part) (k .own) (k .chip) (k .mem) n w);
+      other-length = number-4 k;
+      short-buffer = number-6 k;
+      no-page = λ p f h. number-7 k p f (none-there r h);
+      beyond = λ p f h g. number-7 k p f (too-far r h g);
+      bad-budget = λ p f i w h. number-8 k p f i (by-request k BadLimit (judged-8 r true i (over k w h)));
+      bad-delay = λ p f i h. number-8 k p f i (delayed k h);
+      none = λ p f i b l h. number-0 k p f i (allowed (r .reads) (r .budget) b) (late-false (k .d) l h);
     }
 
 -- ---- one of the conditions holds of every call
@@ -328,86 +287,100 @@ bench-numbers r en d c m ys =
 clash : {A : Type 0} {b : Bool} → b ≡ true → b ≡ false → A
 clash t f = let z : _≡_ {A = ℕ} 0 1 = cc in absurd (omega arith)
 
-module _ (judge other : Judge) (p : BenchNumbers judge) (q : BenchNumbers other) (r : Request) (en d : ℕ) (c : Chip) (m : Mem) (ys : List ℕ) where
+module _ (judge other : Judge) (p : BenchNumbers judge) (q : BenchNumbers other) (k : BenchCall) where
+  abbrev asked : Request
+  asked = k .request
+
+  abbrev lent : List ℕ
+  lent = k .buffer
+
   abbrev Same : Type 0
-  Same = verdictNumberOf (judge r en d c m ys) ≡ verdictNumberOf (other r en d c m ys)
+  Same = verdictNumberOf (judge k) ≡ verdictNumberOf (other k)
 
-  abbrev P : BenchNumber judge r en d c m ys
-  P = p r en d c m ys
+  abbrev P : BenchNumber judge k
+  P = p k
 
-  abbrev Q : BenchNumber other r en d c m ys
-  Q = q r en d c m ys
+  abbrev Q : BenchNumber other k
+  Q = q k
 
   -- of d
-  same-delay : Placed r en c m → Filled r ys → Inside r → (r .reads ≡ false → (1 ≤ r .budget) × (r .budget ≤ 1000)) → Same
+  same-delay : Placed k → Filled k → Inside asked → (asked .reads ≡ false → (1 ≤ asked .budget) × (asked .budget ≤ 1000)) → Same
   same-delay a f i b =
       ⊎-elim (λ h. P .bad-delay a f i (inl h) ∙ sym (Q .bad-delay a f i (inl h)))
-      (λ l. ⊎-elim (λ h. P .bad-delay a f i (inr h) ∙ sym (Q .bad-delay a f i (inr h))) (λ h. P .none a f i b l h ∙ sym (Q .none a f i b l h)) (less-or-more 65535 d))
-      (less-or-more d 1)
+      (λ l. ⊎-elim (λ h. P .bad-delay a f i (inr h) ∙ sym (Q .bad-delay a f i (inr h))) (λ h. P .none a f i b l h ∙ sym (Q .none a f i b l h)) (less-or-more 65535 (k .d)))
+      (less-or-more (k .d) 1)
 
   -- of the budget
-  same-budget : Placed r en c m → Filled r ys → Inside r → Same
-  same-budget a f i = go (r .reads) refl
+  same-budget : Placed k → Filled k → Inside asked → Same
+  same-budget a f i = go (asked .reads) refl
     where
-      go : (b : Bool) → r .reads ≡ b → Same
+      go : (b : Bool) → asked .reads ≡ b → Same
       go true w = same-delay a f i (λ e. clash w e)
       go false w =
           ⊎-elim (λ h. P .bad-budget a f i w (inl h) ∙ sym (Q .bad-budget a f i w (inl h)))
-          (λ l. ⊎-elim (λ h. P .bad-budget a f i w (inr h) ∙ sym (Q .bad-budget a f i w (inr h))) (λ h. same-delay a f i (λ _. (l, h))) (less-or-more 1000 (r .budget)))
-          (less-or-more (r .budget) 1)
+          (λ l. ⊎-elim (λ h. P .bad-budget a f i w (inr h) ∙ sym (Q .bad-budget a f i w (inr h))) (λ h. same-delay a f i (λ _. (l, h))) (less-or-more 1000 (asked .budget)))
+          (less-or-more (asked .budget) 1)
 
   -- of the place
-  same-place : Placed r en c m → Filled r ys → Same
-  same-place a f = go (thereOf (factsOf (r .part)) (r .place)) refl
+  same-place : Placed k → Filled k → Same
+  same-place a f = go (thereOf (factsOf (asked .part)) (asked .place)) refl
     where
-      go : (b : Bool) → thereOf (factsOf (r .part)) (r .place) ≡ b → Same
+      go : (b : Bool) → thereOf (factsOf (asked .part)) (asked .place) ≡ b → Same
       go false h = P .no-page a f h ∙ sym (Q .no-page a f h)
       go true h =
           ⊎-elim (λ g. P .beyond a f h g ∙ sym (Q .beyond a f h g)) (λ g. same-budget a f record { enabled = a .enabled; there = h; fits = g })
-          (less-or-more (roomOf (factsOf (r .part)) (r .place)) (fromOf (r .place) + r .length))
+          (less-or-more (roomOf (factsOf (asked .part)) (asked .place)) (fromOf (asked .place) + asked .length))
 
   -- of the driver's buffer
-  same-buffer : Placed r en c m → Same
-  same-buffer a = go (r .reads) refl
+  same-buffer : Placed k → Same
+  same-buffer a = go (asked .reads) refl
     where
-      data-of : r .reads ≡ false → Dec (length ys ≡ r .length) → Same
+      data-of : asked .reads ≡ false → Dec (length lent ≡ asked .length) → Same
       data-of w (yes e) = same-place a record { full = λ _. e; room = λ z. clash z w }
       data-of w (no e) = P .other-length a w e ∙ sym (Q .other-length a w e)
 
-      go : (b : Bool) → r .reads ≡ b → Same
-      go false w = data-of w (ℕ-discrete (length ys) (r .length))
+      go : (b : Bool) → asked .reads ≡ b → Same
+      go false w = data-of w (ℕ-discrete (length lent) (asked .length))
       go true w =
           ⊎-elim (λ h. P .short-buffer a w h ∙ sym (Q .short-buffer a w h))
-          (λ h. same-place a record { full = λ z. clash w z; room = λ _. h }) (less-or-more (length ys) (r .length))
+          (λ h. same-place a record { full = λ z. clash w z; room = λ _. h }) (less-or-more (length lent) (asked .length))
 
-  wrong : r .part ≤ 5 → (factsOf (r .part) .enables ≤ r .enable) ⊎ (factsOf (r .part) .enables ≤ en) → Same
-  wrong k h = P .wrong-enable k h ∙ sym (Q .wrong-enable k h)
+  wrong : asked .part ≤ 5 → (factsOf (asked .part) .enables ≤ asked .enable) ⊎ (factsOf (asked .part) .enables ≤ k .own) → Same
+  wrong n h = P .wrong-enable n h ∙ sym (Q .wrong-enable n h)
 
   -- of the request's enable
-  driven : r .part ≤ 5 → (Enabled r → Same) → Same
-  driven k f = ⊎-elim (λ e. f record { known = k; enable = e }) (λ h. wrong k (inl h)) (less-or-more (r .enable) (factsOf (r .part) .enables))
+  driven : asked .part ≤ 5 → (Enabled asked → Same) → Same
+  driven n f = ⊎-elim (λ e. f record { known = n; enable = e }) (λ h. wrong n (inl h)) (less-or-more (asked .enable) (factsOf (asked .part) .enables))
 
   same : Same
   same =
-      held-or-not (r .part) en c m (λ h. P .no-part h ∙ sym (Q .no-part h)) (λ k h. wrong k (inr h))
-      (λ k h w. driven k (λ e. P .wrong-buffer e h w ∙ sym (Q .wrong-buffer e h w))) (λ n h. driven (n .known) (λ e. P .bad-state e n h ∙ sym (Q .bad-state e n h)))
+      held-or-not (asked .part) (k .own) (k .chip) (k .mem) (λ h. P .no-part h ∙ sym (Q .no-part h)) (λ n h. wrong n (inr h))
+      (λ n h w. driven n (λ e. P .wrong-buffer e h w ∙ sym (Q .wrong-buffer e h w))) (λ n h. driven (n .known) (λ e. P .bad-state e n h ∙ sym (Q .bad-state e n h)))
       (λ x. driven (x .named .known) (λ e. same-buffer record { enabled = e; ready = x }))
 
 pub one-bench-number : OneBenchNumber
 one-bench-number = same
 
 -- a read of one byte beyond part 2, with nothing lent for the chip
-abbrev astray : Request
-astray = record { part = 2; enable = 0; place = Array (record { 0 = 8192 }); reads = true; length = 1; budget = 0 }
+abbrev astray : Chip → BenchCall
+astray c =
+    record {
+      request = record { part = 2; enable = 0; place = Array (record { 0 = 8192 }); reads = true; length = 1; budget = 0 };
+      own = 0;
+      d = 1;
+      chip = c;
+      mem = mem [] [];
+      buffer = [];
+    }
 
-forward-7 : (c : Chip) → verdictNumberOf (forward astray 0 1 c (mem [] []) []) ≡ 7
+forward-7 : (c : Chip) → verdictNumberOf (forward (astray c)) ≡ 7
 unfolding judgeOf soonerOf factsOf enableRightOf beyondAt limitOf
 forward-7 c = refl
 
-given-3 : BenchNumbers forward → (c : Chip) → verdictNumberOf (forward astray 0 1 c (mem [] []) []) ≡ 3
+given-3 : BenchNumbers forward → (c : Chip) → verdictNumberOf (forward (astray c)) ≡ 3
 unfolding factsOf
 given-3 p c =
-    p astray 0 1 c (mem [] []) [] .wrong-buffer record { known = omega arith; enable = omega arith } (omega arith) (λ l. let e = l .0 in absurd (omega (arith, e)))
+    p (astray c) .wrong-buffer record { known = omega arith; enable = omega arith } (omega arith) (λ l. let e = l .0 in absurd (omega (arith, e)))
 
 pub forward-breaks : ForwardBreaks
 forward-breaks p =

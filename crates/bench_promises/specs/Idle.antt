@@ -23,7 +23,7 @@ use Rattle.bench_promises.specs.Numbers.{Judge, BenchNumbers}
 -- ---- "the chip or driver that refuses everything (refusal table, demand 2)", whichever refusal it is
 
 abbrev pub refusingJudge : Refusal → Judge
-refusingJudge x r en d c m ys = Judged x
+refusingJudge x k = Judged x
 
 -- the whole run, whichever of the two refuses
 abbrev pub refusingBench : Refusal → Bench

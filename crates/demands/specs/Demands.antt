@@ -25,13 +25,12 @@ use Rattle.driver.specs.declared.Answer.the-variants.{Done}
 use Rattle.driver.specs.Request.{fromOf, judgeOf, kOf}
 use Rattle.driver_promises.specs.Numbers.{RequestNumbers}
 use Rattle.bench.specs.Together.{System}
-use Rattle.bench.specs.Calls.{benchVerdict}
 use Rattle.driver.specs.Machine.{ourDriver}
 use Rattle.bench_promises.specs.Ground.{targetOf}
 use Rattle.bench_promises.specs.Together.{ourRun, Session, Writes, Reads, Enough, answerOf, reportedOf, afterChoices, otherOf, byteIn, asked}
 use Rattle.bench_promises.specs.Ends.{Timely}
 use Rattle.bench_promises.specs.Accepted.{StepsAccepted, CallsAreRun}
-use Rattle.bench_promises.specs.Calls.{ourBench, BenchPromises}
+use Rattle.bench_promises.specs.Calls.{ourBench, verdictOf, BenchPromises}
 use Rattle.bench_promises.specs.Numbers.{BenchNumbers}
 use Rattle.bench_promises.specs.Trials.{TrialsRight}
 use Rattle.sapwoodle.specs.Promises.{BytesKept}
@@ -50,7 +49,7 @@ pub record Demand1 : Type 0 where
   pub stepped : StepNumbers stepOf
   pub ran : RunNumbers runOf
   pub requested : RequestNumbers judgeOf
-  pub benched : BenchNumbers benchVerdict
+  pub benched : BenchNumbers verdictOf
   pub looked : RefusesRightly lookRefusalOf
   pub saved : SaveNumbers saving
   pub loaded : LoadNumbers loading

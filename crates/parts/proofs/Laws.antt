@@ -1,7 +1,7 @@
 -- Laws of the part table, of a verdict's number, of events and buffers.
 -- Assumes nothing.
-use mathlib.Core.Path.{_≡_, refl}
-use Prim.Native.Nat.{ℕ, zero, suc, _<_, _≤_}
+use mathlib.Core.Path.{_≡_, refl, sym, ap, _∙_}
+use Prim.Native.Nat.{ℕ, zero, suc, _%_, _<_, _≤_}
 use mathlib.Core.Bool.{Bool, true, false, cond}
 use native.Mathlib.Omega.{arith}
 use lib.Dec.{eqb}
@@ -12,12 +12,12 @@ use Rattle.parts.specs.declared.Part.{Part}
 use Rattle.parts.specs.declared.Event.the-variants.{Clock}
 use Rattle.parts.specs.Table.{tableOf, factsOf, nameOf, idSizeOf, buffersRightOf}
 use Rattle.parts.specs.Events.{eventOf}
-use Rattle.parts.specs.Sound.{Sound}
+use Rattle.parts.specs.Sound.{Sound, OneOrder}
 use Rattle.parts.specs.declared.Refusal.{Refusal}
 use Rattle.parts.specs.declared.Refusal.the-variants.{NoPart, WrongEnable, WrongBuffer, BadState, BadEvent, ShortBuffer, Beyond, BadLimit, NoSelect, NoData, PollsUsed, BadImage, TooMany}
 use Rattle.parts.specs.declared.Verdict.{Verdict}
 use Rattle.parts.specs.declared.Verdict.the-variants.{Fine, Refused}
-use Rattle.parts.specs.Refusals.{numberOf, verdictNumberOf}
+use Rattle.parts.specs.Refusals.{numberOf, rankOf, verdictNumberOf}
 
 -- both ways of a test, each with what the test said
 pub branch {ℓ κ} : {A : Type ℓ} (Q : A → Type κ) (b : Bool) {x y : A} → (b ≡ true → Q x) → (b ≡ false → Q y) → Q (cond b x y)
@@ -69,26 +69,29 @@ known part h =
     Q : Part → Type 0
     Q p = p .facts .known ≡ true
 
--- ---- 0 is no refusal's number
+-- ---- 0 is no refusal's number, and the rank tells it
 
-positive : (r : Refusal) → 0 < numberOf r
-positive NoPart = omega arith
-positive WrongEnable = omega arith
-positive WrongBuffer = omega arith
-positive BadState = omega arith
-positive (BadEvent k) = omega arith
-positive ShortBuffer = omega arith
-positive Beyond = omega arith
-positive BadLimit = omega arith
-positive NoSelect = omega arith
-positive NoData = omega arith
-positive PollsUsed = omega arith
-positive BadImage = omega arith
-positive TooMany = omega arith
+entered : (r : Refusal) → (0 < numberOf r) × (numberOf r ≡ rankOf r % 100)
+entered NoPart = (omega arith, refl)
+entered WrongEnable = (omega arith, refl)
+entered WrongBuffer = (omega arith, refl)
+entered BadState = (omega arith, refl)
+entered (BadEvent k) = (omega arith, refl)
+entered ShortBuffer = (omega arith, refl)
+entered Beyond = (omega arith, refl)
+entered BadLimit = (omega arith, refl)
+entered NoSelect = (omega arith, refl)
+entered NoData = (omega arith, refl)
+entered PollsUsed = (omega arith, refl)
+entered BadImage = (omega arith, refl)
+entered TooMany = (omega arith, refl)
+
+pub one-order : OneOrder
+one-order r s e = entered r .1 ∙ ap (λ (k : ℕ). k % 100) e ∙ sym (entered s .1)
 
 pub fine : (v : Verdict) → verdictNumberOf v ≡ 0 → v ≡ Fine
 fine Fine h = refl
-fine (Refused r) h = absurd (omega (arith, positive r))
+fine (Refused r) h = absurd (omega (arith, entered r .0))
 
 pub passed : (b : Bool) (r : Refusal) (v : Verdict) → cond b (Refused r) v ≡ Fine → (b ≡ false) × (v ≡ Fine)
 passed true r v h = let z : _≡_ {A = ℕ} 0 1 = cc in absurd (omega arith)

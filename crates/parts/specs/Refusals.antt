@@ -18,22 +18,23 @@ abbrev entry : ℕ → ℕ → Spot → Entry
 entry number rank spot = record { 0 = number; 1 = rank; 2 = spot }
 
 -- the number that document 01 gives each, and its rank beside it: "The lowest of 1 to 8, 12 and 13 that applies is given, before
--- anything changes, except that 13 goes before 5". So a rank is a hundred times the number, and that of 13 stands between 4 and 5.
--- 9 to 11 end a driver that has begun, one at a time. 5 goes "with the first place"
+-- anything changes, except that 13 goes before 5". So a rank is a thousand times the number, and that of 13 stands between 4 and 5; its
+-- last two digits are the number, so that no two refusals share a rank. 9 to 11 end a driver that has begun, one at a time. 5 goes "with
+-- the first place"
 abbrev pub entryOf : Refusal → Entry
-entryOf NoPart = entry 1 100 Nowhere
-entryOf WrongEnable = entry 2 200 Nowhere
-entryOf WrongBuffer = entry 3 300 Nowhere
-entryOf BadState = entry 4 400 Nowhere
-entryOf (BadEvent k) = entry 5 500 (At k)
-entryOf ShortBuffer = entry 6 600 Nowhere
-entryOf Beyond = entry 7 700 Nowhere
-entryOf BadLimit = entry 8 800 Nowhere
-entryOf NoSelect = entry 9 900 Nowhere
-entryOf NoData = entry 10 1000 Nowhere
-entryOf PollsUsed = entry 11 1100 Nowhere
-entryOf BadImage = entry 12 1200 Nowhere
-entryOf TooMany = entry 13 450 Nowhere
+entryOf NoPart = entry 1 1001 Nowhere
+entryOf WrongEnable = entry 2 2002 Nowhere
+entryOf WrongBuffer = entry 3 3003 Nowhere
+entryOf BadState = entry 4 4004 Nowhere
+entryOf (BadEvent k) = entry 5 5005 (At k)
+entryOf ShortBuffer = entry 6 6006 Nowhere
+entryOf Beyond = entry 7 7007 Nowhere
+entryOf BadLimit = entry 8 8008 Nowhere
+entryOf NoSelect = entry 9 9009 Nowhere
+entryOf NoData = entry 10 10010 Nowhere
+entryOf PollsUsed = entry 11 11011 Nowhere
+entryOf BadImage = entry 12 12012 Nowhere
+entryOf TooMany = entry 13 4513 Nowhere
 
 abbrev pub numberOf : Refusal → ℕ
 numberOf r = entryOf r .0

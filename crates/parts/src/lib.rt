@@ -276,19 +276,19 @@ fn entry_of(r: Refusal) -> Entry
     ensures { λ e. ⌜ e ≡ entryOf r ⌝ }
 {
     match r {
-        Refusal::NoPart => Entry(1, 100, Spot::Nowhere),
-        Refusal::WrongEnable => Entry(2, 200, Spot::Nowhere),
-        Refusal::WrongBuffer => Entry(3, 300, Spot::Nowhere),
-        Refusal::BadState => Entry(4, 400, Spot::Nowhere),
-        Refusal::BadEvent(k) => Entry(5, 500, Spot::At(k)),
-        Refusal::ShortBuffer => Entry(6, 600, Spot::Nowhere),
-        Refusal::Beyond => Entry(7, 700, Spot::Nowhere),
-        Refusal::BadLimit => Entry(8, 800, Spot::Nowhere),
-        Refusal::NoSelect => Entry(9, 900, Spot::Nowhere),
-        Refusal::NoData => Entry(10, 1000, Spot::Nowhere),
-        Refusal::PollsUsed => Entry(11, 1100, Spot::Nowhere),
-        Refusal::BadImage => Entry(12, 1200, Spot::Nowhere),
-        Refusal::TooMany => Entry(13, 450, Spot::Nowhere),
+        Refusal::NoPart => Entry(1, 1001, Spot::Nowhere),
+        Refusal::WrongEnable => Entry(2, 2002, Spot::Nowhere),
+        Refusal::WrongBuffer => Entry(3, 3003, Spot::Nowhere),
+        Refusal::BadState => Entry(4, 4004, Spot::Nowhere),
+        Refusal::BadEvent(k) => Entry(5, 5005, Spot::At(k)),
+        Refusal::ShortBuffer => Entry(6, 6006, Spot::Nowhere),
+        Refusal::Beyond => Entry(7, 7007, Spot::Nowhere),
+        Refusal::BadLimit => Entry(8, 8008, Spot::Nowhere),
+        Refusal::NoSelect => Entry(9, 9009, Spot::Nowhere),
+        Refusal::NoData => Entry(10, 10010, Spot::Nowhere),
+        Refusal::PollsUsed => Entry(11, 11011, Spot::Nowhere),
+        Refusal::BadImage => Entry(12, 12012, Spot::Nowhere),
+        Refusal::TooMany => Entry(13, 4513, Spot::Nowhere),
     }
 }
 
