@@ -1,5 +1,7 @@
-// Tries calls of the chip, one for each line of the input, and prints what each answers and whether a refused one left everything.
-// A line is a letter for the call (`call`), sixteen numbers and, after a colon, what is tried.
+// Tries calls of the chip and of its images, one for each line of the input, and prints what each answers and whether a refused one left
+// everything. A line is a letter for the call (`call`), sixteen numbers and, after a colon, what is tried.
+mod images;
+
 use cases::more;
 use libc::STDIN_FILENO;
 use parts::Refusal;
@@ -34,7 +36,8 @@ const LEFT: usize = 9;
 
 const LATCH: usize = 10;
 
-// The list: clocks, but for the code, which stands at two places if they lie in the list.
+// The list: clocks, but for the code, which stands at two places if they lie in the list. Of an image: its bytes that are lent, and the code at
+// one place.
 const EVENTS: usize = 11;
 
 const ROOM: usize = 12;
@@ -334,6 +337,14 @@ fn call(letter: u8, v: [usize; 16]) {
         b's' => {
             say(b"step ");
             every_code(v, false);
+        }
+        b'i' => {
+            say(b"save ");
+            images::tell_save(v);
+        }
+        b'o' => {
+            say(b"load ");
+            images::tell_load(v);
         }
         _ => call_list(letter, v),
     }

@@ -202,7 +202,7 @@ fn choose_station(word: &[u8]) {
     }
     let benched = check::same(word, b"bench");
     if benched {
-        station::bench_command(2, count);
+        tables::bench_command(2, count);
         return;
     }
     unknown(word);
@@ -215,7 +215,7 @@ fn choose(word: &[u8]) {
     }
     let version = check::same(word, b"version");
     if version {
-        return put(b"sapwoodle 0.7.3\n");
+        return put(b"sapwoodle 0.7.4\n");
     }
     let help = check::same(word, b"help");
     if help {

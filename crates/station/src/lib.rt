@@ -294,22 +294,3 @@ pub fn read_command(next: usize, end: usize) -> bool {
     }
     false
 }
-
-fn told(done: bool) -> bool {
-    if !done {
-        os::fail(b"sapwoodle: standard output");
-    }
-    done
-}
-
-// `bench PART [--enable N]`, or `bench` for every part.
-pub fn bench_command(next: usize, end: usize) -> bool {
-    if end <= next {
-        return told(tables::print_every());
-    }
-    let job = words::bench_asked(next, end);
-    if job.ok {
-        return told(tables::print_all(job.part, job.enable));
-    }
-    false
-}

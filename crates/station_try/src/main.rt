@@ -19,6 +19,10 @@ fn choose(word: &[u8], next: usize, end: usize) {
         station::read_command(next, end);
         return;
     }
+    if check::same(word, b"bench") {
+        tables::bench_command(next, end);
+        return;
+    }
     station::write_command(next, end);
 }
 

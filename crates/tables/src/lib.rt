@@ -4,6 +4,7 @@ use driver::Place;
 use driver::Request;
 use parts::ArrayAddress;
 use parts::Facts;
+use parts::Refusal;
 use state::Chip;
 use text::say;
 use text::say_address;
@@ -688,38 +689,64 @@ fn known_part(part: u8, enable: u8, f: Facts) -> bool {
     busy(part, enable, f.page)
 }
 
+fn refused(r: Refusal) -> bool {
+    say(b"refused ");
+    say_number(text::wide(parts::number(r)));
+    say(b"\n")
+}
+
 // The trials on one part; refusals 1 and 2 of document 01 print a line and nothing else. False where it could not be written.
-pub fn print_all(part: u8, enable: u8) -> bool {
+fn one_part(part: u8, enable: u8) -> bool {
     let f = parts::facts_of(part);
     if !f.known {
-        return say(b"refused 1\n");
+        return refused(Refusal::NoPart);
     }
     if !parts::enable_right(f, enable) {
-        return say(b"refused 2\n");
+        return refused(Refusal::WrongEnable);
     }
     known_part(part, enable, f)
 }
 
 // A blank line stands between two parts.
-fn print_next(part: u8, f: Facts) -> bool {
+fn next_part(part: u8, f: Facts) -> bool {
     if 0 < part {
         say(b"\n");
     }
     known_part(part, 0, f)
 }
 
-// The trials on every part of the part table, at enable 0. False where it could not be written.
-pub fn print_every() -> bool {
+// The trials on every part of the part table, at enable 0.
+fn every_part() -> bool {
     let mut part: u8 = 0;
     while part < 255 {
         let f = parts::facts_of(part);
         if !f.known {
             return true;
         }
-        if !print_next(part, f) {
+        if !next_part(part, f) {
             return false;
         }
         part += 1;
     }
     true
+}
+
+fn all_told(done: bool) -> bool {
+    if !done {
+        os::fail(b"sapwoodle: standard output");
+    }
+    done
+}
+
+// The command `bench PART [--enable N]`, or `bench` for every part: `next` is the first word behind the command's, and the words end
+// before `end`. False where not all could be answered: standard error has the reason.
+pub fn bench_command(next: usize, end: usize) -> bool {
+    if end <= next {
+        return all_told(every_part());
+    }
+    let job = words::bench_asked(next, end);
+    if job.ok {
+        return all_told(one_part(job.part, job.enable));
+    }
+    false
 }

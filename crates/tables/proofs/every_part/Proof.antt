@@ -1,7 +1,7 @@
 use Prim.Native.Nat.{_≤_, _-_}
 use borrow.Author.Needs.{needs}
-use Rattle.tables.proofs.print_every.Statement.{statement}
-use Rattle.tables.proofs.print_every.Tie as tie
+use Rattle.tables.proofs.every_part.Statement.{statement}
+use Rattle.tables.proofs.every_part.Tie as tie
 
 abbrev Inv-loop : tie.InvT-loop
 Inv-loop part₀ part = part ≤ 255
@@ -18,8 +18,8 @@ facts-of-requires c κs = tt
 returns : tie.Need-returns Inv-loop μ-loop
 returns c = search needs
 
-print-next-requires : tie.Need-print-next-requires Inv-loop μ-loop
-print-next-requires c κs = tt
+next-part-requires : tie.Need-next-part-requires Inv-loop μ-loop
+next-part-requires c κs = tt
 
 returns-2 : tie.Need-returns-2 Inv-loop μ-loop
 returns-2 c = search needs
@@ -36,8 +36,8 @@ loop-again c = search needs
 returns-3 : tie.Need-returns-3 Inv-loop μ-loop
 returns-3 c = search needs
 
-pub print-every-spec : {M : Type 1} → statement M
-print-every-spec =
+pub every-part-spec : {M : Type 1} → statement M
+every-part-spec =
     tie.close
     (tie.spec
     Inv-loop
@@ -45,7 +45,7 @@ print-every-spec =
     loop-holds
     facts-of-requires
     returns
-    print-next-requires
+    next-part-requires
     returns-2
     add-part
     loop-less

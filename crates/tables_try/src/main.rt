@@ -1,4 +1,0 @@
-// Prints the trials of every part.
-fn main() {
-    tables::print_every();
-}
