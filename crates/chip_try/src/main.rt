@@ -306,7 +306,9 @@ fn every_code(v: [usize; 16], list: bool) {
     let refused = codes(v, list);
     say(b"taken, ");
     say_number(refused);
-    say(b" refused 5 at 0, unchanged");
+    say(b" refused ");
+    say_number(text::wide(parts::number(Refusal::BadEvent(0))));
+    say(b" at 0, unchanged");
 }
 
 fn step_and_run(v: [usize; 16]) {
