@@ -19,7 +19,7 @@ entry number rank spot = record { 0 = number; 1 = rank; 2 = spot }
 
 -- the number that document 01 gives each, and its rank beside it: "The lowest of 1 to 8, 12 and 13 that applies is given, before
 -- anything changes, except that 13 goes before 5". So a rank is a thousand times the number, and that of 13 stands between 4 and 5; its
--- last two digits are the number, so that no two refusals share a rank. 9 to 11 end a driver that has begun, one at a time. 5 goes "with
+-- last two digits are the number, so that no two numbers share a rank. 9 to 11 end a driver that has begun, one at a time. 5 goes "with
 -- the first place"
 abbrev pub entryOf : Refusal → Entry
 entryOf NoPart = entry 1 1001 Nowhere
