@@ -34,7 +34,7 @@ use Rattle.chip_laws.proofs.Range.{standby-in-range}
 use Rattle.chip_laws.proofs.Runs.{store-lengths}
 use Rattle.driver.specs.declared.Request.{Request}
 use Rattle.driver.specs.declared.Failed.{Failed}
-use Rattle.driver.specs.declared.Failed.the-variants.{AtSelect, AtData, AtPolls}
+use Rattle.driver.specs.declared.Failed.the-variants.{AtSelect, AtHigh, AtLow, AtData, AtPolls}
 use Rattle.driver.specs.declared.Slot.{Slot}
 use Rattle.driver.specs.declared.Slot.the-variants.{Select, High, Low, Data, Poll, Turn, Take}
 use Rattle.driver.specs.declared.Phase.{Phase}
@@ -47,7 +47,7 @@ use Rattle.driver.specs.declared.Answer.{Answer}
 use Rattle.driver.specs.declared.Answer.the-variants.{Send, Done, Refused}
 use Rattle.driver.specs.Request.{kOf, allowedOf, beyondAt, limitOf, judgeOf}
 use Rattle.driver.specs.Split.{toPageEndOf, pagesMetOf}
-use Rattle.driver.specs.Step.{refusalOf, selectAt, wireOf, slotByteOf, bitOf, sendThen, followOf, shiftOf, readyOf, bitsAt, leadAt, lowAt, dataAt, pollMoveOf, answeredOf, takeAt, heardAt, heardMoveOf, bitsMoveOf, moveAt, driverStepOf, countsRight, rangeOf, driverNextOf, byteKeptOf, bufferOf, fresh}
+use Rattle.driver.specs.Step.{lastAddressOf, refusalOf, selectAt, wireOf, slotByteOf, bitOf, sendThen, followOf, shiftOf, readyOf, bitsAt, leadAt, lowAt, dataAt, pollMoveOf, answeredOf, takeAt, heardAt, heardMoveOf, bitsMoveOf, moveAt, driverStepOf, countsRight, rangeOf, driverNextOf, byteKeptOf, bufferOf, fresh}
 use Rattle.driver.specs.Machine.{ourDriver}
 use Rattle.driver.proofs.Facts.{range-good}
 use Rattle.driver_promises.proofs.View.{at}
@@ -251,9 +251,15 @@ module _ (r : Request) (xs : List ℕ) (c : Chip) (m : Mem) (b : Begins r xs c m
         (range-good (at r (Y .driver .phase) (Y .driver .counts)) (length (Y .buffer)) (ap isFine (b .accepted .fine))
         (in-range r (Y .driver .phase) (Y .driver .counts) (length (Y .buffer)) (H .size) (H .inv)))
 
-    -- a driver that has begun refuses with 9, 10 or 11
-    not-four : (f : Failed) → BadState ≡ refusalOf f → ⊥
+    -- a driver that has begun refuses with 9, 10, 11, 14 or 15
+    not-last : (t : Bool) (p : ℕ) → BadState ≡ lastAddressOf t p → ⊥
+    not-last true p e = omega (arith, ap numberOf e)
+    not-last false p e = omega (arith, ap numberOf e)
+
+    not-four : (f : Failed) → BadState ≡ refusalOf r (Y .driver .counts) f → ⊥
     not-four AtSelect e = omega (arith, ap numberOf e)
+    not-four AtHigh e = omega (arith, ap numberOf e)
+    not-four AtLow e = not-last (factsOf (r .part) .wide) _ e
     not-four AtData e = omega (arith, ap numberOf e)
     not-four AtPolls e = omega (arith, ap numberOf e)
 

@@ -313,7 +313,7 @@ module _ (n : ℕ) (turns : n ≡ enough) (r : Request) (d : ℕ) (c : Chip) (m 
   protects : r .reads ≡ false → Shut (r .place) (c .line .core) → 1 ≤ r .length → Protected ourBench (callOf r d c m ys)
   protects w u o =
       let z = shut-refused r ws c m bs w (begins r d c m ys k) u o (subst (λ (i : ℕ). boundOf r < i) (sym (choices-asked (factsOf (r .part)) (r .enable) d n (startOf r ws c m))) over-bound) in
-      let p : benchOf r (r .enable) d c m ys .report ≡ reportBy Y (Refused NoData 0 0) = report-is ∙ ap (reportBy Y) (z .0) in
+      let p : benchOf r (r .enable) d c m ys .report ≡ reportBy Y (Refused (NoData 0) 0 0) = report-is ∙ ap (reportBy Y) (z .0) in
       record { refused = ap (λ (y : Report). y .verdict) p; bytes = ap (λ (y : Report). y .bytes) p; cycles = ap (λ (y : Report). y .cycles) p ∙ z .2; memory = memory-is ∙ z .1 }
 
 untouched : RefusesKept ourBench

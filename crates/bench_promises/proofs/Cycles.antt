@@ -20,7 +20,7 @@ use Rattle.driver.specs.declared.Request.{Request}
 use Rattle.driver.specs.declared.Slot.{Slot}
 use Rattle.driver.specs.declared.Slot.the-variants.{Select, High, Low, Data, Poll, Turn, Take}
 use Rattle.driver.specs.declared.Failed.{Failed}
-use Rattle.driver.specs.declared.Failed.the-variants.{AtSelect, AtData, AtPolls}
+use Rattle.driver.specs.declared.Failed.the-variants.{AtSelect, AtHigh, AtLow, AtData, AtPolls}
 use Rattle.driver.specs.declared.Phase.{Phase}
 use Rattle.driver.specs.declared.Phase.the-variants.{Ready, Bits, Heard, Rest, Over}
 use Rattle.driver.specs.declared.Counts.{Counts}
@@ -31,7 +31,7 @@ use Rattle.driver.specs.Request.{kOf}
 use Rattle.driver.specs.Step.{wireOf, slotByteOf, sentCountsOf, bufferOf}
 use Rattle.driver.specs.Machine.{ourDriver}
 use Rattle.driver_promises.specs.Where.{leftOf}
-use Rattle.driver_promises.proofs.View.{at, leads, Way, w-done, w-open, w-bit, w-ninth, w-got, w-nack, w-high, w-only, w-low, w-turn, w-data, w-more, w-close, w-drop, w-poll, w-again, w-give, w-page, w-take, w-next, w-end, w-over}
+use Rattle.driver_promises.proofs.View.{at, missedAt, leads, Way, w-done, w-open, w-bit, w-ninth, w-got, w-nack, w-high, w-only, w-low, w-turn, w-data, w-more, w-close, w-drop, w-poll, w-again, w-give, w-page, w-take, w-next, w-end, w-over}
 use Rattle.driver_promises.proofs.Inv.{left-all, left-cut, Inv, inv-step, taken-elim}
 use Rattle.driver_promises.proofs.Grow.{bit-lt}
 use Rattle.bench.specs.Together.{System, answeredBy, askedOf, cycleEndedOf, togetherOf}
@@ -120,6 +120,8 @@ slotExtra Take = 0
 
 abbrev overExtra : Failed → ℕ
 overExtra AtSelect = 0
+overExtra AtHigh = 0
+overExtra AtLow = 0
 overExtra AtData = 0
 overExtra AtPolls = 1
 
@@ -135,7 +137,7 @@ extra (Over f) = overExtra f
 abbrev pub Cyc : Request → Phase → Counts → ℕ → Type 0
 Cyc r p c k = (r .reads ≡ true → k ≡ 0) × (r .reads ≡ false → k + leftOf r (c .seen) ≡ kOf r + extra p)
 
-lead-extra : (sl : Slot) → leads sl ≡ true → slotExtra sl ≡ 0
+lead-extra : (sl : Slot) → leads sl ≡ true → overExtra (missedAt sl) ≡ slotExtra sl
 lead-extra Select e = refl
 lead-extra High e = refl
 lead-extra Low e = refl

@@ -222,8 +222,8 @@ record Computed : Type 0 where
   low-byte : getD (ran (constant 0) true 1 .buffer ++ []) 0 0 ≡ 0
   low-written : Ran (constant 0) false 2 (Done 1 1)
   low-stored : getD (ran (constant 0) false 2 .mem .cells) 0 0 ≡ 255
-  high-read : Ran (constant 1) true 1 (Refused NoSelect 0 0)
-  high-written : Ran (constant 1) false 1 (Refused NoSelect 0 0)
+  high-read : Ran (constant 1) true 1 (Refused (NoSelect 0) 0 0)
+  high-written : Ran (constant 1) false 1 (Refused (NoSelect 0) 0 0)
   forgotten : Ran forgetful false 1 (Done 1 1)
   nothing-stored : getD (ran forgetful false 1 .mem .cells) 0 0 ≡ 255
   again-fine : benchVerdict (one true) 0 1 (ran forgetful false 1 .chip) (ran forgetful false 1 .mem) byte ≡ Fine
@@ -273,10 +273,10 @@ constant-run-breaks =
       low-reads = λ p. omega (arith, computed .low-byte, read-there (constant 0) p (Done 0 1) (computed .low-read));
       low-writes = λ p. omega (arith, computed .low-stored, stored-there (constant 0) p 2 1 late (computed .low-written));
       high-reads = λ p.
-          refused NoSelect _ (ap (λ (x : Report). x .verdict) (ran-report (constant 1) true 1 (Refused NoSelect 0 0) reads (computed .high-read)))
+          refused (NoSelect 0) _ (ap (λ (x : Report). x .verdict) (ran-report (constant 1) true 1 (Refused (NoSelect 0) 0 0) reads (computed .high-read)))
           (read-done (benchUnder ourDriver (constant 1)) p);
       high-ends = λ p.
-          refused NoSelect _ (ap (λ (x : Report). x .verdict) (ran-report (constant 1) false 1 (Refused NoSelect 0 0) writes (computed .high-written)))
+          refused (NoSelect 0) _ (ap (λ (x : Report). x .verdict) (ran-report (constant 1) false 1 (Refused (NoSelect 0) 0 0) writes (computed .high-written)))
           (ended (benchUnder ourDriver (constant 1)) p .0);
     }
 

@@ -33,7 +33,7 @@ use Rattle.chip.specs.Memory.{Mem, noLatch, latchOf, cellsOf, withCells, commit
 use Rattle.driver.specs.declared.Request.{Request}
 use Rattle.driver.specs.declared.Slot.{Slot}
 use Rattle.driver.specs.declared.Slot.the-variants.{Select, High, Low, Data, Poll, Turn, Take}
-use Rattle.driver.specs.declared.Failed.the-variants.{AtSelect, AtData, AtPolls}
+use Rattle.driver.specs.declared.Failed.the-variants.{AtSelect, AtHigh, AtLow, AtData, AtPolls}
 use Rattle.driver.specs.declared.Phase.{Phase}
 use Rattle.driver.specs.declared.Phase.the-variants.{Ready, Bits, Heard, Rest, Over}
 use Rattle.driver.specs.declared.Counts.{Counts}
@@ -694,5 +694,7 @@ module _ (g : Given) (s : Sane g) where
         ⊎-elim (λ h. still (Heard Take) c ys v (Sending (T g)) (o .place .more h .0) tt o) (λ h. still (Heard Take) c ys v Idle (o .place .last h) tt o) (less-or-same (c .at) (r .length) (i .common .low))
     end-keeps Rest c ys v i o = pend Rest c ys v o (o .place) (λ n k y q. q)
     end-keeps (Over AtSelect) c ys v i o = absurd (o .place)
+    end-keeps (Over AtHigh) c ys v i o = absurd (o .place)
+    end-keeps (Over AtLow) c ys v i o = absurd (o .place)
     end-keeps (Over AtData) c ys v i o = still (Over AtData) c ys v Idle (o .place .0 .phase) tt o
     end-keeps (Over AtPolls) c ys v i o = pend (Over AtPolls) c ys v o (o .place .0) (λ n k y q. (q, o .place .1))

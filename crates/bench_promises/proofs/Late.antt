@@ -254,7 +254,7 @@ module _ (r : Request) (xs : List ℕ) (c : Chip) (m : Mem) (d n : ℕ) (w : r .
       go (Refused x q k) z f =
           let (v, e, i, a, p) = spoken r xs c m b bs (Refused x q k) z in
           let l = subst (λ (y : Phase). Late (G r xs c m b) (sane r xs c m b) (not-refusing (r .place) c u) w y (Y .driver .counts) (Y .chip .line) (Y .level)) e (late .late) in
-          let j : x ≡ PollsUsed = i ∙ ap refusalOf (l .0) in
+          let j : x ≡ PollsUsed = i ∙ ap (refusalOf r (Y .driver .counts)) (l .0) in
           let y : q ≡ allowedOf r = p ∙ (late .first .polls ∙ l .1) in
           let n0 : k ≡ 0 = a ∙ late .first .seen in
           let cyc = subst (λ (y : Phase). Cyc r y (Y .driver .counts) (Y .cycles)) (e ∙ ap Over (l .0)) (cycles-now r xs c m b bs) .1 w in (

@@ -20,6 +20,7 @@ pub mod Shut
 pub mod Sessions
 pub mod Replay
 pub mod Tape
+pub mod Answered
 pub mod Calls
 pub mod Numbers
 pub mod Rest

@@ -23,7 +23,7 @@ use Rattle.driver.specs.declared.Request.{Request}
 use Rattle.driver.specs.declared.Slot.{Slot}
 use Rattle.driver.specs.declared.Slot.the-variants.{Select, High, Low, Data, Poll, Turn, Take}
 use Rattle.driver.specs.declared.Failed.{Failed}
-use Rattle.driver.specs.declared.Failed.the-variants.{AtSelect, AtData, AtPolls}
+use Rattle.driver.specs.declared.Failed.the-variants.{AtSelect, AtHigh, AtLow, AtData, AtPolls}
 use Rattle.driver.specs.declared.Phase.{Phase}
 use Rattle.driver.specs.declared.Phase.the-variants.{Ready, Bits, Heard, Rest, Over}
 use Rattle.driver.specs.declared.Counts.{Counts}
@@ -261,10 +261,12 @@ module _ (r : Request) (xs : List ℕ) (c : Chip) (m : Mem) (b : Begins r xs c m
   ident-one-cycle w t o q n e = done-cycles w q n e ∙ ident-one r xs (b .accepted) (ident-named (r .place) t) o
 
   -- a refusal's number tells where the driver was refused
-  pub never-ten : Writable (r .place) (c .line .core) → (q n : ℕ) → answerOf Y ≡ Refused NoData q n → ⊥
-  never-ten u q n e = let z = spoken r xs c m b bs (Refused NoData q n) e in go (z .0) (z .1) (z .2)
+  pub never-ten : Writable (r .place) (c .line .core) → (i q n : ℕ) → answerOf Y ≡ Refused (NoData i) q n → ⊥
+  never-ten u j q n e = let z = spoken r xs c m b bs (Refused (NoData j) q n) e in go (z .0) (z .1) (z .2)
     where
-      go : (f : Failed) → Y .driver .phase ≡ Over f → NoData ≡ refusalOf f → ⊥
+      go : (f : Failed) → Y .driver .phase ≡ Over f → NoData j ≡ refusalOf r (Y .driver .counts) f → ⊥
       go AtSelect p k = omega (arith, ap numberOf k)
+      go AtHigh p k = over-is r xs c m b bs AtHigh p
+      go AtLow p k = over-is r xs c m b bs AtLow p
       go AtData p k = false≢true (sym (not-refusing (r .place) c u) ∙ over-is r xs c m b bs AtData p .0 .shut)
       go AtPolls p k = omega (arith, ap numberOf k)

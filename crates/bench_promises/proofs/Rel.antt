@@ -22,7 +22,7 @@ use Rattle.driver.specs.declared.Request.{Request}
 use Rattle.driver.specs.declared.Slot.{Slot}
 use Rattle.driver.specs.declared.Slot.the-variants.{Select, High, Low, Data, Poll, Turn, Take}
 use Rattle.driver.specs.declared.Failed.{Failed}
-use Rattle.driver.specs.declared.Failed.the-variants.{AtSelect, AtData, AtPolls}
+use Rattle.driver.specs.declared.Failed.the-variants.{AtSelect, AtHigh, AtLow, AtData, AtPolls}
 use Rattle.driver.specs.declared.Phase.{Phase}
 use Rattle.driver.specs.declared.Phase.the-variants.{Ready, Bits, Heard, Rest, Over}
 use Rattle.driver.specs.declared.Counts.{Counts}
@@ -177,6 +177,8 @@ module _ (g : Given) where
   -- on such a chip no select and no address is refused, so a read never is
   abbrev pub InOver : Failed → Counts → Line → List ℕ → Mem → Type 0
   InOver AtSelect c l k m = ⊥
+  InOver AtHigh c l k m = ⊥
+  InOver AtLow c l k m = ⊥
   InOver AtData c l k m = Dropped (c .seen) l m × (g .request .reads ≡ false)
   InOver AtPolls c l k m = Pending (c .at) (c .seen) l k m × (g .request .reads ≡ false)
 

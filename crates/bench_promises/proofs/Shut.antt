@@ -1,6 +1,6 @@
 -- A write that the pin or the lock forbids is refused at its first data byte, and leaves everything.
 -- Assumes nothing.
-use Prim.Native.Nat.{ℕ, _+_, _<_, _≤_}
+use Prim.Native.Nat.{ℕ, _+_, _-_, _<_, _≤_}
 use mathlib.Core.Path.{_≡_, refl, sym, _∙_, ap, subst}
 use mathlib.Core.Bool.{Bool, true, false, _||_, false≢true}
 use mathlib.Core.Logic.{inl, inr}
@@ -43,27 +43,28 @@ use Rattle.bench_promises.proofs.Stored.{spoken, over-is, all-done, cyc
 use Rattle.parts.specs.Events.{eventOf}
 use Rattle.chip.specs.Model.{ours}
 
-abbrev shutSlot : Slot → Type 0
-shutSlot Select = Unit {0}
-shutSlot High = Unit {0}
-shutSlot Low = Unit {0}
-shutSlot Data = Unit {0}
-shutSlot Poll = ⊥
-shutSlot Turn = Unit {0}
-shutSlot Take = Unit {0}
+-- of the data bytes no more than the first is sent: `a` are, `n` of them its own
+abbrev shutSlot : Slot → ℕ → ℕ → Type 0
+shutSlot Select a n = Unit {0}
+shutSlot High a n = Unit {0}
+shutSlot Low a n = Unit {0}
+shutSlot Data a n = a ≡ n
+shutSlot Poll a n = ⊥
+shutSlot Turn a n = Unit {0}
+shutSlot Take a n = Unit {0}
 
 -- it never comes to a poll
-abbrev shutAt : Phase → Type 0
-shutAt Ready = Unit {0}
-shutAt (Bits s b) = shutSlot s
-shutAt (Heard s) = shutSlot s
-shutAt Rest = ⊥
-shutAt (Over f) = f ≡ AtData
+abbrev shutAt : Phase → ℕ → Type 0
+shutAt Ready a = Unit {0}
+shutAt (Bits s b) a = shutSlot s a 0
+shutAt (Heard s) a = shutSlot s a 1
+shutAt Rest a = ⊥
+shutAt (Over f) a = (f ≡ AtData) × (a ≡ 1)
 
 pub record Blocked (p : Phase) (c : Counts) : Type 0 where
   pub seen : c .seen ≡ 0
   pub polls : c .polls ≡ 0
-  pub place : shutAt p
+  pub place : shutAt p (c .at)
 
 pub shut-refuses : (p : Place) (c : Chip) → Shut p (c .line .core) → refusing (targetOf p) (c .line .core .pin) (c .line .core .locked) ≡ true
 shut-refuses (Array a) c w = w
@@ -78,37 +79,38 @@ module _ (g : Given) (s : Sane g) (shut : refusing (T g) (g .pin) (g .locked) �
   abbrev r : Request
   r = g .request
 
-  same : {p q : Phase} {c d : Counts} → Blocked p c → d .seen ≡ c .seen → d .polls ≡ c .polls → shutAt q → Blocked q d
+  same : {p q : Phase} {c d : Counts} → Blocked p c → d .seen ≡ c .seen → d .polls ≡ c .polls → shutAt q (d .at) → Blocked q d
   same h e f t = record { seen = e ∙ h .seen; polls = f ∙ h .polls; place = t }
 
-  sent : (sl : Slot) (c : Counts) → (sentCountsOf sl c .seen ≡ c .seen) × (sentCountsOf sl c .polls ≡ c .polls)
-  sent Select c = (refl, refl)
-  sent High c = (refl, refl)
-  sent Low c = (refl, refl)
-  sent Data c = (refl, refl)
-  sent Poll c = (refl, refl)
-  sent Turn c = (refl, refl)
-  sent Take c = (refl, refl)
+  sent : (sl : Slot) (c : Counts) → (sentCountsOf sl c .seen ≡ c .seen) × (sentCountsOf sl c .polls ≡ c .polls) × (shutSlot sl (c .at) 0 → shutSlot sl (sentCountsOf sl c .at) 1)
+  sent Select c = (refl, refl, λ h. h)
+  sent High c = (refl, refl, λ h. h)
+  sent Low c = (refl, refl, λ h. h)
+  sent Data c = (refl, refl, λ h. omega arith)
+  sent Poll c = (refl, refl, λ h. h)
+  sent Turn c = (refl, refl, λ h. h)
+  sent Take c = (refl, refl, λ h. h)
+
+  -- no data byte is acknowledged
+  no-ack : (ch : Chip) (m : Mem) (c : Counts) (v : ℕ) → v ≡ 0 → InHeard g Data c (ch .line) (ch .latch) m v → ⊥
+  no-ack ch m c v z (inl q) = false≢true (sym (q .free) ∙ shut)
+  no-ack ch m c v z (inr (q, h)) = omega arith
 
   blocks : (ch : Chip) (m : Mem) {c : Counts} {ys zs : List ℕ} {v : ℕ} {p : Phase} {mv : Move} → Inv r p c → Rel g p c ys (ch .line) (ch .latch) m v → Blocked p c → Way r c v ys p mv zs → Blocked (mv .phase) (mv .counts)
   blocks ch m i o t (w-done e) = t
   blocks ch m i o t (w-open n) = same t refl refl tt
   blocks ch m {c} {v = v} i o t (w-bit sl b h) = taken-elim (λ (d : Counts). Blocked (Bits sl (b + 1)) d) sl c v (λ x. same t refl refl (t .place))
-  blocks ch m {c} i o t (w-ninth sl b e h) = same t (sent sl c .0) (sent sl c .1) (t .place)
+  blocks ch m {c} i o t (w-ninth sl b e h) = same t (sent sl c .0) (sent sl c .1) (sent sl c .2 (t .place))
   blocks ch m i o t (w-got b e h) = same t refl refl tt
   blocks ch m {c} {ys} {v = v} i o t (w-nack sl e h) = absurd (no-nack g s ch m c ys v sl e o h)
   blocks ch m i o t (w-high z e) = same t refl refl tt
   blocks ch m i o t (w-only z e) = same t refl refl tt
   blocks ch m i o t (w-low z) = same t refl refl tt
   blocks ch m i o t (w-turn z e) = same t refl refl tt
-  blocks ch m i o t (w-data z e) = same t refl refl tt
-  blocks ch m i o t (w-more z n) = same t refl refl tt
-  blocks ch m {c} {v = v} i o t (w-close z e) = absurd (go (o .place))
-    where
-      go : InHeard g Data c (ch .line) (ch .latch) m v → ⊥
-      go (inl q) = false≢true (sym (q .free) ∙ shut)
-      go (inr (q, h)) = omega arith
-  blocks ch m i o t (w-drop z) = same t refl refl refl
+  blocks ch m i o t (w-data z e) = same t refl refl (let h = i .here .same in omega (arith, t .seen))
+  blocks ch m {c} {v = v} i o t (w-more z n) = absurd (no-ack ch m c v z (o .place))
+  blocks ch m {c} {v = v} i o t (w-close z e) = absurd (no-ack ch m c v z (o .place))
+  blocks ch m i o t (w-drop z) = same t refl refl (refl, t .place)
   blocks ch m i o t w-poll = absurd (t .place)
   blocks ch m i o t (w-again z h) = absurd (t .place)
   blocks ch m i o t (w-give z h) = absurd (t .place)
@@ -146,21 +148,22 @@ module _ (r : Request) (xs : List ℕ) (c : Chip) (m : Mem) (bs : List Bool) (w 
   t : Blocked (Y .driver .phase) (Y .driver .counts)
   t = blocked-all (G r xs c m b) (sane r xs c m b) (shut-refuses (r .place) c u) w bs (startOf r xs c m) (start-holds r xs c m b) (record { seen = refl; polls = refl; place = tt })
 
-  pub shut-refused : 1 ≤ r .length → boundOf r < askings bs → (answerOf Y ≡ Refused NoData 0 0) × (Y .mem ≡ m) × (Y .cycles ≡ 0)
+  pub shut-refused : 1 ≤ r .length → boundOf r < askings bs → (answerOf Y ≡ Refused (NoData 0) 0 0) × (Y .mem ≡ m) × (Y .cycles ≡ 0)
   shut-refused some h = go (answerOf Y) refl (finished r xs c m b bs h)
     where
-      go : (a : Answer) → answerOf Y ≡ a → Finished a → (answerOf Y ≡ Refused NoData 0 0) × (Y .mem ≡ m) × (Y .cycles ≡ 0)
+      go : (a : Answer) → answerOf Y ≡ a → Finished a → (answerOf Y ≡ Refused (NoData 0) 0 0) × (Y .mem ≡ m) × (Y .cycles ≡ 0)
       go (Send e) z f = absurd f
       go (Done q k) z f =
           let v = spoken r xs c m b bs (Done q k) z in
           absurd (let e = all-done r xs c m b bs q k z in let x = v .2 in let y = t .seen in omega arith)
       go (Refused x q k) z f =
           let (v, e, i, a, p) = spoken r xs c m b bs (Refused x q k) z in
-          let l : v ≡ AtData = subst shutAt e (t .place) in
-          let n = e ∙ ap Over l in
+          let l : (v ≡ AtData) × (Y .driver .counts .at ≡ 1) = subst (λ (y : Phase). shutAt y (Y .driver .counts .at)) e (t .place) in
+          let j : x ≡ NoData 0 = i ∙ (ap (refusalOf r (Y .driver .counts)) (l .0) ∙ ap (λ (y : ℕ). NoData (y - 1)) (l .1)) in
+          let n = e ∙ ap Over (l .0) in
           let cyc = subst (λ (y : Phase). Cyc r y (Y .driver .counts) (Y .cycles)) n (cycles-now r xs c m b bs) .1 w in
           let d = over-is r xs c m b bs AtData n .0 in (
-            z ∙ (ap (λ (y : Refusal). Refused y q k) (i ∙ ap refusalOf l) ∙ (ap (λ (y : ℕ). Refused NoData y k) (p ∙ t .polls) ∙ ap (Refused NoData 0) (a ∙ t .seen))),
+            z ∙ (ap (λ (y : Refusal). Refused y q k) j ∙ (ap (λ (y : ℕ). Refused (NoData 0) y k) (p ∙ t .polls) ∙ ap (Refused (NoData 0) 0) (a ∙ t .seen))),
             d .mem ∙ (ap (W (G r xs c m b)) (t .seen) ∙ (W-write (G r xs c m b) (sane r xs c m b) 0 w ∙ with-same (targetOf (r .place)) m)),
             omega (arith, left-all r, ap (leftOf r) (t .seen)),
           )

@@ -7,7 +7,7 @@ use mathlib.Core.Logic.{_⊎_, inl, inr, ⊎-elim}
 use mathlib.Core.List.{List}
 use lib.ListN.{length, getD}
 use native.Mathlib.Omega.{arith}
-use Rattle.parts.specs.declared.Refusal.the-variants.{NoSelect}
+use Rattle.parts.specs.declared.Refusal.{Refusal}
 use Rattle.parts.specs.Refusals.{numberOf}
 use Rattle.parts.specs.Table.{factsOf}
 use Rattle.line.specs.declared.Target.{Target}
@@ -21,7 +21,7 @@ use Rattle.driver.specs.declared.Place.the-variants.{Array, Ident}
 use Rattle.driver.specs.declared.Request.{Request}
 use Rattle.driver.specs.declared.Slot.the-variants.{Select, High, Low, Data, Poll, Turn, Take}
 use Rattle.driver.specs.declared.Failed.{Failed}
-use Rattle.driver.specs.declared.Failed.the-variants.{AtSelect, AtData, AtPolls}
+use Rattle.driver.specs.declared.Failed.the-variants.{AtSelect, AtHigh, AtLow, AtData, AtPolls}
 use Rattle.driver.specs.declared.Phase.{Phase}
 use Rattle.driver.specs.declared.Phase.the-variants.{Ready, Bits, Heard, Rest, Over}
 use Rattle.driver.specs.declared.Counts.{Counts}
@@ -54,7 +54,7 @@ use Rattle.chip.specs.Model.{ours}
 abbrev pub Says : Answer → Request → Phase → Counts → Type 0
 Says (Send e) r p c = Unit {0}
 Says (Done q n) r p c = (p ≡ Ready) × (c .at ≡ r .length) × (n ≡ c .seen) × (q ≡ c .polls)
-Says (Refused f q n) r p c = (w : Failed) × (p ≡ Over w) × (f ≡ refusalOf w) × (n ≡ c .seen) × (q ≡ c .polls)
+Says (Refused f q n) r p c = (w : Failed) × (p ≡ Over w) × (f ≡ refusalOf r c w) × (n ≡ c .seen) × (q ≡ c .polls)
 
 says : {r : Request} {c : Counts} {v : ℕ} {ys zs : List ℕ} {p : Phase} {mv : Move} → Way r c v ys p mv zs → Says (mv .answer) r p c
 says (w-done e) = (refl, e, refl, refl)
@@ -115,6 +115,8 @@ module _ (g : Given) (s : Sane g) where
   some (Heard Take) c l k m v t = inr (t .mem)
   some Rest c l k m v t = pending c l k m t
   some (Over AtSelect) c l k m v t = absurd t
+  some (Over AtHigh) c l k m v t = absurd t
+  some (Over AtLow) c l k m v t = absurd t
   some (Over AtData) c l k m v t = inl (t .0 .mem)
   some (Over AtPolls) c l k m v t = pending c l k m (t .0)
 
@@ -130,6 +132,8 @@ module _ (g : Given) (s : Sane g) where
   -- a read is never over
   never-over : (f : Failed) (c : Counts) (l : Line) (k : List ℕ) (m : Mem) → g .request .reads ≡ true → InOver g f c l k m → ⊥
   never-over AtSelect c l k m w t = t
+  never-over AtHigh c l k m w t = t
+  never-over AtLow c l k m w t = t
   never-over AtData c l k m w t = false≢true (sym (t .1) ∙ w)
   never-over AtPolls c l k m w t = false≢true (sym (t .1) ∙ w)
 
@@ -175,13 +179,15 @@ module _ (r : Request) (xs : List ℕ) (c : Chip) (m : Mem) (b : Begins r xs c m
       subst (λ (p : Phase). At (G r xs c m b) p (Y .driver .counts) (Y .chip .line) (Y .chip .latch) (Y .mem) (Y .level)) (z .0) (H .rel .place) .phase
 
   -- a refusal's number tells where the driver was refused
-  never-nine : (q n : ℕ) → answerOf Y ≡ Refused NoSelect q n → ⊥
-  never-nine q n e = let z = spoken (Refused NoSelect q n) e in go (z .0) (z .1) (z .2)
+  ten-or-eleven : (x : Refusal) (q n : ℕ) → answerOf Y ≡ Refused x q n → (numberOf x ≡ 10) ⊎ (numberOf x ≡ 11)
+  ten-or-eleven x q n e = let z = spoken (Refused x q n) e in go (z .0) (z .1) (z .2)
     where
-      go : (f : Failed) → Y .driver .phase ≡ Over f → NoSelect ≡ refusalOf f → ⊥
-      go AtSelect p k = over-is AtSelect p
-      go AtData p k = omega (arith, ap numberOf k)
-      go AtPolls p k = omega (arith, ap numberOf k)
+      go : (f : Failed) → Y .driver .phase ≡ Over f → x ≡ refusalOf r (Y .driver .counts) f → (numberOf x ≡ 10) ⊎ (numberOf x ≡ 11)
+      go AtSelect p k = absurd (over-is AtSelect p)
+      go AtHigh p k = absurd (over-is AtHigh p)
+      go AtLow p k = absurd (over-is AtLow p)
+      go AtData p k = inl (ap numberOf k)
+      go AtPolls p k = inr (ap numberOf k)
 
   reported-seen : (a : Answer) → Says a r (Y .driver .phase) (Y .driver .counts) → reportedOf a ≤ Y .driver .counts .seen
   reported-seen (Send e) z = omega arith
@@ -210,7 +216,7 @@ module _ (r : Request) (xs : List ℕ) (c : Chip) (m : Mem) (b : Begins r xs c m
             seen = λ j h. stored j (omega arith);
             done = all-done;
             idle = idle-done;
-            selected = never-nine;
+            selected = ten-or-eleven;
             outside = λ j h. ap (λ (l : List ℕ). getD l j 0) cells ∙ wrote-out s x xs i j (⊎-elim (λ k. inl k) (λ k. inr (omega arith)) h);
             other = ap (λ (y : Mem). cellsOf (otherOf t) y) mem ∙ other-with t (wrote s x xs i) m;
             sizes = ap (λ (l : List ℕ). length l) cells ∙ wrote-long s x xs i;

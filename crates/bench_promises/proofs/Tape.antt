@@ -50,7 +50,7 @@ module _ (r : Request) (xs : List ℕ) (a : Accepted r xs) (M : Model) (d n : �
   abbrev Y : System
   Y = turnsOf ourDriver M d n (startOf r xs c m)
 
-  last : lastOf ourDriver M d n (Done 0 0) (startOf r xs c m) ≡ answerOf Y
+  pub last : lastOf ourDriver M d n (Done 0 0) (startOf r xs c m) ≡ answerOf Y
   last =
       let e : suc (n - 1) ≡ n = omega (arith, spare) in
       let f = turns-ended r xs a M d (n - 1) c m (omega (arith, spare)) .finished in

@@ -176,9 +176,9 @@ module _ (B : Bench) (k : BenchCall) where
     pub bytes : report .bytes ≡ 0
     pub cycles : report .cycles ≡ 1
 
-  -- refusal 10, and nothing stored changes
+  -- refusal 10 at the first data byte, and nothing stored changes
   pub record Protected : Type 0 where
-    pub refused : report .verdict ≡ Judged NoData
+    pub refused : report .verdict ≡ Judged (NoData 0)
     pub bytes : report .bytes ≡ 0
     pub cycles : report .cycles ≡ 0
     pub memory : B .memory k ≡ k .mem

@@ -81,12 +81,12 @@ module _ (run : Runs) where
 
   -- a byte that may be written is never refused with 10, in time or not
   abbrev pub WritesTaken : Type 0
-  WritesTaken = (w : Session) → Writes w → Allowed w → (q n : ℕ) → answerOf (afterChoices run w) ≡ Refused NoData q n → ⊥
+  WritesTaken = (w : Session) → Writes w → Allowed w → (i q n : ℕ) → answerOf (afterChoices run w) ≡ Refused (NoData i) q n → ⊥
 
-  -- a write that is forbidden ends in refusal 10: no byte is reported, nothing stored changes, no cycle begins
+  -- a write that is forbidden ends in refusal 10, at its first data byte: no byte is reported, nothing stored changes, no cycle begins
   abbrev pub ShutRefused : Type 0
   ShutRefused = (w : Session) → Writes w → Shut (w .request .place) (w .chip .line .core) → 1 ≤ w .request .length → Enough w
-      → (answerOf (afterChoices run w) ≡ Refused NoData 0 0) × (afterChoices run w .mem ≡ w .mem) × (afterChoices run w .cycles ≡ 0)
+      → (answerOf (afterChoices run w) ≡ Refused (NoData 0) 0 0) × (afterChoices run w .mem ≡ w .mem) × (afterChoices run w .cycles ≡ 0)
 
 -- ---- the run with d: n turns, each an asking, with an end of the cycle before it where poll number d is next
 

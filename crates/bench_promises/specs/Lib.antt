@@ -3,6 +3,7 @@ pub mod Together
 pub mod Ends
 pub mod Tape
 pub mod Calls
+pub mod Answered
 pub mod Numbers
 pub mod Pinned
 pub mod Strays

@@ -12,8 +12,8 @@ use mathlib.Core.List.{List, [], _∷_}
 use lib.ListN.{length, getD}
 use Rattle.parts.specs.declared.Facts.{Facts}
 use Rattle.parts.specs.declared.Refusal.{Refusal}
-use Rattle.parts.specs.declared.Refusal.the-variants.{NoSelect}
 use Rattle.parts.specs.Table.{factsOf}
+use Rattle.parts.specs.Refusals.{numberOf}
 use Rattle.parts.specs.Bytes.{AllBelow}
 use Rattle.line.specs.declared.Target.{Target}
 use Rattle.line.specs.declared.Target.the-variants.{Array as TheArray, Ident as TheIdent}
@@ -121,8 +121,8 @@ module _ (r : Request) (xs : List ℕ) (c : Chip) (m : Mem) (s : System) where
     pub done : (q n : ℕ) → answerOf s ≡ Done q n → n ≡ r .length
     -- and the chip is idle again, for the next request
     pub idle : (q n : ℕ) → answerOf s ≡ Done q n → s .chip .line .phase ≡ Idle
-    -- a chip of the named part and enable acknowledges its select and address: refusal 9 is never met
-    pub selected : (q n : ℕ) → answerOf s ≡ Refused NoSelect q n → ⊥
+    -- a chip of the named part and enable acknowledges its select and address: 9, 14 and 15 are never met, and a refusal is 10 or 11
+    pub selected : (f : Refusal) (q n : ℕ) → answerOf s ≡ Refused f q n → (numberOf f ≡ 10) ⊎ (numberOf f ≡ 11)
     -- "bytes it was not asked to write are as before": outside what was asked, in the other memory, and the lock
     pub outside : (i : ℕ) → (i < fromOf (r .place)) ⊎ (fromOf (r .place) + r .length ≤ i) → byteIn r (s .mem) i ≡ byteIn r m i
     pub other : cellsOf (otherOf (targetOf (r .place))) (s .mem) ≡ cellsOf (otherOf (targetOf (r .place))) m

@@ -1,5 +1,5 @@
 // Runs the driver against the model, as the lines of the input say, and prints what each run reports: the refusal's number (0: done),
-// polls, bytes, cycles, clocks. A line is a letter with its numbers: d a part as delivered, s a part in standby, locked or not, e an
+// its page or index, polls, bytes, cycles, clocks. A line is a letter with its numbers: d a part as delivered, s a part in standby, locked or not, e an
 // event for a part, b what the buffer is filled with, p how many bytes of it are printed, r a run (`run`), o a run of one byte on the
 // part as delivered.
 use driver::Place;
@@ -7,6 +7,7 @@ use driver::Request;
 use libc::STDIN_FILENO;
 use parts::ArrayAddress;
 use parts::IdLocation;
+use parts::Verdict;
 use state::Chip;
 use text::say;
 
@@ -28,9 +29,13 @@ fn tell_bytes(label: &[u8], s: &[u8]) {
     say(b"\n");
 }
 
-fn tell_report(label: &[u8], number: u8, polls: usize, bytes: usize, cycles: usize, clocks: usize) {
+fn tell_verdict(label: &[u8], verdict: Verdict) {
     say(label);
-    tell(text::wide(number));
+    tell(text::wide(parts::verdict_number(verdict)));
+    tell(parts::verdict_place(verdict));
+}
+
+fn tell_counts(polls: usize, bytes: usize, cycles: usize, clocks: usize) {
     tell(polls);
     tell(bytes);
     tell(cycles);
@@ -130,8 +135,8 @@ fn run(
     );
     let verdict = r.verdict;
     let chip = r.chip;
-    let number = parts::verdict_number(verdict);
-    tell_report(label, number, r.polls, r.bytes, r.cycles, r.clocks);
+    tell_verdict(label, verdict);
+    tell_counts(r.polls, r.bytes, r.cycles, r.clocks);
     keep(v[11] == 1, chip, held);
 }
 

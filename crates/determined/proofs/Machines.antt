@@ -54,10 +54,10 @@ pub sapwoodle-driver-begin-is : SapwoodleDriverBeginIs
 sapwoodle-driver-begin-is = λ κs a x p. same (p .0) (λ i. (tt, (tt, (tt, (tt, (tt, (tt, (p .1 i, tt))))))))
 
 pub sapwoodle-driver-next-is : SapwoodleDriverNextIs
-sapwoodle-driver-next-is = λ κs a x p. same (p .0) (λ i. (p .1 .0 i, (tt, (p .1 .1 .0 i, (p .1 .1 .1 .0 i, (p .1 .1 .1 .1 .0 i, (p .1 .1 .1 .1 .1 i, tt)))))))
+sapwoodle-driver-next-is = λ κs a x p. same (p .0) (λ i. (p .1 .0 i, (tt, (p .1 .1 .0 i, (p .1 .1 .1 .0 i, (p .1 .1 .1 .1 .0 i, (p .1 .1 .1 .1 .1 .0 i, (p .1 .1 .1 .1 .1 .1 i, tt))))))))
 
 pub sapwoodle-bench-run-is : SapwoodleBenchRunIs
-sapwoodle-bench-run-is = λ κs a x p. same (p .0) (λ i. (tt, (tt, (tt, (tt, (tt, (tt, (tt, (tt, (p .1 .0 i, (p .1 .1 .0 i .cells, (p .1 .1 .0 i .ident, (p .1 .1 .1 .0 i, (p .1 .1 .1 .1 .0 i, (p .1 .1 .1 .1 .1 .0 i, (p .1 .1 .1 .1 .1 .1 .0 i, (p .1 .1 .1 .1 .1 .1 .1 i, tt)))))))))))))))))
+sapwoodle-bench-run-is = λ κs a x p. same (p .0) (λ i. (tt, (tt, (tt, (tt, (tt, (tt, (tt, (tt, (p .1 .0 i, (p .1 .1 .0 i .cells, (p .1 .1 .0 i .ident, (p .1 .1 .1 .0 i, (p .1 .1 .1 .1 .0 i, (p .1 .1 .1 .1 .1 .0 i, (p .1 .1 .1 .1 .1 .1 .0 i, (p .1 .1 .1 .1 .1 .1 .1 .0 i, (p .1 .1 .1 .1 .1 .1 .1 .1 i, tt))))))))))))))))))
 
 pub sapwoodle-trace-is : SapwoodleTraceIs
 sapwoodle-trace-is = λ κs a x p. same (p .0) (λ i. (tt, (p .1 .0 i, (p .1 .1 i, tt))))

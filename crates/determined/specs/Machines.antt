@@ -174,14 +174,14 @@ SapwoodleDriverNextIs =
     Is sapwoodle-driver-next.ended sapwoodle-driver-next.Reads.Learnt
     (λ κs a.
     let m = asking (a .0 .now) (a .1 .0) (a .1 .1 .0 .now) in
-    record { result = m .told .number; left = (m .state, (tt, (m .buffer, (m .told .event, (m .told .polls, (m .told .bytes, tt)))))) })
+    record { result = m .told .number; left = (m .state, (tt, (m .buffer, (m .told .event, (m .told .place, (m .told .polls, (m .told .bytes, tt))))))) })
 
 abbrev pub SapwoodleBenchRunIs : Type 0
 SapwoodleBenchRunIs =
     Is sapwoodle-bench-run.ended sapwoodle-bench-run.Reads.Learnt
     (λ κs a.
     let m = benching (requestOf (a .0) (a .1 .0) (a .1 .1 .0) (a .1 .1 .1 .0) (a .1 .1 .1 .1 .0) (a .1 .1 .1 .1 .1 .0)) (a .1 .1 .1 .1 .1 .1 .0) (a .1 .1 .1 .1 .1 .1 .1 .0) (a .1 .1 .1 .1 .1 .1 .1 .1 .0 .now) (mem (a .1 .1 .1 .1 .1 .1 .1 .1 .1 .0 .now) (a .1 .1 .1 .1 .1 .1 .1 .1 .1 .1 .0 .now)) (a .1 .1 .1 .1 .1 .1 .1 .1 .1 .1 .1 .0 .now) in
-    record { result = m .number; left = (tt, (tt, (tt, (tt, (tt, (tt, (tt, (tt, (m .state, (m .stored .cells, (m .stored .ident, (m .buffer, (m .polls, (m .bytes, (m .cycles, (m .clocks, tt)))))))))))))))) })
+    record { result = m .number; left = (tt, (tt, (tt, (tt, (tt, (tt, (tt, (tt, (m .state, (m .stored .cells, (m .stored .ident, (m .buffer, (m .place, (m .polls, (m .bytes, (m .cycles, (m .clocks, tt))))))))))))))))) })
 
 abbrev pub SapwoodleTraceIs : Type 0
 SapwoodleTraceIs =

@@ -7,7 +7,7 @@ use mathlib.Core.List.{List}
 use lib.ListN.{length, getD, set}
 use lib.Dec.{eqb, leb, ltb}
 use Rattle.parts.specs.declared.Refusal.{Refusal}
-use Rattle.parts.specs.declared.Refusal.the-variants.{BadState, NoSelect, NoData, PollsUsed}
+use Rattle.parts.specs.declared.Refusal.the-variants.{BadState, NoSelect, NoData, PollsUsed, NoFirst, NoSecond}
 use Rattle.parts.specs.Table.{factsOf}
 use Rattle.parts.specs.Refusals.{isFine}
 use Rattle.driver.specs.Split.{toPageEndOf}
@@ -18,7 +18,7 @@ use Rattle.driver.specs.declared.Request.{Request}
 use Rattle.driver.specs.declared.Slot.{Slot}
 use Rattle.driver.specs.declared.Slot.the-variants.{Select, High, Low, Data, Poll, Turn, Take}
 use Rattle.driver.specs.declared.Failed.{Failed}
-use Rattle.driver.specs.declared.Failed.the-variants.{AtSelect, AtData, AtPolls}
+use Rattle.driver.specs.declared.Failed.the-variants.{AtSelect, AtHigh, AtLow, AtData, AtPolls}
 use Rattle.driver.specs.declared.Phase.{Phase}
 use Rattle.driver.specs.declared.Phase.the-variants.{Ready, Bits, Heard, Rest, Over}
 use Rattle.driver.specs.declared.Counts.{Counts}
@@ -147,13 +147,13 @@ followOf Poll wide = Poll
 followOf Turn wide = Take
 followOf Take wide = Take
 
--- a select or address byte is acknowledged, or Stop and refusal 9
-unfoldable pub leadAt : Counts → Slot → ℕ → ℕ → Move
-leadAt c next clock level = cond (eqb level 0) (opens next clock c) (sendThen 3 (Over AtSelect) c)
+-- a select, or the first of two address bytes, is acknowledged, or Stop and the refusal of that byte
+unfoldable pub leadAt : Counts → Failed → Slot → ℕ → ℕ → Move
+leadAt c why next clock level = cond (eqb level 0) (opens next clock c) (sendThen 3 (Over why) c)
 
 -- after the address: a read starts again, for its select
 unfoldable pub lowAt : Counts → Bool → ℕ → ℕ → Move
-lowAt c reads clock level = cond (eqb level 0) (cond reads (sendThen 2 (Bits Turn 0) c) (opens Data clock c)) (sendThen 3 (Over AtSelect) c)
+lowAt c reads clock level = cond (eqb level 0) (cond reads (sendThen 2 (Bits Turn 0) c) (opens Data clock c)) (sendThen 3 (Over AtLow) c)
 
 -- a data byte is acknowledged, or Stop and refusal 10; at the end of the part, Stop
 unfoldable pub dataAt : Counts → ℕ → ℕ → ℕ → Move
@@ -178,12 +178,12 @@ endOf d = d .counts .seen + toPageEndOf (factsOf (d .request .part) .page) (here
 
 -- the byte's ninth clock was sent, and its level is told; clock: the first clock of the byte that follows
 abbrev pub heardAt : Driver → Slot → ℕ → ℕ → Move
-heardAt d Select level clock = leadAt (d .counts) (followOf Select (factsOf (d .request .part) .wide)) clock level
-heardAt d High level clock = leadAt (d .counts) Low clock level
+heardAt d Select level clock = leadAt (d .counts) AtSelect (followOf Select (factsOf (d .request .part) .wide)) clock level
+heardAt d High level clock = leadAt (d .counts) AtHigh Low clock level
 heardAt d Low level clock = lowAt (d .counts) (d .request .reads) clock level
 heardAt d Data level clock = dataAt (d .counts) (endOf d) clock level
 heardAt d Poll level clock = answeredOf (d .counts) (allowedOf (d .request)) level
-heardAt d Turn level clock = leadAt (d .counts) Take clock level
+heardAt d Turn level clock = leadAt (d .counts) AtSelect Take clock level
 heardAt d Take level clock = takeAt (d .counts) (d .request .length) clock
 
 unfoldable pub heardMoveOf : Driver → Slot → ℕ → ℕ → Move
@@ -194,15 +194,29 @@ bitsMoveOf d slot b level value =
     bitsAt slot b (bitOf (slotByteOf (wireOf d value) slot) b) (ninthOf slot (eqb (d .counts .at + 1) (d .request .length)))
     (toldCountsOf slot (d .counts) level) (sentCountsOf slot (d .counts))
 
--- document 01's numbers of these are 9, 10 and 11 (numberOf of crate parts)
-abbrev pub refusalOf : Failed → Refusal
-refusalOf AtSelect = NoSelect
-refusalOf AtData = NoData
-refusalOf AtPolls = PollsUsed
+-- 02 §1, "the page of the transfer's address": the first address of the part under way, or of the read, div P
+abbrev pub pageAt : Request → Counts → ℕ
+pageAt r c = (fromOf (r .place) + c .seen) / factsOf (r .part) .page
+
+-- "the data byte's index in the request", from 0: the byte is counted when its ninth clock is sent
+abbrev pub indexAt : Counts → ℕ
+indexAt c = c .at - 1
+
+-- "14 first address byte, 15 second": the last address byte is the second of two, and the first where there is one
+abbrev pub lastAddressOf : Bool → ℕ → Refusal
+lastAddressOf wide page = cond wide (NoSecond page) (NoFirst page)
+
+-- number and value of each ending: 9, 14, 15, 10 and 11 (entryOf of crate parts)
+abbrev pub refusalOf : Request → Counts → Failed → Refusal
+refusalOf r c AtSelect = NoSelect (pageAt r c)
+refusalOf r c AtHigh = NoFirst (pageAt r c)
+refusalOf r c AtLow = lastAddressOf (factsOf (r .part) .wide) (pageAt r c)
+refusalOf r c AtData = NoData (indexAt c)
+refusalOf r c AtPolls = PollsUsed
 
 -- "it sends Stop first": the refusal is told after it, and again
-abbrev pub overOf : Failed → Counts → Move
-overOf f c = record { answer = Refused (refusalOf f) (c .polls) (c .seen); phase = Over f; counts = c }
+abbrev pub overOf : Request → Counts → Failed → Move
+overOf r c why = record { answer = Refused (refusalOf r c why) (c .polls) (c .seen); phase = Over why; counts = c }
 
 -- a step; value: the data byte at the driver's position
 abbrev pub moveAt : Phase → Driver → ℕ → ℕ → Move
@@ -210,7 +224,7 @@ moveAt Ready d level value = readyOf (d .counts) (d .request .length)
 moveAt (Bits slot b) d level value = bitsMoveOf d slot b level value
 moveAt (Heard slot) d level value = heardMoveOf d slot level value
 moveAt Rest d level value = pollMoveOf (d .counts)
-moveAt (Over f) d level value = overOf f (d .counts)
+moveAt (Over f) d level value = overOf (d .request) (d .counts) f
 
 unfoldable pub driverStepOf : Driver → ℕ → ℕ → Asked
 driverStepOf d level value =

@@ -16,7 +16,7 @@ ghost use Rattle.driver.specs.Request.{
   GoodRequest,
 };
 ghost use Rattle.parts.specs.Refusals.{isFine};
-ghost use Rattle.driver.specs.Step.{selectNameOf, selectAt, wireOf, slotByteOf, bitOf, ninthOf, shiftOf, toldCountsOf, sentCountsOf, readyOf, bitsAt, followOf, leadAt, lowAt, dataAt, pollMoveOf, answeredOf, takeAt, endOf, heardAt, heardMoveOf, bitsMoveOf, refusalOf, moveAt, driverStepOf, clocksOf, slotRight, phaseRight, countsRight, rangeOf, GoodCounts, driverNextOf, slotWhole, wholeOf, byteKeptOf, bufferOf, beginOf, badStateOf};
+ghost use Rattle.driver.specs.Step.{selectNameOf, selectAt, wireOf, slotByteOf, bitOf, ninthOf, shiftOf, toldCountsOf, sentCountsOf, readyOf, bitsAt, followOf, leadAt, lowAt, dataAt, pollMoveOf, answeredOf, takeAt, endOf, heardAt, heardMoveOf, bitsMoveOf, pageAt, indexAt, lastAddressOf, refusalOf, moveAt, driverStepOf, clocksOf, slotRight, phaseRight, countsRight, rangeOf, GoodCounts, driverNextOf, slotWhole, wholeOf, byteKeptOf, bufferOf, beginOf, badStateOf};
 use parts::ArrayAddress;
 use parts::Facts;
 use parts::IdLocation;
@@ -58,8 +58,14 @@ pub enum Slot {
 
 // At which byte a driver was refused.
 pub enum Failed {
+    // The select of a part, or either select of a read.
     AtSelect,
+    // The first of two address bytes.
+    AtHigh,
+    // The last address byte.
+    AtLow,
     AtData,
+    // The select of the last poll allowed.
     AtPolls,
 }
 
@@ -497,7 +503,7 @@ fn stop(phase: Phase, c: Counts) -> Move
     }
 }
 
-// Stop, and refused: 9 at a select or address byte, 10 at a data byte, 11 when the polls are used up.
+// Stop, and refused; `refusal` has the numbers.
 fn refused(why: Failed, c: Counts) -> Move
     ensures { λ r. ⌜ r ≡ Rattle.driver.specs.Step.sendThen 3 (Phase.Over why) c ⌝ }
 {
@@ -518,14 +524,14 @@ fn closed(c: Counts) -> Move
     stop(Phase::Ready, seen)
 }
 
-// After a select or address byte.
-fn after_head(c: Counts, next: Slot, clock: u8, level: u8) -> Move
-    ensures { λ r. ⌜ r ≡ leadAt c next clock level ⌝ }
+// After a select, or the first of two address bytes.
+fn after_head(c: Counts, why: Failed, next: Slot, clock: u8, level: u8) -> Move
+    ensures { λ r. ⌜ r ≡ leadAt c why next clock level ⌝ }
 {
     if level == 0 {
         return opened(next, clock, c);
     }
-    refused(Failed::AtSelect, c)
+    refused(why, c)
 }
 
 // After the last address byte: a read starts again.
@@ -542,7 +548,7 @@ fn after_low(c: Counts, reads: bool, clock: u8, level: u8) -> Move
         }
         return opened(Slot::Data, clock, c);
     }
-    refused(Failed::AtSelect, c)
+    refused(Failed::AtLow, c)
 }
 
 // After a data byte; `end` is where the part ends.
@@ -620,12 +626,12 @@ fn heard_at(d: Driver, slot: Slot, level: u8, clock: u8) -> Move
     let c = d.counts;
     let f = parts::facts_of(d.request.part);
     match slot {
-        Slot::Select => after_head(c, follow(slot, f.wide), clock, level),
-        Slot::High => after_head(c, Slot::Low, clock, level),
+        Slot::Select => after_head(c, Failed::AtSelect, follow(slot, f.wide), clock, level),
+        Slot::High => after_head(c, Failed::AtHigh, Slot::Low, clock, level),
         Slot::Low => after_low(c, d.request.reads, clock, level),
         Slot::Data => after_data(c, part_end(d), clock, level),
         Slot::Poll => after_poll(c, allowed(d.request), level),
-        Slot::Turn => after_head(c, Slot::Take, clock, level),
+        Slot::Turn => after_head(c, Failed::AtSelect, Slot::Take, clock, level),
         Slot::Take => after_take(c, d.request.length, clock),
     }
 }
@@ -639,22 +645,60 @@ fn heard(d: Driver, slot: Slot, level: u8, value: u8) -> Move
     heard_at(d, slot, level, bit(byte(bytes_of(d, value), next), 0))
 }
 
-fn refusal(f: Failed) -> Refusal
-    ensures { λ r. ⌜ r ≡ refusalOf f ⌝ }
+// The page of the part under way, or of the read: its first address div P.
+fn page_at(d: Driver) -> usize
+    requires { ⌜ GoodRequest (d .request) × (d .counts .seen ≤ d .request .length) ⌝ }
+    ensures { λ r. ⌜ r ≡ pageAt (d .request) (d .counts) ⌝ }
 {
-    match f {
-        Failed::AtSelect => Refusal::NoSelect,
-        Failed::AtData => Refusal::NoData,
+    let request = d.request;
+    let place = request.place;
+    let f = parts::facts_of(request.part);
+    (from(place) + d.counts.seen) / f.page
+}
+
+// The index in the request of the data byte sent last; it is counted when its ninth clock is sent.
+fn index_at(c: Counts) -> usize
+    ensures { λ r. ⌜ r ≡ indexAt c ⌝ }
+{
+    if c.at == 0 {
+        return 0;
+    }
+    c.at - 1
+}
+
+// The last address byte is the second of two, and the first where there is one.
+fn last_address(wide: bool, page: usize) -> Refusal
+    ensures { λ r. ⌜ r ≡ lastAddressOf wide page ⌝ }
+{
+    if wide {
+        return Refusal::NoSecond(page);
+    }
+    Refusal::NoFirst(page)
+}
+
+// The refusal that a byte without its acknowledge ends in.
+fn refusal(d: Driver, why: Failed) -> Refusal
+    requires { ⌜ GoodRequest (d .request) × (d .counts .seen ≤ d .request .length) ⌝ }
+    ensures { λ r. ⌜ r ≡ refusalOf (d .request) (d .counts) why ⌝ }
+{
+    let f = parts::facts_of(d.request.part);
+    match why {
+        Failed::AtSelect => Refusal::NoSelect(page_at(d)),
+        Failed::AtHigh => Refusal::NoFirst(page_at(d)),
+        Failed::AtLow => last_address(f.wide, page_at(d)),
+        Failed::AtData => Refusal::NoData(index_at(d.counts)),
         Failed::AtPolls => Refusal::PollsUsed,
     }
 }
 
-fn over(f: Failed, c: Counts) -> Move
-    ensures { λ r. ⌜ r ≡ Rattle.driver.specs.Step.overOf f c ⌝ }
+fn over(d: Driver, why: Failed) -> Move
+    requires { ⌜ GoodRequest (d .request) × (d .counts .seen ≤ d .request .length) ⌝ }
+    ensures { λ r. ⌜ r ≡ Rattle.driver.specs.Step.overOf (d .request) (d .counts) why ⌝ }
 {
+    let c = d.counts;
     Move {
-        answer: Answer::Refused(refusal(f), c.polls, c.seen),
-        phase: Phase::Over(f),
+        answer: Answer::Refused(refusal(d, why), c.polls, c.seen),
+        phase: Phase::Over(why),
         counts: c,
     }
 }
@@ -670,7 +714,7 @@ fn moved(d: Driver, level: u8, value: u8) -> Move
         Phase::Bits(slot, b) => bits(d, slot, b, level, value),
         Phase::Heard(slot) => heard(d, slot, level, value),
         Phase::Rest => poll(c),
-        Phase::Over(f) => over(f, c),
+        Phase::Over(why) => over(d, why),
     }
 }
 

@@ -11,6 +11,7 @@ use borrow.Author.Tests.{eqb-true}
 use Rattle.parts.proofs.Laws.{branch}
 use Rattle.parts.proofs.Tests.{not-yes}
 use Rattle.driver.specs.declared.Request.{Request}
+use Rattle.parts.specs.declared.Refusal.{Refusal}
 use Rattle.driver.specs.declared.Failed.{Failed}
 use Rattle.driver.specs.declared.Slot.the-variants.{Select, High, Low, Data, Poll, Turn, Take}
 use Rattle.driver.specs.declared.Phase.{Phase}
@@ -18,11 +19,11 @@ use Rattle.driver.specs.declared.Phase.the-variants.{Ready, Bits, Heard, Rest, 
 use Rattle.driver.specs.declared.Counts.{Counts}
 use Rattle.driver.specs.declared.Driver.{Driver}
 use Rattle.driver.specs.declared.Asked.{Asked}
-use Rattle.driver.specs.Step.{bitOf, driverStepOf, rangeOf, driverNextOf}
+use Rattle.driver.specs.Step.{bitOf, refusalOf, driverStepOf, rangeOf, driverNextOf}
 use Rattle.driver.specs.Machine.{ourDriver}
 use Rattle.driver_promises.specs.Run.{DriverHeld, told, afterAll, clockOfByte}
 use Rattle.driver_promises.specs.Plan.{thenStart, thenBits, thenByte, addressAt, selectOf, thenSelect, thenHigh, thenHead}
-use Rattle.driver_promises.specs.Where.{RefusedByte, the-select, the-high, the-low, the-turn, the-data, the-poll}
+use Rattle.driver_promises.specs.Where.{RefusedByte, the-select, the-first, the-only, the-second, the-turn, the-data, the-poll}
 use Rattle.driver_promises.proofs.Inv.{wide, Head}
 use Rattle.driver_promises.proofs.Grow.{A, D, heads, ends, two-bytes, one-byte}
 use Rattle.driver_promises.proofs.Bound.{no-polls}
@@ -48,10 +49,11 @@ module _ (r : Request) (o : ℕ) where
   head-length = omega (arith, high-length (wide r) refl, byte-length (thenHigh r (wide r) [] o) (addressAt r o % 256) 1)
 
   -- a read is refused before the first clock of its first byte
-  refused-early : {xs ls : List ℕ} {f : Failed} {v : ℕ} {bef : List ℕ} → r .reads ≡ true → RefusedByte r xs ls [] o f v bef → length bef + 9 ≤ clockOfByte r 0
+  refused-early : {xs ls : List ℕ} {f : Refusal} {v : ℕ} {bef : List ℕ} → r .reads ≡ true → RefusedByte r xs ls [] o f v bef → length bef + 9 ≤ clockOfByte r 0
   refused-early w the-select = omega arith
-  refused-early w (the-high e a) = omega (arith, byte-length (thenStart []) (selectOf r o) 1)
-  refused-early w (the-low a) = omega (arith, high-length (wide r) refl)
+  refused-early w (the-first e a) = omega (arith, byte-length (thenStart []) (selectOf r o) 1)
+  refused-early w (the-only e a) = omega (arith, byte-length (thenStart []) (selectOf r o) 1)
+  refused-early w (the-second e a) = omega (arith, high-length true e)
   refused-early w (the-turn e a) = omega (arith, head-length, length-append (thenHead r [] o) (2 ∷ []))
   refused-early w (the-data i e l a) = absurd (false≢true (sym e ∙ w))
   refused-early w (the-poll e a p) = absurd (false≢true (sym e ∙ w))
@@ -100,7 +102,7 @@ module _ (r : Request) (xs : List ℕ) (w : r .reads ≡ true) where
         let t = v .told in
         let z = v .inv .here w in
         let e = read-before (r .reads) r ys ls (t .past) (c .seen) (t .spent) w z (t .parts) in
-        let k = refused-early r (c .seen) w (subst (λ (y : List ℕ). RefusedByte r ys ls y (c .seen) f (t .byte) (t .before)) e (t .which)) in
+        let k = refused-early r (c .seen) w (subst (λ (y : List ℕ). RefusedByte r ys ls y (c .seen) (refusalOf r c f) (t .byte) (t .before)) e (t .which)) in
         let n : length es ≡ length (t .before) + 10 = ap length (t .events) ∙ omega (arith, byte-length (t .before) (t .byte) 1, length-append (thenByte (t .before) (t .byte) 1) (3 ∷ [])) in
         record {
           count = 0;

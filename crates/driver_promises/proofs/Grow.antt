@@ -16,7 +16,7 @@ use Rattle.driver.specs.declared.Request.{Request}
 use Rattle.driver.specs.declared.Slot.{Slot}
 use Rattle.driver.specs.declared.Slot.the-variants.{Select, High, Low, Data, Poll, Turn, Take}
 use Rattle.driver.specs.declared.Failed.{Failed}
-use Rattle.driver.specs.declared.Failed.the-variants.{AtSelect, AtData, AtPolls}
+use Rattle.driver.specs.declared.Failed.the-variants.{AtSelect, AtHigh, AtLow, AtData, AtPolls}
 use Rattle.driver.specs.declared.Phase.{Phase}
 use Rattle.driver.specs.declared.Phase.the-variants.{Ready, Bits, Heard, Rest, Over}
 use Rattle.driver.specs.declared.Counts.{Counts}
@@ -27,7 +27,7 @@ use Rattle.driver.specs.Request.{kOf}
 use Rattle.driver.specs.Step.{wireOf, slotByteOf, bitOf, sendThen, withByte}
 use Rattle.driver_promises.specs.Run.{addressBytes}
 use Rattle.driver_promises.specs.Where.{leftOf}
-use Rattle.driver_promises.proofs.View.{at, clockOf, leads, Way, w-done, w-open, w-bit, w-ninth, w-got, w-nack, w-high, w-only, w-low, w-turn, w-data, w-more, w-close, w-drop, w-poll, w-again, w-give, w-page, w-take, w-next, w-end, w-over}
+use Rattle.driver_promises.proofs.View.{at, clockOf, leads, missedAt, Way, w-done, w-open, w-bit, w-ninth, w-got, w-nack, w-high, w-only, w-low, w-turn, w-data, w-more, w-close, w-drop, w-poll, w-again, w-give, w-page, w-take, w-next, w-end, w-over}
 use Rattle.driver_promises.proofs.Inv.{wide, left-cut, Common, Closed, Inv, taken-elim}
 
 abbrev pub A : Request → ℕ
@@ -121,6 +121,8 @@ oddAt (Bits s b) r c = slotOdd s
 oddAt (Heard s) r c = slotOdd s
 oddAt Rest r c = true
 oddAt (Over AtSelect) r c = true
+oddAt (Over AtHigh) r c = true
+oddAt (Over AtLow) r c = true
 oddAt (Over AtData) r c = true
 oddAt (Over AtPolls) r c = false
 
@@ -197,14 +199,15 @@ module _ (r : Request) where
         none true = omega arith
         none false = omega arith
 
-  nack-odd : (s : Slot) → leads s ≡ true → slotOdd s ≡ false
-  nack-odd Select e = refl
-  nack-odd High e = refl
-  nack-odd Low e = refl
-  nack-odd Data e = absurd (false≢true e)
-  nack-odd Poll e = absurd (false≢true e)
-  nack-odd Turn e = refl
-  nack-odd Take e = absurd (false≢true e)
+  -- a select or address byte stands before a part's data, and its Stop is one more
+  nack-odd : (s : Slot) (c : Counts) → leads s ≡ true → oddAt (Over (missedAt s)) r c ≡ not (slotOdd s)
+  nack-odd Select c e = refl
+  nack-odd High c e = refl
+  nack-odd Low c e = refl
+  nack-odd Data c e = absurd (false≢true e)
+  nack-odd Poll c e = absurd (false≢true e)
+  nack-odd Turn c e = refl
+  nack-odd Take c e = absurd (false≢true e)
 
   ready-even : (c : Counts) → Inv r Ready c → (c .at ≡ r .length → ⊥) → oddAt Ready r c ≡ false
   ready-even c v n = go (r .reads) refl
@@ -241,7 +244,7 @@ module _ (r : Request) where
   grow {c} v (w-ninth Turn b e h) = clocked c (Bits Turn b) _ 1 (omega arith) refl refl (omega arith) refl
   grow v (w-ninth Take b e h) = absurd (false≢true (sym e))
   grow {c} v (w-got b e h) = clocked c (Bits Take b) _ _ (ninth-lt (eqb (c .at + 1) (r .length))) refl refl (omega arith) refl
-  grow {c} v (w-nack s e h) = gives-up c (Heard s) AtSelect (sym (ap not (nack-odd s e)))
+  grow {c} v (w-nack s e h) = gives-up c (Heard s) (missedAt s) (nack-odd s c e)
   grow {c} v (w-high z e) = clocked c (Heard Select) _ _ (bit-lt _ 0) refl refl (omega arith) refl
   grow {c} v (w-only z e) = let k = one-byte r e in clocked c (Heard Select) _ _ (bit-lt _ 0) refl refl (omega arith) refl
   grow {c} v (w-low z) = let k = two-bytes r (v .here .1) in clocked c (Heard High) _ _ (bit-lt _ 0) refl refl (omega arith) refl

@@ -10,14 +10,14 @@ use native.Mathlib.Omega.{arith}
 use Rattle.driver.specs.declared.Request.{Request}
 use Rattle.driver.specs.declared.Slot.{Slot}
 use Rattle.driver.specs.declared.Slot.the-variants.{Select, High, Low, Data, Poll, Turn, Take}
-use Rattle.driver.specs.declared.Failed.{Failed}
+use Rattle.parts.specs.declared.Refusal.{Refusal}
 use Rattle.driver.specs.declared.Phase.{Phase}
 use Rattle.driver.specs.declared.Phase.the-variants.{Ready, Bits, Heard, Rest, Over}
 use Rattle.driver.specs.declared.Counts.{Counts}
 use Rattle.driver.specs.Request.{allowedOf}
 use Rattle.driver_promises.specs.Plan.{thenStart, thenStop, thenByte, thenPolls, thenData, selectOf, thenSelect, thenHigh, thenHead, lengthOf, thenPart, thenParts, partsEndOf}
 use Rattle.driver_promises.specs.Heard.{Acked, Missed, PollsMissed, DataAcked, HighAcked, HeadAcked, FilledAcked, PartTold, PartsTold, TurnAcked, ReadTold}
-use Rattle.driver_promises.specs.Where.{Before, RefusedByte, the-select, the-high, the-low, the-turn, the-data, the-poll}
+use Rattle.driver_promises.specs.Where.{Before, RefusedByte, the-select, the-first, the-only, the-second, the-turn, the-data, the-poll}
 use Rattle.driver_promises.proofs.Inv.{wide}
 
 -- ---- one level more
@@ -87,10 +87,11 @@ module _ (ls : List ℕ) (l : ℕ) where
     before-more false xs m q es h =
         record { each = h .each; ends = h .ends; pages = h .pages; polled = h .polled; within = h .within; events = h .events; levels = parts-more [] xs 0 (h .each) (h .levels) }
 
-    pub byte-more : {xs past : List ℕ} {m : ℕ} {f : Failed} {v : ℕ} {bef : List ℕ} → RefusedByte r xs ls past m f v bef → RefusedByte r xs longer past m f v bef
+    pub byte-more : {xs past : List ℕ} {m : ℕ} {f : Refusal} {v : ℕ} {bef : List ℕ} → RefusedByte r xs ls past m f v bef → RefusedByte r xs longer past m f v bef
     byte-more the-select = the-select
-    byte-more {past = past} {m = m} (the-high e h) = the-high e (acked-more (thenSelect r past m) h)
-    byte-more {past = past} {m = m} (the-low h) = the-low (high-more (wide r) past m h)
+    byte-more {past = past} {m = m} (the-first e h) = the-first e (acked-more (thenSelect r past m) h)
+    byte-more {past = past} {m = m} (the-only e h) = the-only e (acked-more (thenSelect r past m) h)
+    byte-more {past = past} {m = m} (the-second e h) = the-second e (high-more true past m h)
     byte-more {past = past} {m = m} (the-turn e h) = the-turn e (head-more past m h)
     byte-more {xs = xs} {past = past} {m = m} (the-data i e k h) = the-data i e k (filled-more past xs m i h)
     byte-more {xs = xs} {past = past} {m = m} (the-poll e h p) = the-poll e (filled-more past xs m (lengthOf r m) h) (polls-more (thenStop (thenData (thenHead r past m) xs m (lengthOf r m))) (selectOf r m) (allowedOf r - 1) p)

@@ -11,6 +11,7 @@ use borrow.Author.Tests.{lt-ltb, eq-eqb, ne-eqb, lt-leb, eqb-true, eqb-false}
 use Rattle.parts.specs.Refusals.{isFine}
 use Rattle.driver.specs.declared.Request.{Request}
 use Rattle.driver.specs.declared.Slot.{Slot}
+use Rattle.driver.specs.declared.Failed.{Failed}
 use Rattle.driver.specs.declared.Slot.the-variants.{Select, High, Low, Data, Poll, Turn, Take}
 use Rattle.driver.specs.declared.Phase.{Phase}
 use Rattle.driver.specs.declared.Phase.the-variants.{Ready, Bits, Heard, Rest, Over}
@@ -55,18 +56,18 @@ module _ (l j : ℕ) where
     bits-alike Take b f =
         ap (λ (x : ℕ). bitsAt Take b (bitOf (slotByteOf (wireOf d v) Take) b) (ninthOf Take (eqb (d .counts .at + 1) (d .request .length))) (withByte (d .counts) x) (sentCountsOf Take (d .counts))) (shift-alike (d .counts .byte) (f refl))
 
-    lead-alike : (c : Counts) (s : Slot) (x : ℕ) → Alike l j → leadAt c s x l ≡ leadAt c s x j
+    lead-alike : (c : Counts) (w : Failed) (s : Slot) (x : ℕ) → Alike l j → leadAt c w s x l ≡ leadAt c w s x j
     unfolding leadAt
-    lead-alike c s x e = simp e
+    lead-alike c w s x e = simp e
 
     heard-alike : (s : Slot) (x : ℕ) → (not (takes s) ≡ true → Alike l j) → heardAt d s l x ≡ heardAt d s j x
     unfolding lowAt dataAt answeredOf
-    heard-alike Select x f = lead-alike _ _ x (f refl)
-    heard-alike High x f = lead-alike _ _ x (f refl)
+    heard-alike Select x f = lead-alike _ _ _ x (f refl)
+    heard-alike High x f = lead-alike _ _ _ x (f refl)
     heard-alike Low x f = let e = f refl in simp e
     heard-alike Data x f = let e = f refl in simp e
     heard-alike Poll x f = let e = f refl in simp e
-    heard-alike Turn x f = lead-alike _ _ x (f refl)
+    heard-alike Turn x f = lead-alike _ _ _ x (f refl)
     heard-alike Take x f = refl
 
     move-alike : (p : Phase) → (looks p ≡ true → Alike l j) → moveAt p d l v ≡ moveAt p d j v

@@ -1,6 +1,6 @@
 -- The promises leave nothing open: the levels told decide the events, the answer and the buffer of whoever keeps them.
 -- Assumes nothing.
-use Prim.Native.Nat.{ℕ, zero, suc, _+_, _-_, _≤_, _<_}
+use Prim.Native.Nat.{ℕ, zero, suc, _+_, _-_, _%_, _≤_, _<_}
 use mathlib.Core.Path.{_≡_, refl, sym, _∙_, ap, subst}
 use mathlib.Core.Bool.{Bool, true, false, cond, false≢true}
 use mathlib.Core.List.{List, [], _∷_, _++_, append-assoc}
@@ -11,29 +11,28 @@ use lib.Dec.{eqb}
 use native.Mathlib.Omega.{arith}
 use borrow.Author.Tests.{eq-eqb, ne-eqb, eqb-true, eqb-false}
 use Rattle.parts.specs.declared.Refusal.{Refusal}
+use Rattle.parts.specs.declared.Refusal.the-variants.{NoSelect, NoData, PollsUsed, NoFirst}
 use Rattle.parts.specs.Refusals.{isFine}
 use Rattle.driver.specs.declared.Request.{Request}
-use Rattle.driver.specs.declared.Failed.{Failed}
-use Rattle.driver.specs.declared.Failed.the-variants.{AtSelect, AtData, AtPolls}
 use Rattle.driver.specs.declared.Answer.{Answer}
 use Rattle.driver.specs.declared.Answer.the-variants.{Send, Done, Refused}
 use Rattle.driver.specs.Request.{allowedOf, kOf}
-use Rattle.driver.specs.Step.{refusalOf}
+use Rattle.driver.specs.Step.{lastAddressOf}
 use Rattle.driver.proofs.Facts.{good-request}
 use Rattle.driver.specs.Machine.{Machine}
 use Rattle.driver_promises.specs.Run.{DriverHeld, begun, sentBy, answerTo, told, afterAll, eventsSent, Finished, pollsIn, boundOf, clockOfByte}
-use Rattle.driver_promises.specs.Plan.{thenStart, thenStop, thenByte, thenPolls, thenData, selectOf, thenSelect, thenHigh, thenHead, lengthOf, thenPart, thenParts, partsEndOf, readPlan}
+use Rattle.driver_promises.specs.Plan.{thenStart, thenStop, thenByte, thenPolls, thenData, addressAt, selectOf, thenSelect, thenHigh, thenHead, lengthOf, thenPart, thenParts, partsEndOf, readPlan}
 use Rattle.driver_promises.specs.Heard.{Acked, Missed, PollsMissed, DataAcked, HighAcked, HeadAcked, PartsTold}
-use Rattle.driver_promises.specs.Where.{leftOf, Within, RefusedByte, the-select, the-high, the-low, the-turn, the-data, the-poll, Before, Stopped}
+use Rattle.driver_promises.specs.Where.{leftOf, Within, pageOf, RefusedByte, the-select, the-first, the-only, the-second, the-turn, the-data, the-poll, Before, Stopped}
 use Rattle.driver_promises.specs.Promises.{Accepted, after, sent, answers, DoneAll, DoneOf, RefusedAt, BufferSoFar, Promises}
 use Rattle.driver_promises.specs.Pinned.{Pinned}
-use Rattle.driver_promises.proofs.Inv.{wide, stop, left-cut, less}
+use Rattle.driver_promises.proofs.Inv.{wide, stop, left-all, left-cut, less}
 use Rattle.driver_promises.proofs.Numbers.{less-or-more}
 
 -- the events of a whole run, and its answer
-record Out : Type 0 where
-  events : List ℕ
-  answer : Answer
+pub record Out : Type 0 where
+  pub events : List ℕ
+  pub answer : Answer
 
 missed-at : (ls : List ℕ) (i : ℕ) → 0 < getD ls i 0 → 0 < getD ls i 1
 missed-at [] i h = absurd (omega arith)
@@ -46,26 +45,33 @@ module _ (r : Request) (xs ls : List ℕ) where
   endsDone es = record { events = es; answer = Done (pollsIn false es) (r .length) }
 
   -- the last of the events es was missed
-  abbrev endsRefused : Failed → List ℕ → ℕ → Out
-  endsRefused f es m = record { events = thenStop es; answer = Refused (refusalOf f) (pollsIn false (thenStop es)) m }
+  abbrev pub endsRefused : Refusal → List ℕ → ℕ → Out
+  endsRefused f es m = record { events = thenStop es; answer = Refused f (pollsIn false (thenStop es)) m }
 
   abbrev ask : List ℕ → Out → Out → Out
   ask es on off = cond (eqb (getD ls (length es) 1) 0) on off
 
-  abbrev highOut : Bool → List ℕ → ℕ → Out → Out
-  highOut true es o on = ask (thenSelect r es o) (ask (thenHigh r true es o) on (endsRefused AtSelect (thenHigh r true es o) o)) (endsRefused AtSelect (thenSelect r es o) o)
-  highOut false es o on = ask (thenSelect r es o) on (endsRefused AtSelect (thenSelect r es o) o)
+  -- select and address
+  abbrev pub lastBy : Bool → List ℕ → ℕ → List ℕ
+  lastBy b es o = thenByte (thenHigh r b es o) (addressAt r o % 256) 1
 
-  abbrev headOut : List ℕ → ℕ → Out → Out
-  headOut es o on = highOut (wide r) es o (ask (thenHead r es o) on (endsRefused AtSelect (thenHead r es o) o))
+  abbrev highOut : Bool → List ℕ → ℕ → Out → Out
+  highOut true es o on = ask (thenSelect r es o) (ask (thenHigh r true es o) on (endsRefused (NoFirst (pageOf r o)) (thenHigh r true es o) o)) (endsRefused (NoSelect (pageOf r o)) (thenSelect r es o) o)
+  highOut false es o on = ask (thenSelect r es o) on (endsRefused (NoSelect (pageOf r o)) (thenSelect r es o) o)
+
+  abbrev headBy : Bool → List ℕ → ℕ → Out → Out
+  headBy b es o on = highOut b es o (ask (lastBy b es o) on (endsRefused (lastAddressOf b (pageOf r o)) (lastBy b es o) o))
+
+  abbrev pub headOut : List ℕ → ℕ → Out → Out
+  headOut es o on = headBy (wide r) es o on
 
   abbrev dataOut : List ℕ → ℕ → ℕ → Out → Out
   dataOut es o zero on = on
-  dataOut es o (suc m) on = dataOut es o m (ask (thenData es xs o (suc m)) on (endsRefused AtData (thenData es xs o (suc m)) o))
+  dataOut es o (suc m) on = dataOut es o m (ask (thenData es xs o (suc m)) on (endsRefused (NoData (o + m)) (thenData es xs o (suc m)) o))
 
   -- k polls are left of those allowed, t are sent
   abbrev pollsOut : List ℕ → ℕ → ℕ → ℕ → ℕ → (ℕ → Out) → Out
-  pollsOut es v o zero t on = endsRefused AtPolls (thenPolls es v t) o
+  pollsOut es v o zero t on = endsRefused PollsUsed (thenPolls es v t) o
   pollsOut es v o (suc k) t on = ask (thenPolls es v (suc t)) (on (suc t)) (pollsOut es v o k (suc t) on)
 
   abbrev partsOut : ℕ → List ℕ → ℕ → Out
@@ -78,8 +84,8 @@ module _ (r : Request) (xs ls : List ℕ) where
   abbrev turned : List ℕ
   turned = thenByte (thenStart (thenHead r [] 0)) (selectOf r 0 + 1) 1
 
-  abbrev out : Bool → Out
-  out true = cond (eqb (r .length) 0) (endsDone []) (headOut [] 0 (ask turned (endsDone (readPlan r)) (endsRefused AtSelect turned 0)))
+  abbrev pub out : Bool → Out
+  out true = cond (eqb (r .length) 0) (endsDone []) (headOut [] 0 (ask turned (endsDone (readPlan r)) (endsRefused (NoSelect (pageOf r 0)) turned 0)))
   out false = partsOut (kOf r) [] 0
 
   -- ---- it goes as the levels say
@@ -96,26 +102,29 @@ module _ (r : Request) (xs ls : List ℕ) where
   head-yes : (es : List ℕ) (o : ℕ) (on : Out) → HeadAcked ls r es o → headOut es o on ≡ on
   head-yes es o on h = high-yes (wide r) es o _ (h .0) ∙ ask-yes (thenHead r es o) _ _ (h .1)
 
-  select-no : (b : Bool) (es : List ℕ) (o : ℕ) (on : Out) → Missed ls (thenSelect r es o) → highOut b es o on ≡ endsRefused AtSelect (thenSelect r es o) o
+  pub select-no : (b : Bool) (es : List ℕ) (o : ℕ) (on : Out) → Missed ls (thenSelect r es o) → highOut b es o on ≡ endsRefused (NoSelect (pageOf r o)) (thenSelect r es o) o
   select-no true es o on h = ask-no (thenSelect r es o) _ _ h
   select-no false es o on h = ask-no (thenSelect r es o) _ _ h
 
-  high-no : (b : Bool) (es : List ℕ) (o : ℕ) (on : Out) → b ≡ true → Acked ls (thenSelect r es o) → Missed ls (thenHigh r true es o) → highOut b es o on ≡ endsRefused AtSelect (thenHigh r true es o) o
+  pub high-no : (b : Bool) (es : List ℕ) (o : ℕ) (on : Out) → b ≡ true → Acked ls (thenSelect r es o) → Missed ls (thenHigh r true es o) → highOut b es o on ≡ endsRefused (NoFirst (pageOf r o)) (thenHigh r true es o) o
   high-no true es o on e h k = ask-yes (thenSelect r es o) _ _ h ∙ ask-no (thenHigh r true es o) _ _ k
   high-no false es o on e h k = absurd (false≢true e)
+
+  pub last-no : (b : Bool) (es : List ℕ) (o : ℕ) (on : Out) → wide r ≡ b → HighAcked ls r b es o → Missed ls (lastBy b es o) → headOut es o on ≡ endsRefused (lastAddressOf b (pageOf r o)) (lastBy b es o) o
+  last-no b es o on e a h = ap (λ (t : Bool). headBy t es o on) e ∙ (high-yes b es o _ a ∙ ask-no (lastBy b es o) _ _ h)
 
   data-yes : (es : List ℕ) (o m : ℕ) (on : Out) → DataAcked ls es xs o m → dataOut es o m on ≡ on
   data-yes es o zero on h = refl
   data-yes es o (suc m) on h = data-yes es o m _ (h .0) ∙ ask-yes (thenData es xs o (suc m)) _ _ (h .1)
 
-  data-no : (es : List ℕ) (o i m : ℕ) (on : Out) → i < m → DataAcked ls es xs o i → Missed ls (thenData es xs o (suc i)) → dataOut es o m on ≡ endsRefused AtData (thenData es xs o (suc i)) o
+  data-no : (es : List ℕ) (o i m : ℕ) (on : Out) → i < m → DataAcked ls es xs o i → Missed ls (thenData es xs o (suc i)) → dataOut es o m on ≡ endsRefused (NoData (o + i)) (thenData es xs o (suc i)) o
   data-no es o i zero on l h k = absurd (omega arith)
   data-no es o i (suc m) on l h k = go (eqb i m) refl (λ n y. data-no es o i m y n h k)
     where
-      go : (t : Bool) → eqb i m ≡ t → (i < m → (y : Out) → dataOut es o m y ≡ endsRefused AtData (thenData es xs o (suc i)) o) → dataOut es o (suc m) on ≡ endsRefused AtData (thenData es xs o (suc i)) o
+      go : (t : Bool) → eqb i m ≡ t → (i < m → (y : Out) → dataOut es o m y ≡ endsRefused (NoData (o + i)) (thenData es xs o (suc i)) o) → dataOut es o (suc m) on ≡ endsRefused (NoData (o + i)) (thenData es xs o (suc i)) o
       go true e f =
           let z = eqb-true i m e in
-          subst (λ (n : ℕ). dataOut es o (suc n) on ≡ endsRefused AtData (thenData es xs o (suc i)) o) z (data-yes es o i _ h ∙ ask-no (thenData es xs o (suc i)) _ _ k)
+          subst (λ (n : ℕ). dataOut es o (suc n) on ≡ endsRefused (NoData (o + i)) (thenData es xs o (suc i)) o) z (data-yes es o i _ h ∙ ask-no (thenData es xs o (suc i)) _ _ k)
       go false e f = f (less i m (eqb-false i m e) (omega arith)) _
 
   missed-get : (es : List ℕ) (v n i : ℕ) → PollsMissed ls es v n → i < n → Missed ls (thenPolls es v (suc i))
@@ -138,8 +147,8 @@ module _ (r : Request) (xs ls : List ℕ) where
           let n = less (suc t) q (eqb-false (suc t) q e) (omega arith) in
           ask-no (thenPolls es v (suc t)) _ _ (missed-get es v (q - 1) t h (omega arith)) ∙ f n
 
-  polls-no : (es : List ℕ) (v o n k t : ℕ) (on : ℕ → Out) → PollsMissed ls es v n → n ≡ t + k → pollsOut es v o k t on ≡ endsRefused AtPolls (thenPolls es v n) o
-  polls-no es v o n zero t on h e = let z : t ≡ n = omega arith in ap (λ (i : ℕ). endsRefused AtPolls (thenPolls es v i) o) z
+  polls-no : (es : List ℕ) (v o n k t : ℕ) (on : ℕ → Out) → PollsMissed ls es v n → n ≡ t + k → pollsOut es v o k t on ≡ endsRefused PollsUsed (thenPolls es v n) o
+  polls-no es v o n zero t on h e = let z : t ≡ n = omega arith in ap (λ (i : ℕ). endsRefused PollsUsed (thenPolls es v i) o) z
   polls-no es v o n (suc k) t on h e = ask-no (thenPolls es v (suc t)) _ _ (missed-get es v n t h (omega arith)) ∙ polls-no es v o n k (suc t) on h (omega arith)
 
   parts-yes : (k n : ℕ) (qs es : List ℕ) (o : ℕ) → k ≡ length qs + n → Within (allowedOf r) qs → PartsTold ls r es xs o qs → partsOut k es o ≡ partsOut n (thenParts r es xs o qs) (partsEndOf r o qs)
@@ -155,10 +164,11 @@ module _ (r : Request) (xs ls : List ℕ) where
       ∙ parts-yes k n qs (thenPart r es xs o q) (o + lengthOf r o) (omega arith) (w .2) (h .1)))
 
   -- ---- where a refusal stands
-  byte-write : {past : List ℕ} {m : ℕ} {f : Failed} {v : ℕ} {bef : List ℕ} → RefusedByte r xs ls past m f v bef → r .reads ≡ false → 1 ≤ allowedOf r → Missed ls (thenByte bef v 1) → (n : ℕ) → partsOut (suc n) past m ≡ endsRefused f (thenByte bef v 1) m
+  byte-write : {past : List ℕ} {m : ℕ} {f : Refusal} {v : ℕ} {bef : List ℕ} → RefusedByte r xs ls past m f v bef → r .reads ≡ false → 1 ≤ allowedOf r → Missed ls (thenByte bef v 1) → (n : ℕ) → partsOut (suc n) past m ≡ endsRefused f (thenByte bef v 1) m
   byte-write {past} {m} the-select w b h n = select-no (wide r) past m _ h
-  byte-write {past} {m} (the-high e a) w b h n = high-no (wide r) past m _ e a h
-  byte-write {past} {m} (the-low a) w b h n = high-yes (wide r) past m _ a ∙ ask-no (thenHead r past m) _ _ h
+  byte-write {past} {m} (the-first e a) w b h n = high-no (wide r) past m _ e a h
+  byte-write {past} {m} (the-only e a) w b h n = last-no false past m _ e a h
+  byte-write {past} {m} (the-second e a) w b h n = last-no true past m _ e a h
   byte-write (the-turn e a) w b h n = absurd (false≢true (sym w ∙ e))
   byte-write {past} {m} (the-data i e l a) w b h n = head-yes past m _ (a .0) ∙ data-no (thenHead r past m) m i (lengthOf r m) _ l (a .1) h
   byte-write {past} {m} (the-poll e a p) w b h n =
@@ -166,18 +176,24 @@ module _ (r : Request) (xs ls : List ℕ) where
       ∙ (data-yes (thenHead r past m) m (lengthOf r m) _ (a .1)
       ∙ polls-no (thenStop (thenData (thenHead r past m) xs m (lengthOf r m))) (selectOf r m) m (suc (allowedOf r - 1)) (allowedOf r) 0 _ (p, h) (omega arith))
 
-  byte-read : {f : Failed} {v : ℕ} {bef : List ℕ} → RefusedByte r xs ls [] 0 f v bef → r .reads ≡ true → Missed ls (thenByte bef v 1) → headOut [] 0 (ask turned (endsDone (readPlan r)) (endsRefused AtSelect turned 0)) ≡ endsRefused f (thenByte bef v 1) 0
+  byte-read : {f : Refusal} {v : ℕ} {bef : List ℕ} → RefusedByte r xs ls [] 0 f v bef → r .reads ≡ true → Missed ls (thenByte bef v 1) → headOut [] 0 (ask turned (endsDone (readPlan r)) (endsRefused (NoSelect (pageOf r 0)) turned 0)) ≡ endsRefused f (thenByte bef v 1) 0
   byte-read the-select w h = select-no (wide r) [] 0 _ h
-  byte-read (the-high e a) w h = high-no (wide r) [] 0 _ e a h
-  byte-read (the-low a) w h = high-yes (wide r) [] 0 _ a ∙ ask-no (thenHead r [] 0) _ _ h
+  byte-read (the-first e a) w h = high-no (wide r) [] 0 _ e a h
+  byte-read (the-only e a) w h = last-no false [] 0 _ e a h
+  byte-read (the-second e a) w h = last-no true [] 0 _ e a h
   byte-read (the-turn e a) w h = head-yes [] 0 _ a ∙ ask-no turned _ _ h
   byte-read (the-data i e l a) w h = absurd (false≢true (sym e ∙ w))
   byte-read (the-poll e a p) w h = absurd (false≢true (sym e ∙ w))
 
-  reads-some : 0 < r .length → out true ≡ headOut [] 0 (ask turned (endsDone (readPlan r)) (endsRefused AtSelect turned 0))
-  reads-some h = ap (λ (t : Bool). cond t (endsDone []) (headOut [] 0 (ask turned (endsDone (readPlan r)) (endsRefused AtSelect turned 0)))) (ne-eqb (r .length) 0 (λ z. omega arith))
+  reads-some : 0 < r .length → out true ≡ headOut [] 0 (ask turned (endsDone (readPlan r)) (endsRefused (NoSelect (pageOf r 0)) turned 0))
+  reads-some h = ap (λ (t : Bool). cond t (endsDone []) (headOut [] 0 (ask turned (endsDone (readPlan r)) (endsRefused (NoSelect (pageOf r 0)) turned 0)))) (ne-eqb (r .length) 0 (λ z. omega arith))
 
-  stopped-out : (f : Failed) (m q : ℕ) (es : List ℕ) → (r .reads ≡ false → 1 ≤ allowedOf r) → (r .reads ≡ true → m ≡ 0) → (s : Stopped r xs f m q es ls) → out (r .reads) ≡ endsRefused f (thenByte (s .before) (s .byte) 1) m
+  -- a run of a byte or more ends where its head does
+  pub head-out : 0 < r .length → (o : Out) → ((on : Out) → headOut [] 0 on ≡ o) → (b : Bool) → out b ≡ o
+  head-out h o f true = reads-some h ∙ f _
+  head-out h o f false = ap (λ (i : ℕ). partsOut i [] 0) (sym (left-all r) ∙ left-cut r 0 h) ∙ f _
+
+  stopped-out : (f : Refusal) (m q : ℕ) (es : List ℕ) → (r .reads ≡ false → 1 ≤ allowedOf r) → (r .reads ≡ true → m ≡ 0) → (s : Stopped r xs f m q es ls) → out (r .reads) ≡ endsRefused f (thenByte (s .before) (s .byte) 1) m
   stopped-out f m q es b z s = go (r .reads) refl (s .parts)
     where
       go : (t : Bool) → r .reads ≡ t → Before t r xs ls m (s .spent) (s .past) → out t ≡ endsRefused f (thenByte (s .before) (s .byte) 1) m
@@ -196,7 +212,7 @@ module _ (r : Request) (xs ls : List ℕ) where
           ∙ (ap (λ (i : ℕ). partsOut i (s .past) m) l ∙ byte-write (s .which) e (b e) (s .level) (leftOf r (stop r m)))))
 
   module _ (M : Machine) (l : ℕ) where
-    abbrev whole : Out
+    abbrev pub whole : Out
     whole = record { events = sent M r xs ls l; answer = answers M r xs ls l }
 
     done-out : (q m : ℕ) → q ≡ pollsIn false (sent M r xs ls l) → DoneAll M r xs ls l q m → record { events = sent M r xs ls l; answer = Done q m } ≡ out (r .reads)
@@ -209,7 +225,7 @@ module _ (r : Request) (xs ls : List ℕ) where
         go true p = none (eqb (r .length) 0) refl
           where
             none : (t : Bool) → eqb (r .length) 0 ≡ t → endsDone (sent M r xs ls l) ≡ out true
-            none true z = ap endsDone (d .nothing (eqb-true _ _ z)) ∙ sym (ap (λ (t : Bool). cond t (endsDone []) (headOut [] 0 (ask turned (endsDone (readPlan r)) (endsRefused AtSelect turned 0)))) z)
+            none true z = ap endsDone (d .nothing (eqb-true _ _ z)) ∙ sym (ap (λ (t : Bool). cond t (endsDone []) (headOut [] 0 (ask turned (endsDone (readPlan r)) (endsRefused (NoSelect (pageOf r 0)) turned 0)))) z)
             none false z =
                 let f = eqb-false (r .length) 0 z in
                 let o : 0 < r .length = omega (arith, f) in
@@ -222,11 +238,9 @@ module _ (r : Request) (xs ls : List ℕ) where
     refused-out f q m b e d =
         let S = sent M r xs ls l in
         let s = d .stopped in
-        let w = d .why in
-        ap (λ (g : Refusal). record { events = S; answer = Refused g q m }) (d .refusal)
-        ∙ (ap (λ (i : ℕ). record { events = S; answer = Refused (refusalOf w) i m }) e
-        ∙ (ap (λ (y : List ℕ). record { events = y; answer = Refused (refusalOf w) (pollsIn false y) m }) (s .events)
-        ∙ sym (stopped-out w m q S b (λ t. d .none t .0) s)))
+        ap (λ (i : ℕ). record { events = S; answer = Refused f i m }) e
+        ∙ (ap (λ (y : List ℕ). record { events = y; answer = Refused f (pollsIn false y) m }) (s .events)
+        ∙ sym (stopped-out f m q S b (λ t. d .none t .0) s))
 
     -- ---- whoever keeps the promises and is finished has sent and answered that
     pub ends-as : Promises M → Accepted r xs → Finished (answers M r xs ls l) → whole ≡ out (r .reads)

@@ -42,7 +42,7 @@ use Rattle.driver_promises.proofs.Buffer.{Upto, upto, write-left}
 abbrev Says : Answer → Request → Phase → Counts → Type 0
 Says (Send e) r p c = Unit {0}
 Says (Done q n) r p c = (p ≡ Ready) × (c .at ≡ r .length) × (q ≡ c .polls) × (n ≡ c .seen)
-Says (Refused f q n) r p c = (w : Failed) × (p ≡ Over w) × (f ≡ refusalOf w) × (q ≡ c .polls) × (n ≡ c .seen)
+Says (Refused f q n) r p c = (w : Failed) × (p ≡ Over w) × (f ≡ refusalOf r c w) × (q ≡ c .polls) × (n ≡ c .seen)
 
 -- a step that is finished leaves everything, and the level does not matter
 record Still (r : Request) (p : Phase) (c : Counts) (xs : List ℕ) (m : Move) (ys : List ℕ) : Type 0 where
@@ -94,7 +94,7 @@ Rests Ready r c a = c .at ≡ r .length → a ≡ Done (c .polls) (c .seen)
 Rests (Bits s b) r c a = Unit {0}
 Rests (Heard s) r c a = Unit {0}
 Rests Rest r c a = Unit {0}
-Rests (Over f) r c a = a ≡ Refused (refusalOf f) (c .polls) (c .seen)
+Rests (Over f) r c a = a ≡ Refused (refusalOf r c f) (c .polls) (c .seen)
 
 rests : {r : Request} {c : Counts} {l : ℕ} {xs ys : List ℕ} {p : Phase} {m : Move} → Way r c l xs p m ys → Rests p r c (m .answer)
 rests (w-done e) = λ _. refl
@@ -336,17 +336,17 @@ module _ (r : Request) (xs : List ℕ) (a : Accepted r xs) (ls : List ℕ) (l : 
       let s = said (Refused f q m) e tt in
       go (R .phase) (R .counts) (R .buffer) (R .is) (R .story) (s .0) (s .1) (s .2) (s .3) (s .4)
     where
-      go : (p : Phase) (c : Counts) (ys : List ℕ) → after ourDriver r xs ls l ≡ held r xs p c ys → Story r xs p c ys (sent ourDriver r xs ls l) ls → (w : Failed) → p ≡ Over w → f ≡ refusalOf w → q ≡ c .polls → m ≡ c .seen → RefusedAt ourDriver r xs ls l f q m
+      go : (p : Phase) (c : Counts) (ys : List ℕ) → after ourDriver r xs ls l ≡ held r xs p c ys → Story r xs p c ys (sent ourDriver r xs ls l) ls → (w : Failed) → p ≡ Over w → f ≡ refusalOf r c w → q ≡ c .polls → m ≡ c .seen → RefusedAt ourDriver r xs ls l f q m
       go p c ys i v w z ef eq em =
           let u = subst (λ (p : Phase). Story r xs p c ys (sent ourDriver r xs ls l) ls) z v in
           let y = u .kept in
-          let t1 = subst (λ (y : List ℕ). Stopped r y w (c .seen) (c .polls) (sent ourDriver r xs ls l) ls) y (u .told) in
-          let t2 = subst (λ (x : ℕ). Stopped r xs w x (c .polls) (sent ourDriver r xs ls l) ls) (sym em) t1 in
+          let S = sent ourDriver r xs ls l in
+          let t1 = subst (λ (y : List ℕ). Stopped r y (refusalOf r c w) (c .seen) (c .polls) S ls) y (u .told) in
+          let t2 = subst (λ (x : ℕ). Stopped r xs (refusalOf r c w) x (c .polls) S ls) (sym em) t1 in
+          let t3 = subst (λ (x : ℕ). Stopped r xs (refusalOf r c w) m x S ls) (sym eq) t2 in
           record {
-            why = w;
-            refusal = ef;
             none = λ t. (em ∙ u .inv .here t, eq ∙ no-polls r (c .polls) t (u .inv .common .most));
-            stopped = subst (λ (x : ℕ). Stopped r xs w m x (sent ourDriver r xs ls l) ls) (sym eq) t2;
+            stopped = subst (λ (x : Refusal). Stopped r xs x m q S ls) (sym ef) t3;
             buffer = ap (λ (h : DriverHeld). h .buffer) i ∙ y;
           }
 

@@ -58,9 +58,7 @@ module _ (M N : Machine) (r : Request) (xs ls : List ℕ) (l : ℕ) (e : sent M 
     refused-as : (f : Refusal) (q m : ℕ) → RefusedAt N r xs ls l f q m → RefusedAt M r xs ls l f q m
     refused-as f q m d =
         record {
-          why = d .why;
-          refusal = d .refusal;
-          stopped = subst (λ (es : List ℕ). Stopped r xs (d .why) m q es ls) (sym e) (d .stopped);
+          stopped = subst (λ (es : List ℕ). Stopped r xs f m q es ls) (sym e) (d .stopped);
           none = d .none;
           buffer = h ∙ d .buffer;
         }

@@ -1,6 +1,6 @@
 -- The events so far as a list written out from the state, each way adds its event at the end; and the levels told for them.
 -- Assumes nothing.
-use Prim.Native.Nat.{ℕ, zero, suc, _+_, _-_, _≤_, _<_}
+use Prim.Native.Nat.{ℕ, zero, suc, _+_, _-_, _%_, _≤_, _<_}
 use mathlib.Core.Path.{_≡_, refl, sym, _∙_, ap, subst}
 use mathlib.Core.Bool.{Bool, true, false, cond, false≢true}
 use mathlib.Core.List.{List, [], _∷_, _++_, append-nil}
@@ -9,23 +9,25 @@ use lib.Dec.{eqb}
 use native.Mathlib.Omega.{arith}
 use native.Mathlib.Numerals.{add-one}
 use borrow.Author.Tests.{eq-eqb, ne-eqb}
+use Rattle.parts.specs.declared.Refusal.{Refusal}
+use Rattle.parts.specs.declared.Refusal.the-variants.{NoData, PollsUsed}
 use Rattle.driver.specs.declared.Request.{Request}
 use Rattle.driver.specs.declared.Slot.{Slot}
 use Rattle.driver.specs.declared.Slot.the-variants.{Select, High, Low, Data, Poll, Turn, Take}
 use Rattle.driver.specs.declared.Failed.{Failed}
-use Rattle.driver.specs.declared.Failed.the-variants.{AtSelect, AtData, AtPolls}
+use Rattle.driver.specs.declared.Failed.the-variants.{AtData, AtPolls}
 use Rattle.driver.specs.declared.Phase.{Phase}
 use Rattle.driver.specs.declared.Phase.the-variants.{Ready, Bits, Heard, Rest, Over}
 use Rattle.driver.specs.declared.Counts.{Counts}
 use Rattle.driver.specs.declared.Move.{Move}
 use Rattle.driver.specs.Split.{sum}
 use Rattle.driver.specs.Request.{allowedOf}
-use Rattle.driver.specs.Step.{wireOf, slotByteOf, bitOf, withByte, withNext}
+use Rattle.driver.specs.Step.{wireOf, slotByteOf, bitOf, lastAddressOf, refusalOf, withByte, withNext}
 use Rattle.driver_promises.specs.Run.{sentBy}
-use Rattle.driver_promises.specs.Plan.{thenStart, thenStop, thenBits, thenByte, thenPolls, thenData, thenTaken, selectOf, thenSelect, thenHigh, thenHead, lengthOf, thenPart, thenParts, partsEndOf, readPlan}
+use Rattle.driver_promises.specs.Plan.{thenStart, thenStop, thenBits, thenByte, thenPolls, thenData, thenTaken, selectOf, addressAt, thenSelect, thenHigh, thenHead, lengthOf, thenPart, thenParts, partsEndOf, readPlan}
 use Rattle.driver_promises.specs.Heard.{PollsMissed, HighAcked, HeadAcked, FilledAcked, PartTold, ReadTold, TurnAcked}
-use Rattle.driver_promises.specs.Where.{leftOf, Within, Parts, Before, RefusedByte, the-select, the-high, the-low, the-turn, the-data, the-poll, Stopped}
-use Rattle.driver_promises.proofs.View.{at, clockOf, leads, Way, w-done, w-open, w-bit, w-ninth, w-got, w-nack, w-high, w-only, w-low, w-turn, w-data, w-more, w-close, w-drop, w-poll, w-again, w-give, w-page, w-take, w-next, w-end, w-over}
+use Rattle.driver_promises.specs.Where.{leftOf, Within, Parts, Before, pageOf, RefusedByte, the-select, the-first, the-only, the-second, the-turn, the-data, the-poll, Stopped}
+use Rattle.driver_promises.proofs.View.{at, clockOf, leads, missedAt, Way, w-done, w-open, w-bit, w-ninth, w-got, w-nack, w-high, w-only, w-low, w-turn, w-data, w-more, w-close, w-drop, w-poll, w-again, w-give, w-page, w-take, w-next, w-end, w-over}
 use Rattle.driver_promises.proofs.Inv.{wide, stop, left-cut, Closed, After, Inv, taken-elim}
 use Rattle.driver_promises.proofs.Levels.{longer, missed-more, acked-now, missed-now, before-more, byte-more, ToldFar, in-more, filled-next, missed-next, told-more}
 use Rattle.parts.proofs.Tests.{not-yes}
@@ -78,7 +80,7 @@ Told Ready r c xs es ls = Trail r Ready c xs es ls × ((c .at ≡ r .length → 
 Told (Bits s b) r c xs es ls = Trail r (Bits s b) c xs es ls × (length es ≡ length ls)
 Told (Heard s) r c xs es ls = Trail r (Heard s) c xs es ls × (length es ≡ length ls)
 Told Rest r c xs es ls = Trail r Rest c xs es ls × (length es ≡ length ls)
-Told (Over f) r c xs es ls = Stopped r xs f (c .seen) (c .polls) es ls
+Told (Over f) r c xs es ls = Stopped r xs (refusalOf r c f) (c .seen) (c .polls) es ls
 
 -- ---- one part more
 parts-more : (r : Request) (xs es : List ℕ) (o q : ℕ) (qs : List ℕ) → thenParts r es xs o (qs ++ (q ∷ [])) ≡ thenPart r (thenParts r es xs o qs) xs (partsEndOf r o qs) q
@@ -170,7 +172,7 @@ module _ (r : Request) where
         }
 
   -- refused at a byte
-  refuse : (c : Counts) (xs es ls : List ℕ) (l byte : ℕ) (f : Failed) (p : Phase) (bef : List ℕ) → (v : Trail r p c xs es ls) → length es ≡ length ls → 0 < l → c .seen < r .length → RefusedByte r xs ls (v .past) (c .seen) f byte bef → soFar p r xs (v .past) c ≡ thenByte bef byte 1 → Stopped r xs f (c .seen) (c .polls) (es ++ (3 ∷ [])) (longer ls l)
+  refuse : (c : Counts) (xs es ls : List ℕ) (l byte : ℕ) (f : Refusal) (p : Phase) (bef : List ℕ) → (v : Trail r p c xs es ls) → length es ≡ length ls → 0 < l → c .seen < r .length → RefusedByte r xs ls (v .past) (c .seen) f byte bef → soFar p r xs (v .past) c ≡ thenByte bef byte 1 → Stopped r xs f (c .seen) (c .polls) (es ++ (3 ∷ [])) (longer ls l)
   refuse c xs es ls l byte f p bef v n o m w h =
       let k = len-more es ls 3 l n in
       record {
@@ -189,7 +191,7 @@ module _ (r : Request) where
       }
 
   -- refused, and told more levels
-  stays : (f : Failed) (c : Counts) (xs es ls : List ℕ) (l : ℕ) → Stopped r xs f (c .seen) (c .polls) es ls → Stopped r xs f (c .seen) (c .polls) es (longer ls l)
+  stays : (f : Refusal) (c : Counts) (xs es ls : List ℕ) (l : ℕ) → Stopped r xs f (c .seen) (c .polls) es ls → Stopped r xs f (c .seen) (c .polls) es (longer ls l)
   stays f c xs es ls l v =
       let n = length-append ls (l ∷ []) in
       let w = v .within in
@@ -221,10 +223,14 @@ module _ (r : Request) where
   lead-short Turn c e h = let m = h .more in omega (arith, h .same)
   lead-short Take c e h = absurd (false≢true e)
 
-  lead-byte : (s : Slot) (c : Counts) (xs ls past : List ℕ) → leads s ≡ true → Inv r (Heard s) c → ToldFar (Heard s) ls r xs past c → (v : ℕ) × (bef : List ℕ) × RefusedByte r xs ls past (c .seen) AtSelect v bef × (after r xs past (c .at) (c .seen) (c .tries) s ≡ thenByte bef v 1)
+  lead-byte : (s : Slot) (c : Counts) (xs ls past : List ℕ) → leads s ≡ true → Inv r (Heard s) c → ToldFar (Heard s) ls r xs past c → (v : ℕ) × (bef : List ℕ) × RefusedByte r xs ls past (c .seen) (refusalOf r c (missedAt s)) v bef × (after r xs past (c .at) (c .seen) (c .tries) s ≡ thenByte bef v 1)
   lead-byte Select c xs ls past e v h = (_, _, the-select, refl)
-  lead-byte High c xs ls past e v h = (_, _, the-high (v .here .1) h, refl)
-  lead-byte Low c xs ls past e v h = (_, _, the-low h, refl)
+  lead-byte High c xs ls past e v h = (_, _, the-first (v .here .1) h, refl)
+  lead-byte Low c xs ls past e v h = last (wide r) refl h
+    where
+      last : (w : Bool) → wide r ≡ w → HighAcked ls r w past (c .seen) → (v : ℕ) × (bef : List ℕ) × RefusedByte r xs ls past (c .seen) (lastAddressOf w (pageOf r (c .seen))) v bef × (thenByte (thenHigh r w past (c .seen)) (addressAt r (c .seen) % 256) 1 ≡ thenByte bef v 1)
+      last true k h = (_, _, the-second k h, refl)
+      last false k h = (_, _, the-only k h, refl)
   lead-byte Data c xs ls past e v h = absurd (false≢true e)
   lead-byte Poll c xs ls past e v h = absurd (false≢true e)
   lead-byte Turn c xs ls past e v h = (_, _, the-turn (v .right) h, refl)
@@ -277,7 +283,7 @@ module _ (r : Request) where
         (record { past = w .past; spent = w .spent; sum = w .sum; parts = buffer-free (r .reads) r xs _ (longer ls l) (w .past) (c .seen) (w .spent) (v .right) (w .parts); events = w .events; levels = w .levels }, len-more es ls n l (t .1))
     trail-step v t (w-nack s e h) =
         let (byte, bef, w, k) = lead-byte s c xs ls (t .0 .past) e v (t .0 .levels) in
-        refuse c xs es ls l byte AtSelect (Heard s) bef (t .0) (t .1) h (lead-short s c e (v .here)) w k
+        refuse c xs es ls l byte (refusalOf r c (missedAt s)) (Heard s) bef (t .0) (t .1) h (lead-short s c e (v .here)) w k
     trail-step v t (w-high z e) = (moves c l xs es ls (Heard Select) (Bits High 1) _ _ (t .0) refl (t .0 .sum) refl (acked-now ls l es _ (t .0 .events) (t .1) z), len-more es ls _ l (t .1))
     trail-step v t (w-only z e) = (
       moves c l xs es ls (Heard Select) (Bits Low 1) _ _ (t .0) refl (t .0 .sum) (ap (λ (w : Bool). thenHigh r w (t .0 .past) (c .seen) ++ (clockOf r c xs Low 0 ∷ [])) e)
@@ -305,8 +311,10 @@ module _ (r : Request) where
         let i = c .at - 1 - c .seen in
         let e : c .at - c .seen ≡ suc i = omega arith in
         let X = thenHead r (t .0 .past) (c .seen) in
-        refuse c xs es ls l (getD xs (c .seen + i) 0) AtData (Heard Data) (thenData X xs (c .seen) i) (t .0) (t .1) o (omega (arith, v .common .low))
-        (the-data i (not-yes (r .reads) (v .right)) (omega arith) (t .0 .levels)) (ap (thenData X xs (c .seen)) e)
+        let n : c .seen + i ≡ c .at - 1 = omega arith in
+        refuse c xs es ls l (getD xs (c .seen + i) 0) (NoData (c .at - 1)) (Heard Data) (thenData X xs (c .seen) i) (t .0) (t .1) o (omega (arith, v .common .low))
+        (subst (λ (j : ℕ). RefusedByte r xs ls (t .0 .past) (c .seen) (NoData j) (getD xs (c .seen + i) 0) (thenData X xs (c .seen) i)) n
+        (the-data i (not-yes (r .reads) (v .right)) (omega arith) (t .0 .levels))) (ap (thenData X xs (c .seen)) e)
     trail-step v t w-poll =
         let z = v .here .1 in
         let k : c .tries + 1 - 1 ≡ 0 = omega arith in
@@ -335,7 +343,7 @@ module _ (r : Request) where
         let X = D (lengthOf r (c .seen)) in
         let sel = selectOf r (c .seen) in
         let w = t .0 .levels in
-        refuse c xs es ls l sel AtPolls (Heard Poll) (thenStart (thenPolls X sel (allowedOf r - 1))) (t .0) (t .1) z (omega (arith, v .common .low, v .here .0 .some))
+        refuse c xs es ls l sel PollsUsed (Heard Poll) (thenStart (thenPolls X sel (allowedOf r - 1))) (t .0) (t .1) z (omega (arith, v .common .low, v .here .0 .some))
         (the-poll (not-yes (r .reads) (v .right)) (subst (FilledAcked ls r (t .0 .past) xs (c .seen)) m (w .0))
         (subst (λ (n : ℕ). PollsMissed ls X sel (n - 1)) k (subst (λ (n : ℕ). PollsMissed ls (D n) sel (c .tries - 1)) m (w .1))))
         (ap (λ (n : ℕ). thenPolls (D n) sel (c .tries)) m ∙ (ap (thenPolls X sel) k ∙ polls-more X sel (allowedOf r) (omega arith)))
@@ -395,4 +403,4 @@ module _ (r : Request) where
           λ n. absurd (n e),
         )
     trail-step v t (w-over f) =
-        subst (λ (y : List ℕ). Stopped r xs f (c .seen) (c .polls) y (longer ls l)) (sym (append-nil es)) (stays f c xs es ls l t)
+        subst (λ (y : List ℕ). Stopped r xs (refusalOf r c f) (c .seen) (c .polls) y (longer ls l)) (sym (append-nil es)) (stays (refusalOf r c f) c xs es ls l t)

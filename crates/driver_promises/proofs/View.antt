@@ -15,7 +15,7 @@ use Rattle.driver.specs.declared.Request.{Request}
 use Rattle.driver.specs.declared.Slot.{Slot}
 use Rattle.driver.specs.declared.Slot.the-variants.{Select, High, Low, Data, Poll, Turn, Take}
 use Rattle.driver.specs.declared.Failed.{Failed}
-use Rattle.driver.specs.declared.Failed.the-variants.{AtSelect, AtData, AtPolls}
+use Rattle.driver.specs.declared.Failed.the-variants.{AtSelect, AtHigh, AtLow, AtData, AtPolls}
 use Rattle.driver.specs.declared.Phase.{Phase}
 use Rattle.driver.specs.declared.Phase.the-variants.{Ready, Bits, Heard, Rest, Over}
 use Rattle.driver.specs.declared.Counts.{Counts}
@@ -30,7 +30,7 @@ use Rattle.driver.proofs.Facts.{range-good}
 abbrev pub at : Request → Phase → Counts → Driver
 at r p c = record { request = r; phase = p; counts = c }
 
--- select and address bytes: not acknowledged is refusal 9
+-- select and address bytes
 abbrev pub leads : Slot → Bool
 leads Select = true
 leads High = true
@@ -39,6 +39,16 @@ leads Data = false
 leads Poll = false
 leads Turn = true
 leads Take = false
+
+-- where a select or address byte fails
+abbrev pub missedAt : Slot → Failed
+missedAt Select = AtSelect
+missedAt High = AtHigh
+missedAt Low = AtLow
+missedAt Data = AtData
+missedAt Poll = AtPolls
+missedAt Turn = AtSelect
+missedAt Take = AtSelect
 
 abbrev pub takes : Slot → Bool
 takes Select = false
@@ -60,7 +70,7 @@ pub data Way (r : Request) (c : Counts) (l : ℕ) (xs : List ℕ) : Phase → Mo
   w-bit : (s : Slot) (b : ℕ) → b < 8 → Way r c l xs (Bits s b) (sendThen (clockOf r c xs s b) (Bits s (b + 1)) (toldCountsOf s c l)) xs
   w-ninth : (s : Slot) (b : ℕ) → takes s ≡ false → b ≡ 8 → Way r c l xs (Bits s b) (sendThen 1 (Heard s) (sentCountsOf s c)) xs
   w-got : (b : ℕ) → b ≡ 8 → c .at < r .length → Way r c l xs (Bits Take b) (sendThen (cond (eqb (c .at + 1) (r .length)) 1 0) (Heard Take) (withNext c)) (set xs (c .at) (shiftOf (c .byte) l))
-  w-nack : (s : Slot) → leads s ≡ true → 0 < l → Way r c l xs (Heard s) (sendThen 3 (Over AtSelect) c) xs
+  w-nack : (s : Slot) → leads s ≡ true → 0 < l → Way r c l xs (Heard s) (sendThen 3 (Over (missedAt s)) c) xs
   w-high : l ≡ 0 → factsOf (r .part) .wide ≡ true → Way r c l xs (Heard Select) (opens High (clockOf r c xs High 0) c) xs
   w-only : l ≡ 0 → factsOf (r .part) .wide ≡ false → Way r c l xs (Heard Select) (opens Low (clockOf r c xs Low 0) c) xs
   w-low : l ≡ 0 → Way r c l xs (Heard High) (opens Low (clockOf r c xs Low 0) c) xs
@@ -76,7 +86,7 @@ pub data Way (r : Request) (c : Counts) (l : ℕ) (xs : List ℕ) : Phase → Mo
   w-take : l ≡ 0 → Way r c l xs (Heard Turn) (opens Take (clockOf r c xs Take 0) c) xs
   w-next : (c .at ≡ r .length → ⊥) → Way r c l xs (Heard Take) (opens Take (clockOf r c xs Take 0) c) xs
   w-end : c .at ≡ r .length → Way r c l xs (Heard Take) (sendThen 3 Ready (withSeen c)) xs
-  w-over : (f : Failed) → Way r c l xs (Over f) (overOf f c) xs
+  w-over : (f : Failed) → Way r c l xs (Over f) (overOf r c f) xs
 
 abbrev keptAt : Phase → Counts → ℕ → List ℕ → List ℕ
 keptAt p c l xs = cond (wholeOf p) (cond (ltb (c .at) (length xs)) (set xs (c .at) (shiftOf (c .byte) l)) xs) xs
@@ -122,7 +132,7 @@ module _ (r : Request) (c : Counts) (l : ℕ) (xs : List ℕ) where
       let k = ltb-false b 8 t in
       simp (le-leb 8 b k, lt-ltb (c .at) (length xs) (omega arith)) (w-got b (omega arith) o))
 
-  lead-way : (s n : Slot) (v : ℕ) → leads s ≡ true → (l ≡ 0 → Way r c l xs (Heard s) (opens n v c) xs) → Way r c l xs (Heard s) (leadAt c n v l) xs
+  lead-way : (s n : Slot) (v : ℕ) → leads s ≡ true → (l ≡ 0 → Way r c l xs (Heard s) (opens n v c) xs) → Way r c l xs (Heard s) (leadAt c (missedAt s) n v l) xs
   unfolding leadAt
   lead-way s n v e f = branch (λ (m : Move). Way r c l xs (Heard s) m xs) (eqb l 0) (λ t. f (eqb-true _ _ t)) (λ t. w-nack s e (some-level t))
 
@@ -130,7 +140,7 @@ module _ (r : Request) (c : Counts) (l : ℕ) (xs : List ℕ) where
   unfolding heardMoveOf lowAt dataAt answeredOf pollMoveOf takeAt wireOf
   heard-way Select = go (factsOf (r .part) .wide) refl
     where
-      go : (w : Bool) → factsOf (r .part) .wide ≡ w → Way r c l xs (Heard Select) (leadAt c (cond w High Low) (clockOf r c xs (cond w High Low) 0) l) xs
+      go : (w : Bool) → factsOf (r .part) .wide ≡ w → Way r c l xs (Heard Select) (leadAt c AtSelect (cond w High Low) (clockOf r c xs (cond w High Low) 0) l) xs
       go true e = lead-way Select High _ refl (λ z. w-high z e)
       go false e = lead-way Select Low _ refl (λ z. w-only z e)
   heard-way High = lead-way High Low _ refl w-low

@@ -11,12 +11,10 @@ use Rattle.parts.specs.declared.Verdict.the-variants.{Fine}
 use Rattle.driver.specs.declared.Place.{Place}
 use Rattle.driver.specs.declared.Place.the-variants.{Array, Ident}
 use Rattle.driver.specs.declared.Request.{Request}
-use Rattle.driver.specs.declared.Failed.{Failed}
 use Rattle.driver.specs.declared.Answer.{Answer}
 use Rattle.driver.specs.declared.Answer.the-variants.{Send, Done, Refused}
 use Rattle.driver.specs.Split.{sum, partsOf, pagesMetOf}
 use Rattle.driver.specs.Request.{judgeOf, allowedOf, kOf}
-use Rattle.driver.specs.Step.{refusalOf}
 use Rattle.driver.specs.Machine.{Machine}
 use Rattle.driver_promises.specs.Run.{DriverHeld, begun, answerTo, told, afterAll, eventsSent, Finished, clocksIn, pollsIn, addressBytes, boundOf, clockOfByte, toldByte}
 use Rattle.driver_promises.specs.Plan.{selectOf, writePlan, readPlan}
@@ -93,11 +91,10 @@ module _ (M : Machine) (r : Request) (xs : List ℕ) (ls : List ℕ) (l : ℕ) w
     pub plan : DoneOf (r .reads) q
     pub nothing : r .length ≡ 0 → sent ≡ []
 
-  -- 4. Refused: which byte was not acknowledged, everything before it was; the last event is a Stop; the buffer is as before
+  -- 4. Refused: which byte was not acknowledged, and the number and value it is told as; everything before it was; the last event is a
+  -- Stop; the buffer is as before
   pub record RefusedAt (f : Refusal) (q m : ℕ) : Type 0 where
-    pub why : Failed
-    pub refusal : f ≡ refusalOf why
-    pub stopped : Stopped r xs why m q sent ls
+    pub stopped : Stopped r xs f m q sent ls
     -- a read answers 0 bytes and 0 polls
     pub none : r .reads ≡ true → (m ≡ 0) × (q ≡ 0)
     pub buffer : after .buffer ≡ xs

@@ -3,18 +3,21 @@ ghost use Prim.Native.Nat.{_≤_};
 use driver::Answer;
 use driver::Counts;
 use driver::Driver;
+use driver::Failed;
 use driver::Phase;
 use driver::Place;
 use driver::Request;
 use driver::Slot;
 use parts::ArrayAddress;
 use parts::IdLocation;
+use parts::Verdict;
 use text::say;
 use text::say_number;
 
-// How a run ended: 0 done, the refusal's number, or 255 for no end.
+// How a run ended: 0 done, the refusal's number and its page or index, or 255 for no end.
 struct Tally {
     pub number: u8,
+    pub place: usize,
     pub polls: usize,
     pub bytes: usize,
     pub events: usize,
@@ -63,6 +66,7 @@ fn ended(answer: Answer, events: usize, clocks: usize) -> Tally {
     match answer {
         Answer::Send(_) => Tally {
             number: 255,
+            place: 0,
             polls: 0,
             bytes: 0,
             events,
@@ -70,6 +74,7 @@ fn ended(answer: Answer, events: usize, clocks: usize) -> Tally {
         },
         Answer::Done(polls, bytes) => Tally {
             number: 0,
+            place: 0,
             polls,
             bytes,
             events,
@@ -77,6 +82,7 @@ fn ended(answer: Answer, events: usize, clocks: usize) -> Tally {
         },
         Answer::Refused(r, polls, bytes) => Tally {
             number: parts::number(r),
+            place: parts::verdict_place(Verdict::Refused(r)),
             polls,
             bytes,
             events,
@@ -121,6 +127,7 @@ fn drive(request: Request, low: usize, buffer: &mut [u8]) -> Tally {
     }
     Tally {
         number: 255,
+        place: 0,
         polls: 0,
         bytes: 0,
         events,
@@ -139,13 +146,14 @@ fn say_first(buffer: &[u8; 128]) {
 
 fn say_tally(t: Tally) {
     tell(text::wide(t.number));
+    tell(t.place);
     tell(t.polls);
     tell(t.bytes);
     tell(t.events);
     tell(t.clocks);
 }
 
-// Writes number, polls, bytes, events, clocks, and the first byte of the buffer.
+// Writes number, page or index, polls, bytes, events, clocks, and the first byte of the buffer.
 fn run(label: &[u8], request: Request, low: usize) {
     let mut buffer = [90u8; 128];
     let n = request.length;
@@ -164,7 +172,7 @@ fn judged(label: &[u8], request: Request) {
     say(b"\n");
 }
 
-// One step of a driver made by hand, on a buffer of n bytes: number, position, and the first byte of the buffer.
+// One step of a driver made by hand, on a buffer of n bytes: number, page or index, position, and the first byte of the buffer.
 fn step(label: &[u8], d: Driver, n: usize) {
     let mut buffer = [90u8; 128];
     say(label);
@@ -173,6 +181,7 @@ fn step(label: &[u8], d: Driver, n: usize) {
         let answer = asked.answer;
         let t = ended(answer, 0, 0);
         tell(text::wide(t.number));
+        tell(t.place);
         tell(asked.driver.counts.at);
     }
     say_first(&buffer);
@@ -180,8 +189,19 @@ fn step(label: &[u8], d: Driver, n: usize) {
 }
 
 fn made(phase: Phase, at: usize, seen: usize, tries: usize, polls: usize) -> Driver {
+    made_for(array(2, false, 30, 5, 10), phase, at, seen, tries, polls)
+}
+
+fn made_for(
+    request: Request,
+    phase: Phase,
+    at: usize,
+    seen: usize,
+    tries: usize,
+    polls: usize,
+) -> Driver {
     Driver {
-        request: array(2, false, 30, 5, 10),
+        request,
         phase,
         counts: Counts {
             at,
@@ -272,8 +292,64 @@ fn values() {
     );
 }
 
+// A refused driver made by hand: at the last address byte of parts with one and with two, at a data byte that was not sent, in the
+// second part.
+fn endings() {
+    let last = Phase::Over(Failed::AtLow);
+    let high = Phase::Over(Failed::AtHigh);
+    let data = Phase::Over(Failed::AtData);
+    let narrow = array(0, false, 30, 5, 10);
+    step(b"last of two", made(last, 2, 2, 1, 1), 5);
+    step(b"last of one", made_for(narrow, last, 2, 2, 1, 1), 5);
+    step(
+        b"first of two, of which there is one",
+        made_for(narrow, high, 2, 2, 1, 1),
+        5,
+    );
+    step(b"no data byte", made(data, 0, 0, 0, 0), 5);
+    step(b"third data byte", made(data, 3, 2, 1, 1), 5);
+}
+
+// Which byte goes unanswered, on a line that fails: number, page or index, polls and bytes.
+fn lost(label: &[u8], request: Request, low: usize) {
+    let mut buffer = [90u8; 128];
+    let n = request.length;
+    say(label);
+    tell(low);
+    if n <= 128 {
+        let t = drive(request, low, &mut buffer[..n]);
+        say(b":");
+        tell(text::wide(t.number));
+        tell(t.place);
+        tell(t.polls);
+        tell(t.bytes);
+    }
+    say(b"\n");
+}
+
+// For each number of askings before it fails.
+fn sweep(label: &[u8], request: Request, most: usize) {
+    let mut low: usize = 0;
+    while low < most {
+        lost(label, request, low);
+        low += 1;
+    }
+}
+
+// Writes of five bytes over a page's end, and reads.
+fn sweeps() {
+    sweep(b"write 0", array(0, false, 14, 5, 2), 112);
+    sweep(b"write 2", array(2, false, 30, 5, 2), 130);
+    sweep(b"write 5", array(5, false, 62, 5, 2), 130);
+    sweep(b"read 0", array(0, true, 300, 1, 0), 42);
+    sweep(b"read 2", array(2, true, 70, 1, 0), 51);
+    sweep(b"identification 5", ident(5, false, 3, 1, 1), 51);
+}
+
 fn main() {
     requests();
     runs();
     values();
+    endings();
+    sweeps();
 }

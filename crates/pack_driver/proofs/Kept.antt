@@ -17,7 +17,7 @@ use Rattle.driver.specs.declared.Place.the-variants.{Array, Ident}
 use Rattle.driver.specs.declared.Slot.{Slot}
 use Rattle.driver.specs.declared.Slot.the-variants.{Select, High, Low, Data, Poll, Turn, Take}
 use Rattle.driver.specs.declared.Failed.{Failed}
-use Rattle.driver.specs.declared.Failed.the-variants.{AtSelect, AtData, AtPolls}
+use Rattle.driver.specs.declared.Failed.the-variants.{AtSelect, AtHigh, AtLow, AtData, AtPolls}
 use Rattle.driver.specs.declared.Phase.{Phase}
 use Rattle.driver.specs.declared.Phase.the-variants.{Ready, Bits, Heard, Rest, Over}
 use Rattle.driver.specs.declared.Driver.{Driver}
@@ -97,6 +97,8 @@ phase-back Rest = refl
 phase-back (Over AtSelect) = refl
 phase-back (Over AtData) = refl
 phase-back (Over AtPolls) = refl
+phase-back (Over AtHigh) = refl
+phase-back (Over AtLow) = refl
 
 either-true : (b : Bool) → cond b true true ≡ true
 either-true true = refl
@@ -123,10 +125,12 @@ phase-right Rest = refl
 phase-right (Over AtSelect) = refl
 phase-right (Over AtData) = refl
 phase-right (Over AtPolls) = refl
+phase-right (Over AtHigh) = refl
+phase-right (Over AtLow) = refl
 
-phase-below : (p : Phase) → driverPhaseCodeOf p < 19
+phase-below : (p : Phase) → driverPhaseCodeOf p < 21
 unfolding driverPhaseCodeRightOf
-phase-below p = ltb-true _ 19 (both (ltb (driverPhaseCodeOf p) 19) _ (phase-right p) .0)
+phase-below p = ltb-true _ 21 (both (ltb (driverPhaseCodeOf p) 21) _ (phase-right p) .0)
 
 codes-right : (p : Place) (b : Bool) (s : Phase) → driverCodesRightOf (placeCodeOf p) (flagOf b) (driverPhaseCodeOf s) (clocksOf s) ≡ true
 unfolding driverCodesRightOf
@@ -246,23 +250,27 @@ slot-code-in n h =
     Q : Slot → Type 0
     Q s = slotCodeOf s ≡ n
 
-failed-code-in : (n : ℕ) → n < 3 → failedCodeOf (failedIn n) ≡ n
+failed-code-in : (n : ℕ) → n < 5 → failedCodeOf (failedIn n) ≡ n
 unfolding failedIn
 failed-code-in n h =
     branch Q (eqb n 0) (λ e. sym (eqb-true n 0 e)) (λ e₀.
     branch Q (eqb n 1) (λ e. sym (eqb-true n 1 e)) (λ e₁.
+    branch Q (eqb n 2) (λ e. sym (eqb-true n 2 e)) (λ e₂.
+    branch Q (eqb n 3) (λ e. sym (eqb-true n 3 e)) (λ e₃.
     let f₀ = eqb-false n 0 e₀ in
     let f₁ = eqb-false n 1 e₁ in
-    omega arith))
+    let f₂ = eqb-false n 2 e₂ in
+    let f₃ = eqb-false n 3 e₃ in
+    omega arith))))
   where
     Q : Failed → Type 0
     Q f = failedCodeOf f ≡ n
 
 -- a code and its clocks come back
 module _ (n clocks : ℕ) (h : driverPhaseCodeRightOf n clocks ≡ true) where
-  code-below : n < 19
+  code-below : n < 21
   unfolding driverPhaseCodeRightOf
-  code-below = ltb-true n 19 (both (ltb n 19) _ h .0)
+  code-below = ltb-true n 21 (both (ltb n 21) _ h .0)
 
   phase-code-in : driverPhaseCodeOf (driverPhaseIn n clocks) ≡ n
   unfolding driverPhaseIn
@@ -279,7 +287,7 @@ module _ (n clocks : ℕ) (h : driverPhaseCodeRightOf n clocks ≡ true) where
   counted : (eqb clocks 0 ≡ false) → (1 ≤ n) × (n < 8)
   unfolding driverPhaseCodeRightOf
   counted e =
-      let z = rw e at (both (ltb n 19) _ h .1) in
+      let z = rw e at (both (ltb n 21) _ h .1) in
       branch (λ (t : Bool). t ≡ true → (1 ≤ n) × (n < 8)) (ltb n 1) (λ l f. absurd (false≢true f)) (λ l f. (ltb-false n 1 l, ltb-true n 8 f)) z
 
   -- no clock is counted outside a byte

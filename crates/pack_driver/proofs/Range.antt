@@ -12,6 +12,7 @@ use Rattle.parts.proofs.Laws.{branch}
 use Rattle.driver.specs.declared.Place.the-variants.{Array}
 use Rattle.driver.specs.declared.Request.{Request}
 use Rattle.driver.specs.declared.Slot.{Slot}
+use Rattle.driver.specs.declared.Failed.{Failed}
 use Rattle.driver.specs.declared.Slot.the-variants.{Select, High, Low, Data, Poll, Turn, Take}
 use Rattle.driver.specs.declared.Phase.{Phase}
 use Rattle.driver.specs.declared.Phase.the-variants.{Ready, Bits, Heard, Rest, Over}
@@ -155,9 +156,9 @@ module _ (c : Counts) where
   unfolding readyOf
   ready-near n = branch Q (eqb (c .at) n) (λ _. kept) (λ _. kept)
 
-  lead-near : (s : Slot) (clock level : ℕ) → Q (leadAt c s clock level)
+  lead-near : (f : Failed) (s : Slot) (clock level : ℕ) → Q (leadAt c f s clock level)
   unfolding leadAt
-  lead-near s clock level = branch Q (eqb level 0) (λ _. byte-near 0) (λ _. kept)
+  lead-near f s clock level = branch Q (eqb level 0) (λ _. byte-near 0) (λ _. kept)
 
   low-near : (reads : Bool) (clock level : ℕ) → Q (lowAt c reads clock level)
   unfolding lowAt
@@ -185,12 +186,12 @@ module _ (c : Counts) where
   bits-near s b clock ninth level = branch Q (ltb b 8) (λ _. taken-near s level) (λ _. sent-near s)
 
 heard-near : (d : Driver) (s : Slot) (level clock : ℕ) → Q (d .counts) (heardAt d s level clock)
-heard-near d Select level clock = lead-near (d .counts) _ clock level
-heard-near d High level clock = lead-near (d .counts) Low clock level
+heard-near d Select level clock = lead-near (d .counts) _ _ clock level
+heard-near d High level clock = lead-near (d .counts) _ Low clock level
 heard-near d Low level clock = low-near (d .counts) (d .request .reads) clock level
 heard-near d Data level clock = data-near (d .counts) _ clock level
 heard-near d Poll level clock = answered-near (d .counts) (allowedOf (d .request)) level
-heard-near d Turn level clock = lead-near (d .counts) Take clock level
+heard-near d Turn level clock = lead-near (d .counts) _ Take clock level
 heard-near d Take level clock = take-near (d .counts) (d .request .length) clock
 
 move-near : (p : Phase) (d : Driver) (level value : ℕ) → Q (d .counts) (moveAt p d level value)

@@ -15,7 +15,7 @@ use Rattle.driver.specs.declared.Request.{Request}
 use Rattle.driver.specs.declared.Slot.{Slot}
 use Rattle.driver.specs.declared.Slot.the-variants.{Select, High, Low, Data, Poll, Turn, Take}
 use Rattle.driver.specs.declared.Failed.{Failed}
-use Rattle.driver.specs.declared.Failed.the-variants.{AtSelect, AtData, AtPolls}
+use Rattle.driver.specs.declared.Failed.the-variants.{AtSelect, AtHigh, AtLow, AtData, AtPolls}
 use Rattle.driver.specs.declared.Phase.{Phase}
 use Rattle.driver.specs.declared.Phase.the-variants.{Ready, Bits, Heard, Rest, Over}
 use Rattle.driver.specs.declared.Counts.{Counts}
@@ -42,8 +42,10 @@ abbrev pub failedCodeOf : Failed → ℕ
 failedCodeOf AtSelect = 0
 failedCodeOf AtData = 1
 failedCodeOf AtPolls = 2
+failedCodeOf AtHigh = 3
+failedCodeOf AtLow = 4
 
--- 0 ready, 1 to 7 in a byte, 8 to 14 after its ninth clock, 15 after a part's Stop, 16 to 18 refused
+-- 0 ready, 1 to 7 in a byte, 8 to 14 after its ninth clock, 15 after a part's Stop, 16 to 20 refused
 abbrev pub driverPhaseCodeOf : Phase → ℕ
 driverPhaseCodeOf Ready = 0
 driverPhaseCodeOf (Bits slot b) = 1 + slotCodeOf slot
@@ -124,7 +126,7 @@ slotIn n =
     (cond (eqb n 5) Turn Take)))))
 
 unfoldable pub failedIn : ℕ → Failed
-failedIn n = cond (eqb n 0) AtSelect (cond (eqb n 1) AtData AtPolls)
+failedIn n = cond (eqb n 0) AtSelect (cond (eqb n 1) AtData (cond (eqb n 2) AtPolls (cond (eqb n 3) AtHigh AtLow)))
 
 unfoldable pub driverPhaseIn : ℕ → ℕ → Phase
 driverPhaseIn n clocks =
@@ -159,7 +161,7 @@ driverIn l = record { request = requestIn l; phase = driverPhaseIn (getD l 4 0) 
 
 -- only a phase inside a byte counts clocks
 unfoldable pub driverPhaseCodeRightOf : ℕ → ℕ → Bool
-driverPhaseCodeRightOf n clocks = cond (ltb n 19) (cond (eqb clocks 0) true (cond (ltb n 1) false (ltb n 8))) false
+driverPhaseCodeRightOf n clocks = cond (ltb n 21) (cond (eqb clocks 0) true (cond (ltb n 1) false (ltb n 8))) false
 
 unfoldable pub driverCodesRightOf : ℕ → ℕ → ℕ → ℕ → Bool
 driverCodesRightOf place reads code clocks = cond (ltb place 2) (cond (ltb reads 2) (driverPhaseCodeRightOf code clocks) false) false

@@ -71,12 +71,14 @@ fn slot_code(slot: Slot) -> u8
 
 fn failed_code(failed: Failed) -> u8
     ensures { λ r. ⌜ r ≡ failedCodeOf failed ⌝ }
-    ensures range { λ r. ⌜ r < 3 ⌝ }
+    ensures range { λ r. ⌜ r < 5 ⌝ }
 {
     match failed {
         Failed::AtSelect => 0,
         Failed::AtData => 1,
         Failed::AtPolls => 2,
+        Failed::AtHigh => 3,
+        Failed::AtLow => 4,
     }
 }
 
@@ -235,7 +237,9 @@ fn failed_in(code: u8) -> Failed
     match code {
         0 => Failed::AtSelect,
         1 => Failed::AtData,
-        _ => Failed::AtPolls,
+        2 => Failed::AtPolls,
+        3 => Failed::AtHigh,
+        _ => Failed::AtLow,
     }
 }
 
@@ -311,7 +315,7 @@ fn counts_in(bytes: &[u8]) -> Counts
 fn phase_right(code: u8, clocks: u8) -> bool
     ensures { λ r. ⌜ r ≡ driverPhaseCodeRightOf code clocks ⌝ }
 {
-    if 19 <= code {
+    if 21 <= code {
         return false;
     }
     if clocks == 0 {

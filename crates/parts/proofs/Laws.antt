@@ -14,7 +14,7 @@ use Rattle.parts.specs.Table.{tableOf, factsOf, nameOf, idSizeOf, buffer
 use Rattle.parts.specs.Events.{eventOf}
 use Rattle.parts.specs.Sound.{Sound, OneOrder}
 use Rattle.parts.specs.declared.Refusal.{Refusal}
-use Rattle.parts.specs.declared.Refusal.the-variants.{NoPart, WrongEnable, WrongBuffer, BadState, BadEvent, ShortBuffer, Beyond, BadLimit, NoSelect, NoData, PollsUsed, BadImage, TooMany}
+use Rattle.parts.specs.declared.Refusal.the-variants.{NoPart, WrongEnable, WrongBuffer, BadState, BadEvent, ShortBuffer, Beyond, BadLimit, NoSelect, NoData, PollsUsed, BadImage, TooMany, NoFirst, NoSecond}
 use Rattle.parts.specs.declared.Verdict.{Verdict}
 use Rattle.parts.specs.declared.Verdict.the-variants.{Fine, Refused}
 use Rattle.parts.specs.Refusals.{numberOf, rankOf, verdictNumberOf}
@@ -80,11 +80,13 @@ entered (BadEvent k) = (omega arith, refl)
 entered ShortBuffer = (omega arith, refl)
 entered Beyond = (omega arith, refl)
 entered BadLimit = (omega arith, refl)
-entered NoSelect = (omega arith, refl)
-entered NoData = (omega arith, refl)
+entered (NoSelect p) = (omega arith, refl)
+entered (NoData i) = (omega arith, refl)
 entered PollsUsed = (omega arith, refl)
 entered BadImage = (omega arith, refl)
 entered TooMany = (omega arith, refl)
+entered (NoFirst p) = (omega arith, refl)
+entered (NoSecond p) = (omega arith, refl)
 
 pub one-order : OneOrder
 one-order r s e = entered r .1 ∙ ap (λ (k : ℕ). k % 100) e ∙ sym (entered s .1)

@@ -1,11 +1,11 @@
--- Document 01, 'Refusal numbers': number, rank and place of each refusal, and which of several is given.
+-- Document 01, 'Refusal numbers', and document 02, §1: number, rank and place of each refusal, and which of several is given.
 -- Assumes nothing.
 use Prim.Native.Nat.{ℕ}
 use mathlib.Core.Bool.{Bool, true, false, not, cond}
 use lib.Dec.{ltb}
 use Rattle.parts.specs.declared.Facts.{Facts}
 use Rattle.parts.specs.declared.Refusal.{Refusal}
-use Rattle.parts.specs.declared.Refusal.the-variants.{NoPart, WrongEnable, WrongBuffer, BadState, BadEvent, ShortBuffer, Beyond, BadLimit, NoSelect, NoData, PollsUsed, BadImage, TooMany}
+use Rattle.parts.specs.declared.Refusal.the-variants.{NoPart, WrongEnable, WrongBuffer, BadState, BadEvent, ShortBuffer, Beyond, BadLimit, NoSelect, NoData, PollsUsed, BadImage, TooMany, NoFirst, NoSecond}
 use Rattle.parts.specs.declared.Spot.{Spot}
 use Rattle.parts.specs.declared.Spot.the-variants.{Nowhere, At}
 use Rattle.parts.specs.declared.Entry.{Entry}
@@ -19,8 +19,9 @@ entry number rank spot = record { 0 = number; 1 = rank; 2 = spot }
 
 -- the number that document 01 gives each, and its rank beside it: "The lowest of 1 to 8, 12 and 13 that applies is given, before
 -- anything changes, except that 13 goes before 5". So a rank is a thousand times the number, and that of 13 stands between 4 and 5; its
--- last two digits are the number, so that no two numbers share a rank. 9 to 11 end a driver that has begun, one at a time. 5 goes "with
--- the first place"
+-- last two digits are the number, so that no two numbers share a rank. 9 to 11, 14 and 15 end a driver that has begun, one at a time. 5
+-- goes "with the first place"; 02 §1: "9 is the select only; 14 first address byte, 15 second", and "give the page of the transfer's address.
+-- Refusal 10 gains the data byte's index in the request"
 abbrev pub entryOf : Refusal → Entry
 entryOf NoPart = entry 1 1001 Nowhere
 entryOf WrongEnable = entry 2 2002 Nowhere
@@ -30,11 +31,13 @@ entryOf (BadEvent k) = entry 5 5005 (At k)
 entryOf ShortBuffer = entry 6 6006 Nowhere
 entryOf Beyond = entry 7 7007 Nowhere
 entryOf BadLimit = entry 8 8008 Nowhere
-entryOf NoSelect = entry 9 9009 Nowhere
-entryOf NoData = entry 10 10010 Nowhere
+entryOf (NoSelect p) = entry 9 9009 (At p)
+entryOf (NoData i) = entry 10 10010 (At i)
 entryOf PollsUsed = entry 11 11011 Nowhere
 entryOf BadImage = entry 12 12012 Nowhere
 entryOf TooMany = entry 13 4513 Nowhere
+entryOf (NoFirst p) = entry 14 14014 (At p)
+entryOf (NoSecond p) = entry 15 15015 (At p)
 
 abbrev pub numberOf : Refusal → ℕ
 numberOf r = entryOf r .0

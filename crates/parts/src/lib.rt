@@ -255,14 +255,19 @@ pub enum Refusal {
     ShortBuffer,
     Beyond,
     BadLimit,
-    NoSelect,
-    NoData,
+    // With the page of the transfer's address.
+    NoSelect(usize),
+    // With the data byte's index in the request.
+    NoData(usize),
     PollsUsed,
     BadImage,
     TooMany,
+    // The first address byte, and the second, each with the page.
+    NoFirst(usize),
+    NoSecond(usize),
 }
 
-// The place that a refusal tells.
+// The place that a refusal tells: of 5 the event's, of 9, 14 and 15 the page, of 10 the data byte's.
 pub enum Spot {
     Nowhere,
     At(usize),
@@ -284,11 +289,13 @@ fn entry_of(r: Refusal) -> Entry
         Refusal::ShortBuffer => Entry(6, 6006, Spot::Nowhere),
         Refusal::Beyond => Entry(7, 7007, Spot::Nowhere),
         Refusal::BadLimit => Entry(8, 8008, Spot::Nowhere),
-        Refusal::NoSelect => Entry(9, 9009, Spot::Nowhere),
-        Refusal::NoData => Entry(10, 10010, Spot::Nowhere),
+        Refusal::NoSelect(p) => Entry(9, 9009, Spot::At(p)),
+        Refusal::NoData(i) => Entry(10, 10010, Spot::At(i)),
         Refusal::PollsUsed => Entry(11, 11011, Spot::Nowhere),
         Refusal::BadImage => Entry(12, 12012, Spot::Nowhere),
         Refusal::TooMany => Entry(13, 4513, Spot::Nowhere),
+        Refusal::NoFirst(p) => Entry(14, 14014, Spot::At(p)),
+        Refusal::NoSecond(p) => Entry(15, 15015, Spot::At(p)),
     }
 }
 

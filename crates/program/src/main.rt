@@ -215,7 +215,7 @@ fn choose(word: &[u8]) {
     }
     let version = check::same(word, b"version");
     if version {
-        return put(b"sapwoodle 0.7.4\n");
+        return put(b"sapwoodle 0.8.0\n");
     }
     let help = check::same(word, b"help");
     if help {

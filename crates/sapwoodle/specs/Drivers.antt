@@ -9,7 +9,7 @@ use Rattle.parts.specs.declared.Refusal.the-variants.{NoPart, WrongEnable, BadS
 use Rattle.parts.specs.declared.Verdict.{Verdict}
 use Rattle.parts.specs.declared.Verdict.the-variants.{Fine, Refused as Judged}
 use Rattle.parts.specs.Table.{factsOf, enableRightOf}
-use Rattle.parts.specs.Refusals.{numberOf, verdictNumberOf, claimOf, soonerOf}
+use Rattle.parts.specs.Refusals.{numberOf, spotOf, placeTold, verdictNumberOf, claimOf, soonerOf}
 use Rattle.driver.specs.declared.Place.{Place}
 use Rattle.driver.specs.declared.Place.the-variants.{Array, Ident}
 use Rattle.driver.specs.declared.Request.{Request}
@@ -64,18 +64,18 @@ beginning r s = record { number = verdictNumberOf (beginVerdictIn r s); state = 
 
 -- ---- next
 
--- no event is sent: 255
+-- no event is sent: 255. 02 §1: 9, 14 and 15 have their page, 10 its index
 abbrev pub toldOf : Answer → Told
-toldOf (Send e) = record { number = 0; event = e; polls = 0; bytes = 0 }
-toldOf (Done polls bytes) = record { number = 0; event = 255; polls = polls; bytes = bytes }
-toldOf (Refused r polls bytes) = record { number = numberOf r; event = 255; polls = polls; bytes = bytes }
+toldOf (Send e) = record { number = 0; event = e; place = 0; polls = 0; bytes = 0 }
+toldOf (Done polls bytes) = record { number = 0; event = 255; place = 0; polls = polls; bytes = bytes }
+toldOf (Refused r polls bytes) = record { number = numberOf r; event = 255; place = placeTold (spotOf r); polls = polls; bytes = bytes }
 
 pub record BytesAfterNext : Type 0 where
   pub told : Told
   pub state : List ℕ
   pub buffer : List ℕ
 
--- 4 is the one refusal that says nothing of a driver; 9 to 11 end it, and its bytes say so
+-- 4 is the one refusal that says nothing of a driver; the others end it, and its bytes say so
 unfoldable pub driverBytesAfterNext : ℕ → Driver → List ℕ → List ℕ
 driverBytesAfterNext number d s = cond (eqb number (numberOf BadState)) s (packDriverInto s d)
 

@@ -225,7 +225,7 @@ RefusingNextBreaks = (x : Refusal) → NextIsDrivers (refusingNext x) → ⊥
 abbrev pub Benching : Type 0
 Benching = Request → ℕ → ℕ → List ℕ → Mem → List ℕ → BytesAfterBench
 
--- "a call refused for bad input changes no byte", and counts nothing
+-- "a call refused for bad input changes no byte", tells no place, and counts nothing
 abbrev pub BenchKeeps : Benching → Type 0
 BenchKeeps bench =
     (r : Request) (enable d : ℕ) (s : List ℕ) (m : Mem) (b : List ℕ) (x : Refusal) → AllBelow 256 s
@@ -234,6 +234,7 @@ BenchKeeps bench =
     × (bench r enable d s m b .state ≡ s)
     × (bench r enable d s m b .stored ≡ m)
     × (bench r enable d s m b .buffer ≡ b)
+    × (bench r enable d s m b .place ≡ 0)
     × (bench r enable d s m b .polls ≡ 0)
     × (bench r enable d s m b .bytes ≡ 0)
     × (bench r enable d s m b .cycles ≡ 0)
@@ -246,6 +247,7 @@ BenchIsBenchs bench =
     → bench r enable d (packedChipOf c) m b
     ≡ record {
       number = verdictNumberOf (benchOf r enable d c m b .report .verdict);
+      place = verdictPlaceOf (benchOf r enable d c m b .report .verdict);
       polls = benchOf r enable d c m b .report .polls;
       bytes = benchOf r enable d c m b .report .bytes;
       cycles = benchOf r enable d c m b .report .cycles;

@@ -3,7 +3,7 @@
 use Prim.Native.Nat.{ℕ}
 use mathlib.Core.Bool.{cond}
 use mathlib.Core.List.{List}
-use Rattle.parts.specs.Refusals.{verdictNumberOf}
+use Rattle.parts.specs.Refusals.{verdictNumberOf, verdictPlaceOf}
 use Rattle.state.specs.declared.Chip.{Chip}
 use Rattle.chip.specs.Memory.{Mem}
 use Rattle.pack_chip.specs.Layout.{packChipInto, holdsChipOf, unpackedChipOf}
@@ -12,6 +12,7 @@ use Rattle.bench.specs.Calls.{benchOf}
 
 pub record BytesAfterBench : Type 0 where
   pub number : ℕ
+  pub place : ℕ
   pub polls : ℕ
   pub bytes : ℕ
   pub cycles : ℕ
@@ -29,6 +30,7 @@ abbrev pub benching : Request → ℕ → ℕ → List ℕ → Mem → List ℕ 
 benching r enable d s m b =
     record {
       number = verdictNumberOf (benchOf r enable d (unpackedChipOf s) m b .report .verdict);
+      place = verdictPlaceOf (benchOf r enable d (unpackedChipOf s) m b .report .verdict);
       polls = benchOf r enable d (unpackedChipOf s) m b .report .polls;
       bytes = benchOf r enable d (unpackedChipOf s) m b .report .bytes;
       cycles = benchOf r enable d (unpackedChipOf s) m b .report .cycles;

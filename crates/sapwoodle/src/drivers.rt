@@ -26,6 +26,8 @@ pub struct Told {
     pub number: u8,
     // 255 where no event is sent.
     pub event: u8,
+    // The page of 9, 14 and 15, the index of 10.
+    pub place: usize,
     pub polls: usize,
     pub bytes: usize,
 }
@@ -151,18 +153,21 @@ fn spoken(answer: Answer) -> Told
         Answer::Send(e) => Told {
             number: 0,
             event: e,
+            place: 0,
             polls: 0,
             bytes: 0,
         },
         Answer::Done(polls, bytes) => Told {
             number: 0,
             event: 255,
+            place: 0,
             polls,
             bytes,
         },
         Answer::Refused(r, polls, bytes) => Told {
             number: parts::number(r),
             event: 255,
+            place: parts::verdict_place(Verdict::Refused(r)),
             polls,
             bytes,
         },
@@ -186,6 +191,7 @@ pub extern "C" fn sapwoodle_driver_next(
     level: u8,
     buffer: &mut [u8],
     event: &mut u8,
+    place: &mut usize,
     polls: &mut usize,
     bytes: &mut usize,
 ) -> u8
@@ -193,6 +199,7 @@ pub extern "C" fn sapwoodle_driver_next(
     ensures state { λ _. ⌜ now (state .exit) ≡ asking (now (state .entry)) level (now (buffer .entry)) .state ⌝ }
     ensures buffer { λ _. ⌜ now (buffer .exit) ≡ asking (now (state .entry)) level (now (buffer .entry)) .buffer ⌝ }
     ensures event { λ _. ⌜ now (event .exit) ≡ asking (now (state .entry)) level (now (buffer .entry)) .told .event ⌝ }
+    ensures place { λ _. ⌜ now (place .exit) ≡ asking (now (state .entry)) level (now (buffer .entry)) .told .place ⌝ }
     ensures polls { λ _. ⌜ now (polls .exit) ≡ asking (now (state .entry)) level (now (buffer .entry)) .told .polls ⌝ }
     ensures bytes { λ _. ⌜ now (bytes .exit) ≡ asking (now (state .entry)) level (now (buffer .entry)) .told .bytes ⌝ }
 {
@@ -202,6 +209,7 @@ pub extern "C" fn sapwoodle_driver_next(
     let moved = asked.driver;
     let t = spoken(answer);
     *event = t.event;
+    *place = t.place;
     *polls = t.polls;
     *bytes = t.bytes;
     keep(t.number, moved, state);

@@ -31,6 +31,7 @@ pub extern "C" fn sapwoodle_bench_run(
     array: &mut [u8],
     id: &mut [u8],
     buffer: &mut [u8],
+    place: &mut usize,
     polls: &mut usize,
     bytes: &mut usize,
     cycles: &mut usize,
@@ -48,6 +49,9 @@ pub extern "C" fn sapwoodle_bench_run(
     ensures buffer { λ _. ⌜ now (buffer .exit)
         ≡ benching (requestOf part enable what at length budget) own d (now (state .entry))
         (mem (now (array .entry)) (now (id .entry))) (now (buffer .entry)) .buffer ⌝ }
+    ensures place { λ _. ⌜ now (place .exit)
+        ≡ benching (requestOf part enable what at length budget) own d (now (state .entry))
+        (mem (now (array .entry)) (now (id .entry))) (now (buffer .entry)) .place ⌝ }
     ensures polls { λ _. ⌜ now (polls .exit)
         ≡ benching (requestOf part enable what at length budget) own d (now (state .entry))
         (mem (now (array .entry)) (now (id .entry))) (now (buffer .entry)) .polls ⌝ }
@@ -66,6 +70,7 @@ pub extern "C" fn sapwoodle_bench_run(
     let r = bench::run(asked, own, d, chip, array, id, buffer);
     let verdict = r.verdict;
     let next = r.chip;
+    *place = parts::verdict_place(verdict);
     *polls = r.polls;
     *bytes = r.bytes;
     *cycles = r.cycles;

@@ -12,6 +12,7 @@ use parts::ArrayAddress;
 use parts::IdLocation;
 use parts::Refusal;
 use parts::Verdict;
+use show::Ground;
 use words::Job;
 
 // The events of a run that are kept: more than writing or reading the whole of the largest array takes, where no page is polled
@@ -136,12 +137,21 @@ fn saved(job: Job, verdict: Verdict, held: &[u8], array: &[u8], id: &[u8]) -> bo
     }
 }
 
-fn tell_report(asked: usize, e: Ended) -> bool {
+fn ground(job: Job) -> Ground {
+    let f = parts::facts_of(job.part);
+    Ground {
+        page: f.page,
+        ident: job.ident,
+        from: job.at,
+    }
+}
+
+fn tell_report(job: Job, e: Ended) -> bool {
     let verdict = e.verdict;
     show::figures(
-        show::head(verdict),
+        show::head(ground(job), verdict),
         e.bytes,
-        asked,
+        job.length,
         e.polls,
         e.cycles,
         e.clocks,
@@ -204,7 +214,7 @@ fn run(job: Job, held: &mut [u8], array: &mut [u8], id: &mut [u8], data: &mut [u
     if !saved(job, verdict, held, array, id) {
         return false;
     }
-    let told = tell_report(job.length, e);
+    let told = tell_report(job, e);
     let taped = tell_tape(told, job.events, e.sent, &mut events, &mut levels);
     tell_bytes(taped, job, verdict, data)
 }
@@ -220,7 +230,7 @@ fn run_prepared(
     let ready = prepared(verdict, job, held, array, id);
     match ready {
         Verdict::Fine => run(job, held, array, id, data),
-        Verdict::Refused(r) => show::refused(r),
+        Verdict::Refused(r) => show::refused(ground(job), r),
     }
 }
 
@@ -258,7 +268,7 @@ fn answer(job: Job, data: &mut [u8]) -> bool {
     let verdict = judged(job);
     match verdict {
         Verdict::Fine => lend(job, data),
-        Verdict::Refused(r) => show::refused(r),
+        Verdict::Refused(r) => show::refused(ground(job), r),
     }
 }
 

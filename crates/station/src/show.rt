@@ -3,15 +3,25 @@
 use parts::Refusal;
 use parts::Verdict;
 
-pub fn say(ok: bool, text: &[u8]) -> bool {
-    if !ok {
-        return false;
-    }
-    let done = text::say(text);
+// Where the bytes of a request lie: the bytes of a page, which of the two memories, and the first place.
+pub struct Ground {
+    pub page: usize,
+    pub ident: bool,
+    pub from: usize,
+}
+
+fn written(done: bool) -> bool {
     if !done {
         os::fail(b"sapwoodle: standard output");
     }
     done
+}
+
+pub fn say(ok: bool, text: &[u8]) -> bool {
+    if !ok {
+        return false;
+    }
+    written(text::say(text))
 }
 
 fn number(ok: bool, n: usize) -> bool {
@@ -32,8 +42,88 @@ fn bytes(ok: bool, n: usize, asked: usize) -> bool {
     count(told, b" of ", asked)
 }
 
-// What ends a run that has begun usually means at a bench, and what a call is refused for before; the others cannot come of a command.
-fn reason(r: Refusal) -> bool {
+// ---- what was refused
+
+fn first_of(page: usize, size: usize) -> usize {
+    if page < 65536 {
+        if size < 65536 {
+            return page * size;
+        }
+    }
+    0
+}
+
+// The address of the i-th byte from one on; guarded for the proof alone, as is the product.
+fn onward(from: usize, i: usize) -> usize {
+    if from < 65536 {
+        if i < 65536 {
+            return from + i;
+        }
+    }
+    from
+}
+
+fn last_of(page: usize, size: usize) -> usize {
+    let next = onward(first_of(page, size), size);
+    if 0 < next { next - 1 } else { 0 }
+}
+
+// `001Fh`
+fn told_address(ok: bool, a: usize) -> bool {
+    let d = text::word(a);
+    say(ok, &[d[0], d[1], d[2], d[3], b'h'])
+}
+
+// A page's number, and its addresses.
+fn page(ok: bool, g: Ground, p: usize) -> bool {
+    if g.ident {
+        return say(ok, b"identification page");
+    }
+    let named = say(ok, b"page ");
+    let told = number(named, p);
+    let from = say(told, b" (");
+    let low = told_address(from, first_of(p, g.page));
+    let to = say(low, b" to ");
+    let high = told_address(to, last_of(p, g.page));
+    say(high, b")")
+}
+
+fn memory(ok: bool, g: Ground) -> bool {
+    if g.ident {
+        return say(ok, b" (location ");
+    }
+    say(ok, b" (address ")
+}
+
+// And what to look at first.
+fn advised(ok: bool, number: u8) -> bool {
+    let named = say(ok, b": ");
+    if !named {
+        return false;
+    }
+    let told = written(words::say_advice(number));
+    say(told, b"\n")
+}
+
+fn lost(g: Ground, name: &[u8], p: usize, number: u8) -> bool {
+    let named = say(true, name);
+    let told = say(named, b" not acknowledged, ");
+    let paged = page(told, g, p);
+    advised(paged, number)
+}
+
+fn lost_data(g: Ground, i: usize, n: u8) -> bool {
+    let named = say(true, b"data byte ");
+    let told = number(named, i);
+    let there = memory(told, g);
+    let placed = told_address(there, onward(g.from, i));
+    let all = say(placed, b") not acknowledged");
+    advised(all, n)
+}
+
+// What a call is refused for, and which byte ended a run that has begun; the others cannot come of a command.
+fn reason(g: Ground, r: Refusal) -> bool {
+    let n = parts::number(r);
     match r {
         Refusal::NoPart => say(true, b"there is no such part\n"),
         Refusal::WrongEnable => say(true, b"this part is never at this enable\n"),
@@ -46,18 +136,11 @@ fn reason(r: Refusal) -> bool {
             true,
             b"the budget goes from 1 to 1000, --ends-at from 1 to 65535\n",
         ),
-        Refusal::NoSelect => say(
-            true,
-            b"nobody answered at this enable, or the chip is busy\n",
-        ),
-        Refusal::NoData => say(
-            true,
-            b"Write Control is high, or the identification page is locked\n",
-        ),
-        Refusal::PollsUsed => say(
-            true,
-            b"the chip stayed busy longer than the budget of polls\n",
-        ),
+        Refusal::NoSelect(p) => lost(g, b"select", p, n),
+        Refusal::NoFirst(p) => lost(g, b"first address byte", p, n),
+        Refusal::NoSecond(p) => lost(g, b"second address byte", p, n),
+        Refusal::NoData(i) => lost_data(g, i, n),
+        Refusal::PollsUsed => advised(say(true, b"polls used up"), n),
         Refusal::BadImage => say(true, b"the file is no image of its part\n"),
         Refusal::WrongBuffer => true,
         Refusal::BadState => true,
@@ -66,19 +149,19 @@ fn reason(r: Refusal) -> bool {
     }
 }
 
-pub fn refused(r: Refusal) -> bool {
+pub fn refused(g: Ground, r: Refusal) -> bool {
     let number = parts::number(r);
     if count(true, b"refused ", text::wide(number)) {
-        return reason(r);
+        return reason(g, r);
     }
     false
 }
 
 // The first line, which tells a refusal from a run that is done.
-pub fn head(verdict: Verdict) -> bool {
+pub fn head(g: Ground, verdict: Verdict) -> bool {
     match verdict {
         Verdict::Fine => say(true, b"done\n"),
-        Verdict::Refused(r) => refused(r),
+        Verdict::Refused(r) => refused(g, r),
     }
 }
 

@@ -1,10 +1,13 @@
 // What could not be tried on boards, run on the model and printed: a Stop at each clock of a page write, Write Control rising at
-// each place of it, the lock command, a chip that stays busy, for any part of the table.
+// each place of it, the lock command, a chip that stays busy, a line that loses an acknowledge, for any part of the table.
+use driver::Answer;
+use driver::Driver;
 use driver::Place;
 use driver::Request;
 use parts::ArrayAddress;
 use parts::Facts;
 use parts::Refusal;
+use parts::Spot;
 use state::Chip;
 use text::say;
 use text::say_address;
@@ -41,6 +44,15 @@ struct Told {
     cycles: usize,
 }
 
+// Driver and chip between two askings, on a line that loses an acknowledge: what the driver is told next, and the clocks sent.
+struct Lossy {
+    driver: Driver,
+    chip: Chip,
+    level: u8,
+    clocks: usize,
+    over: bool,
+}
+
 const START: u8 = 2;
 
 const STOP: u8 = 3;
@@ -70,6 +82,8 @@ const RISES: u8 = 2;
 const LOCKS: u8 = 3;
 
 const BUSY: u8 = 4;
+
+const LOST: u8 = 5;
 
 // ---- numbers
 
@@ -227,6 +241,108 @@ fn play_busy(request: Request, d: usize, array: &mut [u8], id: &mut [u8]) -> Tol
         bytes: r.bytes,
         cycles: r.cycles,
     }
+}
+
+// What the driver is told: the acknowledge of byte `lost` on the bus does not reach it.
+fn heard(level: u8, e: u8, clocks: usize, lost: usize) -> u8 {
+    if e < START {
+        if clocks % 9 == 8 {
+            if clocks / 9 == lost {
+                return 1;
+            }
+        }
+    }
+    level
+}
+
+fn clocks_after(e: u8, clocks: usize) -> usize {
+    if e < START { more(clocks) } else { clocks }
+}
+
+// A cycle that runs ends before the next Start.
+fn rested(part: u8, enable: u8, c: Chip, e: u8, array: &mut [u8], id: &mut [u8]) -> Chip {
+    if e == START {
+        let s = chip::step(part, enable, c, array, id, ENDS);
+        return s.chip;
+    }
+    c
+}
+
+fn sent(r: Request, l: Lossy, e: u8, lost: usize, array: &mut [u8], id: &mut [u8]) -> Lossy {
+    let driver = l.driver;
+    let c = rested(r.part, r.enable, l.chip, e, array, id);
+    let s = chip::step(r.part, r.enable, c, array, id, e);
+    let chip = s.chip;
+    Lossy {
+        driver,
+        chip,
+        level: heard(s.level, e, l.clocks, lost),
+        clocks: clocks_after(e, l.clocks),
+        over: false,
+    }
+}
+
+fn turn(
+    r: Request,
+    l: Lossy,
+    lost: usize,
+    array: &mut [u8],
+    id: &mut [u8],
+    data: &mut [u8],
+) -> Lossy {
+    let asked = driver::next(l.driver, l.level, data);
+    let driver = asked.driver;
+    let answer = asked.answer;
+    match answer {
+        Answer::Send(e) => sent(r, Lossy { driver, ..l }, e, lost, array, id),
+        Answer::Done(_, _) => Lossy { over: true, ..l },
+        Answer::Refused(_, _, _) => Lossy { over: true, ..l },
+    }
+}
+
+// The write ends well before so many askings.
+fn play_turns(
+    r: Request,
+    first: Lossy,
+    lost: usize,
+    array: &mut [u8],
+    id: &mut [u8],
+    data: &mut [u8],
+) -> Lossy {
+    let mut l = first;
+    let mut left: usize = 1000;
+    while 0 < left {
+        l = turn(r, l, lost, array, id, data);
+        if l.over {
+            return l;
+        }
+        left -= 1;
+    }
+    l
+}
+
+// What the driver answers once it has finished; a cycle that still runs then ends.
+fn lost_on(r: Request, chip: Chip, lost: usize, array: &mut [u8], id: &mut [u8]) -> Answer {
+    let begun = driver::begin(r);
+    let driver = begun.driver;
+    let mut data = [FIRST, SECOND];
+    let first = Lossy {
+        driver,
+        chip,
+        level: 1,
+        clocks: 0,
+        over: false,
+    };
+    let l = play_turns(r, first, lost, array, id, &mut data);
+    let asked = driver::next(l.driver, l.level, &mut data);
+    rested(r.part, r.enable, l.chip, START, array, id);
+    asked.answer
+}
+
+// On a part as delivered.
+fn play_lost(r: Request, lost: usize, array: &mut [u8], id: &mut [u8]) -> Answer {
+    let delivered = chip::deliver(r.part, array, id);
+    lost_on(r, delivered.chip, lost, array, id)
 }
 
 // ---- the transfers
@@ -463,6 +579,81 @@ fn busy_line(d: usize, b: Told, last: u8, next: u8) -> bool {
     tell_stored(last, next)
 }
 
+// ---- 5: a line that loses one acknowledge
+
+// Of each page the write meets: select, address, a byte, and the select of a poll.
+fn page_bytes(a: usize) -> usize {
+    more(more(more(a)))
+}
+
+fn tell_lost_name(a: usize, j: usize) {
+    if j == 0 {
+        say(b"select       ");
+        return;
+    }
+    if j <= a {
+        tell_address_name(a, j);
+        say(b"    ");
+        return;
+    }
+    if j - a == 1 {
+        say(b"data         ");
+    } else {
+        say(b"poll's select");
+    }
+}
+
+fn tell_lost(a: usize, j: usize) {
+    let n = page_bytes(a);
+    if 0 < n {
+        say(b"page ");
+        say_number(j / n);
+        say(b"  ");
+        tell_lost_name(a, j % n);
+    }
+}
+
+// Of 10 the data byte's index, of the others the page.
+fn tell_spot(r: Refusal) {
+    let spot = parts::spot_of(r);
+    match spot {
+        Spot::Nowhere => {
+            say(b"   -     ");
+        }
+        Spot::At(n) => {
+            if parts::number(r) == 10 {
+                say(b"   byte ");
+            } else {
+                say(b"   page ");
+            }
+            say_number(n);
+        }
+    }
+}
+
+fn tell_counts(polls: usize, bytes: usize) {
+    say_right(polls, 7);
+    say_right(bytes, 7);
+}
+
+fn tell_answer(answer: Answer) {
+    match answer {
+        Answer::Send(_) => {
+            say(b"   no end                            ");
+        }
+        Answer::Done(polls, bytes) => {
+            say(b"   done         -     ");
+            tell_counts(polls, bytes);
+        }
+        Answer::Refused(r, polls, bytes) => {
+            say(b"   ");
+            tell_number(parts::number(r));
+            tell_spot(r);
+            tell_counts(polls, bytes);
+        }
+    }
+}
+
 // ---- rows: each starts from delivery
 
 fn write_of(a: usize, page: usize, enable: u8, table: u8, k: usize) -> Script {
@@ -552,18 +743,21 @@ fn lock_row(part: u8, enable: u8, k: usize, array: &mut [u8], id: &mut [u8]) -> 
 }
 
 // The write meets two pages.
-fn busy_row(part: u8, enable: u8, d: usize, array: &mut [u8], id: &mut [u8]) -> bool {
-    let f = parts::facts_of(part);
-    let last = less(f.page);
-    let request = Request {
+fn over_pages(part: u8, enable: u8, last: usize) -> Request {
+    Request {
         part,
         enable,
         place: Place::Array(ArrayAddress(last)),
         reads: false,
         length: 2,
         budget: BUDGET,
-    };
-    let b = play_busy(request, d, array, id);
+    }
+}
+
+fn busy_row(part: u8, enable: u8, d: usize, array: &mut [u8], id: &mut [u8]) -> bool {
+    let f = parts::facts_of(part);
+    let last = less(f.page);
+    let b = play_busy(over_pages(part, enable, last), d, array, id);
     busy_line(
         d,
         b,
@@ -572,10 +766,20 @@ fn busy_row(part: u8, enable: u8, d: usize, array: &mut [u8], id: &mut [u8]) -> 
     )
 }
 
+fn lost_row(part: u8, enable: u8, j: usize, array: &mut [u8], id: &mut [u8]) -> bool {
+    let f = parts::facts_of(part);
+    let last = less(f.page);
+    let answer = play_lost(over_pages(part, enable, last), j, array, id);
+    tell_lost(parts::address_bytes(f), j);
+    tell_answer(answer);
+    tell_stored(parts::byte_at(array, last), parts::byte_at(array, f.page))
+}
+
 fn lent_row(part: u8, enable: u8, table: u8, k: usize, array: &mut [u8], id: &mut [u8]) -> bool {
     match table {
         LOCKS => lock_row(part, enable, k, array, id),
         BUSY => busy_row(part, enable, more(k), array, id),
+        LOST => lost_row(part, enable, k, array, id),
         _ => write_row(part, enable, table, k, array, id),
     }
 }
@@ -653,6 +857,36 @@ fn busy(part: u8, enable: u8, page: usize) -> bool {
     rows(part, enable, BUSY, more(BUDGET))
 }
 
+fn advice(number: u8) {
+    say(b"refused ");
+    say_right(text::wide(number), 2);
+    say(b": ");
+    words::say_advice(number);
+    say(b"\n");
+}
+
+// What each number says at a bench.
+fn advices(a: usize) {
+    advice(9);
+    advice(14);
+    if a == 2 {
+        advice(15);
+    }
+    advice(10);
+}
+
+fn losses(part: u8, enable: u8, a: usize, page: usize) -> bool {
+    say(b"\nA line that loses one acknowledge, budget 4: the driver writes 11h and 22h at ");
+    say_address(less(page));
+    say(b"\nlost of                 answer       place   polls  bytes ");
+    tell_places(less(page), page);
+    if !rows(part, enable, LOST, sum(page_bytes(a), page_bytes(a))) {
+        return false;
+    }
+    advices(a);
+    say(b"A data byte whose acknowledge is lost is stored all the same, and not reported.\n")
+}
+
 fn tell_name(part: u8) {
     let name = parts::name_of(part);
     let bytes = name.bytes;
@@ -686,7 +920,10 @@ fn known_part(part: u8, enable: u8, f: Facts) -> bool {
     if !locks(part, enable, f.ident) {
         return false;
     }
-    busy(part, enable, f.page)
+    if !busy(part, enable, f.page) {
+        return false;
+    }
+    losses(part, enable, a, f.page)
 }
 
 fn refused(r: Refusal) -> bool {

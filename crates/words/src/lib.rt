@@ -1,4 +1,5 @@
-// The words of a command line, made into a job. What is wrong with a word is said on standard error at once.
+// The words of a command line, made into a job. What is wrong with a word is said on standard error at once. And the words that more than
+// one command answers with.
 use libc::STDERR_FILENO;
 use libc::STDIN_FILENO;
 
@@ -119,6 +120,18 @@ fn complain(i: usize, kind: usize) {
 fn bad(read: Read, kind: usize) -> Read {
     complain(read.next, kind);
     Read { ok: false, ..read }
+}
+
+// ---- answers
+
+// What a refusal that ends a begun driver means at a bench, and what to look at first; by its number.
+pub fn say_advice(number: u8) -> bool {
+    match number {
+        9 => text::say(b"look at the enable straps first; or the chip is busy, or there is none"),
+        10 => text::say(b"Write Control is high, or the identification page is locked"),
+        11 => text::say(b"the chip stayed busy longer than the budget of polls"),
+        _ => text::say(b"the chip answered its select, so look at the line, not at the board"),
+    }
 }
 
 // ---- letters and numbers

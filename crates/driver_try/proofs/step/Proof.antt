@@ -28,6 +28,9 @@ tell-requires c κs = search needs
 tell-requires-2 : tie.Need-tell-requires-2
 tell-requires-2 c κs = search needs
 
+tell-requires-3 : tie.Need-tell-requires-3
+tell-requires-3 c κs = search needs
+
 say-first-requires : tie.Need-say-first-requires
 say-first-requires c κs = search needs
 
@@ -52,6 +55,7 @@ step-spec =
     wide-requires
     tell-requires
     tell-requires-2
+    tell-requires-3
     say-first-requires
     slice-aggregate-say
     say-requires-2

@@ -1,5 +1,4 @@
 use borrow.Author.Needs.{needs}
-use Rattle.parts.proofs.Kit.{tests}
 use Rattle.parts.proofs.entry_of.Statement.{statement}
 use Rattle.parts.proofs.entry_of.Tie as tie
 
@@ -27,6 +26,12 @@ enum-told-6 c = search needs
 enum-told-7 : tie.Need-enum-told-7
 enum-told-7 c = search needs
 
+enum-known-r-2 : tie.Need-enum-known-r-2
+enum-known-r-2 c = search needs
+
+enum-known-r-3 : tie.Need-enum-known-r-3
+enum-known-r-3 c = search needs
+
 enum-told-8 : tie.Need-enum-told-8
 enum-told-8 c = search needs
 
@@ -36,50 +41,56 @@ enum-told-9 c = search needs
 enum-told-10 : tie.Need-enum-told-10
 enum-told-10 c = search needs
 
-enum-told-11 : tie.Need-enum-told-11
-enum-told-11 c = search needs
+enum-known-r-4 : tie.Need-enum-known-r-4
+enum-known-r-4 c = search needs
 
-enum-told-12 : tie.Need-enum-told-12
-enum-told-12 c = search needs
+enum-known-r-5 : tie.Need-enum-known-r-5
+enum-known-r-5 c = search needs
 
 returns : tie.Need-returns
-returns c = simp (tests, c .enum-told .given .1)
+returns c = simp (c .enum-told .given .1)
 
 returns-2 : tie.Need-returns-2
-returns-2 c = simp (tests, c .enum-told2 .given .1)
+returns-2 c = simp (c .enum-told2 .given .1)
 
 returns-3 : tie.Need-returns-3
-returns-3 c = simp (tests, c .enum-told3 .given .1)
+returns-3 c = simp (c .enum-told3 .given .1)
 
 returns-4 : tie.Need-returns-4
-returns-4 c = simp (tests, c .enum-told4 .given .1)
+returns-4 c = simp (c .enum-told4 .given .1)
 
 returns-5 : tie.Need-returns-5
-returns-5 c = simp (tests, c .before .r .given .1)
+returns-5 c = simp (c .before .r .given .1)
 
 returns-6 : tie.Need-returns-6
-returns-6 c = simp (tests, c .enum-told5 .given .1)
+returns-6 c = simp (c .enum-told5 .given .1)
 
 returns-7 : tie.Need-returns-7
-returns-7 c = simp (tests, c .enum-told6 .given .1)
+returns-7 c = simp (c .enum-told6 .given .1)
 
 returns-8 : tie.Need-returns-8
-returns-8 c = simp (tests, c .enum-told7 .given .1)
+returns-8 c = simp (c .enum-told7 .given .1)
 
 returns-9 : tie.Need-returns-9
-returns-9 c = simp (tests, c .enum-told8 .given .1)
+returns-9 c = simp (c .before .r2 .given .1)
 
 returns-10 : tie.Need-returns-10
-returns-10 c = simp (tests, c .enum-told9 .given .1)
+returns-10 c = simp (c .before .r3 .given .1)
 
 returns-11 : tie.Need-returns-11
-returns-11 c = simp (tests, c .enum-told10 .given .1)
+returns-11 c = simp (c .enum-told8 .given .1)
 
 returns-12 : tie.Need-returns-12
-returns-12 c = simp (tests, c .enum-told11 .given .1)
+returns-12 c = simp (c .enum-told9 .given .1)
 
 returns-13 : tie.Need-returns-13
-returns-13 c = simp (tests, c .enum-told12 .given .1)
+returns-13 c = simp (c .enum-told10 .given .1)
+
+returns-14 : tie.Need-returns-14
+returns-14 c = simp (c .before .r4 .given .1)
+
+returns-15 : tie.Need-returns-15
+returns-15 c = simp (c .before .r5 .given .1)
 
 pub entry-of-spec : {M : Type 1} → statement M
 entry-of-spec =
@@ -93,11 +104,13 @@ entry-of-spec =
     enum-told-5
     enum-told-6
     enum-told-7
+    enum-known-r-2
+    enum-known-r-3
     enum-told-8
     enum-told-9
     enum-told-10
-    enum-told-11
-    enum-told-12
+    enum-known-r-4
+    enum-known-r-5
     returns
     returns-2
     returns-3
@@ -110,4 +123,6 @@ entry-of-spec =
     returns-10
     returns-11
     returns-12
-    returns-13)
+    returns-13
+    returns-14
+    returns-15)

@@ -15,7 +15,7 @@ use Rattle.parts.specs.declared.Verdict.the-variants.{Fine, Refused}
 use Rattle.parts.specs.Table.{factsOf, idSizeOf, enableRightOf, buffersRightOf}
 use Rattle.parts.specs.declared.Spot.the-variants.{Nowhere}
 use Rattle.parts.specs.Events.{eventRightOf}
-use Rattle.parts.specs.Refusals.{numberOf, rankOf, spotOf, placeTold, verdictNumberOf, verdictPlaceOf, claimOf, soonerOf, lentVerdictOf}
+use Rattle.parts.specs.Refusals.{numberOf, spotOf, placeTold, verdictNumberOf, verdictPlaceOf, claimOf, lentVerdictOf}
 use Rattle.parts.proofs.Laws.{branch, fine, buffers-right}
 use Rattle.state.specs.declared.Chip.{Chip}
 use Rattle.state.specs.Range.{inRangeOf}
@@ -32,7 +32,7 @@ use Rattle.sapwoodle.specs.Answers.{chipBytesAfter}
 use Rattle.sapwoodle.specs.Chips.{deliverVerdictIn, stepping, running, delivering}
 use Rattle.sapwoodle.proofs.chips.Laws.{delivers-nothing}
 use Rattle.sapwoodle.specs.Promises.{StepKeeps, RunKeeps, DeliverKeeps, StepIsChips, RunIsChips, DeliverHolds, StepRefuses4, RunRefuses4}
-use Rattle.sapwoodle.proofs.answers.Laws.{unheld-refused, standby-fits}
+use Rattle.sapwoodle.proofs.answers.Laws.{sooner-one, unheld-refused, standby-fits}
 
 -- ---- a refused call changes nothing
 
@@ -49,12 +49,6 @@ step-keeps part enable s m e h = step-keeps-by part enable (unpackedChipOf s) s 
 abbrev Placeless : Verdict → Type 0
 Placeless v = (verdictNumberOf v ≡ numberOf (BadEvent 0) → ⊥) → verdictPlaceOf v ≡ 0
 
-sooner-placeless : (a b : Verdict) → Placeless a → Placeless b → Placeless (soonerOf a b)
-unfolding soonerOf
-sooner-placeless Fine b p q = q
-sooner-placeless (Refused r) Fine p q = p
-sooner-placeless (Refused r) (Refused s) p q = branch Placeless (ltb (rankOf s) (rankOf r)) (λ _. q) (λ _. p)
-
 claim-placeless : (wrong : Bool) (r : Refusal) → spotOf r ≡ Nowhere → Placeless (claimOf wrong r)
 claim-placeless true r h k = ap placeTold h
 claim-placeless false r h k = refl
@@ -67,12 +61,12 @@ scan-placeless pin k (e ∷ es) =
 run-placeless : (part enable : ℕ) (c : Chip) (n d : ℕ) (es : List ℕ) (room : ℕ) → Placeless (runVerdictOf part enable c n d es room)
 unfolding runVerdictOf heldVerdictOf lentVerdictOf
 run-placeless part enable c n d es room =
-    sooner-placeless _ _
-    (sooner-placeless _ _
-    (sooner-placeless _ _ (claim-placeless (not (factsOf part .known)) NoPart refl) (claim-placeless (not (buffersRightOf (factsOf part) n d)) WrongBuffer refl))
-    (sooner-placeless _ _ (claim-placeless (not (enableRightOf (factsOf part) enable)) WrongEnable refl) (claim-placeless (not (inRangeOf (factsOf part) c)) BadState refl)))
-    (sooner-placeless _ _ (claim-placeless (ltb 32768 (length es)) TooMany refl)
-    (sooner-placeless _ _ (scan-placeless (factsOf part .pin) 0 es) (claim-placeless (ltb room (length es)) ShortBuffer refl)))
+    sooner-one Placeless _ _
+    (sooner-one Placeless _ _
+    (sooner-one Placeless _ _ (claim-placeless (not (factsOf part .known)) NoPart refl) (claim-placeless (not (buffersRightOf (factsOf part) n d)) WrongBuffer refl))
+    (sooner-one Placeless _ _ (claim-placeless (not (enableRightOf (factsOf part) enable)) WrongEnable refl) (claim-placeless (not (inRangeOf (factsOf part) c)) BadState refl)))
+    (sooner-one Placeless _ _ (claim-placeless (ltb 32768 (length es)) TooMany refl)
+    (sooner-one Placeless _ _ (scan-placeless (factsOf part .pin) 0 es) (claim-placeless (ltb room (length es)) ShortBuffer refl)))
 
 run-keeps-by : (part enable : ℕ) (c : Chip) (s : List ℕ) (m : Mem) (es a : List ℕ) (v : Verdict) → Placeless v → (verdictNumberOf (runBy (ours (factsOf part) enable) c es v .verdict) ≡ 0 → ⊥)
     → (chipBytesAfter (runBy (ours (factsOf part) enable) c es v .verdict) (runBy (ours (factsOf part) enable) c es v .chip) s ≡ s) × (runMem (ours (factsOf part) enable) c m es v ≡ m) × (runAnswers (ours (factsOf part) enable) c m es a v ≡ a)

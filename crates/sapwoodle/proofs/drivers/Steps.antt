@@ -1,23 +1,26 @@
--- A step leaves numbers that fit their types, and its own refusals are 9, 10 and 11.
+-- A step leaves numbers that fit their types, and its own refusals are not 4.
 -- Assumes nothing.
 use Prim.Native.Nat.{ℕ, _+_, _≤_, _<_}
 use mathlib.Core.Path.{_≡_}
-use mathlib.Core.Bool.{Bool}
+use mathlib.Core.Bool.{Bool, true, false}
 use native.Mathlib.Omega.{arith}
 use lib.Dec.{eqb, ltb}
 use borrow.Author.Tests.{ltb-true}
 use Rattle.parts.proofs.Laws.{branch}
+use Rattle.parts.specs.Table.{factsOf}
+use Rattle.parts.specs.Refusals.{numberOf}
+use Rattle.driver.specs.declared.Request.{Request}
 use Rattle.driver.specs.declared.Slot.{Slot}
 use Rattle.driver.specs.declared.Slot.the-variants.{Select, High, Low, Data, Poll, Turn, Take}
 use Rattle.driver.specs.declared.Failed.{Failed}
-use Rattle.driver.specs.declared.Failed.the-variants.{AtSelect, AtData, AtPolls}
+use Rattle.driver.specs.declared.Failed.the-variants.{AtSelect, AtHigh, AtLow, AtData, AtPolls}
 use Rattle.driver.specs.declared.Phase.{Phase}
 use Rattle.driver.specs.declared.Phase.the-variants.{Ready, Bits, Heard, Rest, Over}
 use Rattle.driver.specs.declared.Counts.{Counts}
 use Rattle.driver.specs.declared.Driver.{Driver}
 use Rattle.driver.specs.declared.Move.{Move}
 use Rattle.driver.specs.Request.{allowedOf}
-use Rattle.driver.specs.Step.{shiftOf, withByte, withPoll, withSeen, toldCountsOf, sentCountsOf, sendThen, readyOf, bitsAt, leadAt, lowAt, dataAt, pollMoveOf, answeredOf, takeAt, heardAt, heardMoveOf, bitsMoveOf, overOf, moveAt, clocksOf}
+use Rattle.driver.specs.Step.{shiftOf, withByte, withPoll, withSeen, toldCountsOf, sentCountsOf, sendThen, readyOf, bitsAt, leadAt, lowAt, dataAt, pollMoveOf, answeredOf, takeAt, heardAt, heardMoveOf, bitsMoveOf, lastAddressOf, overOf, moveAt, clocksOf}
 use Rattle.sapwoodle.specs.Drivers.{toldOf}
 
 pub record Well (m : Move) : Type 0 where
@@ -60,15 +63,15 @@ module _ (c : Counts) (b : c .byte < 256) where
       branch Well (eqb (c .at) n) (λ _. record { clocks = omega arith; byte = b; told = λ h. omega arith })
       (λ _. sends 2 (Bits Select 0) c (omega arith) b)
 
-  lead-well : (s : Slot) (clock level : ℕ) → Well (leadAt c s clock level)
+  lead-well : (f : Failed) (s : Slot) (clock level : ℕ) → Well (leadAt c f s clock level)
   unfolding leadAt
-  lead-well s clock level = branch Well (eqb level 0) (λ _. opened s clock) (λ _. sends 3 (Over AtSelect) c (omega arith) b)
+  lead-well f s clock level = branch Well (eqb level 0) (λ _. opened s clock) (λ _. sends 3 (Over f) c (omega arith) b)
 
   low-well : (reads : Bool) (clock level : ℕ) → Well (lowAt c reads clock level)
   unfolding lowAt
   low-well reads clock level =
       branch Well (eqb level 0) (λ _. branch Well reads (λ _. sends 2 (Bits Turn 0) c (omega arith) b) (λ _. opened Data clock))
-      (λ _. sends 3 (Over AtSelect) c (omega arith) b)
+      (λ _. sends 3 (Over AtLow) c (omega arith) b)
 
   data-well : (end clock level : ℕ) → Well (dataAt c end clock level)
   unfolding dataAt
@@ -97,18 +100,24 @@ module _ (c : Counts) (b : c .byte < 256) where
       (λ h. let l = ltb-true k 8 h in sends clock (Bits s (k + 1)) (toldCountsOf s c level) (omega arith) (taken-low s level))
       (λ _. sends ninth (Heard s) (sentCountsOf s c) (omega arith) (sent-low s))
 
-  over-well : (f : Failed) → Well (overOf f c)
-  over-well AtSelect = record { clocks = omega arith; byte = b; told = λ h. omega arith }
-  over-well AtData = record { clocks = omega arith; byte = b; told = λ h. omega arith }
-  over-well AtPolls = record { clocks = omega arith; byte = b; told = λ h. omega arith }
+  last-told : (w : Bool) (p : ℕ) → numberOf (lastAddressOf w p) ≡ 4 → ⊥
+  last-told true p h = omega arith
+  last-told false p h = omega arith
+
+  over-well : (r : Request) (f : Failed) → Well (overOf r c f)
+  over-well r AtSelect = record { clocks = omega arith; byte = b; told = λ h. omega arith }
+  over-well r AtHigh = record { clocks = omega arith; byte = b; told = λ h. omega arith }
+  over-well r AtLow = record { clocks = omega arith; byte = b; told = last-told (factsOf (r .part) .wide) _ }
+  over-well r AtData = record { clocks = omega arith; byte = b; told = λ h. omega arith }
+  over-well r AtPolls = record { clocks = omega arith; byte = b; told = λ h. omega arith }
 
 heard-well : (d : Driver) (s : Slot) (level clock : ℕ) → d .counts .byte < 256 → Well (heardAt d s level clock)
-heard-well d Select level clock b = lead-well (d .counts) b _ clock level
-heard-well d High level clock b = lead-well (d .counts) b Low clock level
+heard-well d Select level clock b = lead-well (d .counts) b _ _ clock level
+heard-well d High level clock b = lead-well (d .counts) b _ Low clock level
 heard-well d Low level clock b = low-well (d .counts) b (d .request .reads) clock level
 heard-well d Data level clock b = data-well (d .counts) b _ clock level
 heard-well d Poll level clock b = answered-well (d .counts) b (allowedOf (d .request)) level
-heard-well d Turn level clock b = lead-well (d .counts) b Take clock level
+heard-well d Turn level clock b = lead-well (d .counts) b _ Take clock level
 heard-well d Take level clock b = take-well (d .counts) b (d .request .length) clock
 
 pub move-well : (p : Phase) (d : Driver) (level value : ℕ) → d .counts .byte < 256 → Well (moveAt p d level value)
@@ -117,4 +126,4 @@ move-well Ready d level value b = ready-well (d .counts) b (d .request .length)
 move-well (Bits s k) d level value b = bits-well (d .counts) b s k _ _ level
 move-well (Heard s) d level value b = heard-well d s level _ b
 move-well Rest d level value b = poll-well (d .counts) b
-move-well (Over f) d level value b = over-well (d .counts) b f
+move-well (Over f) d level value b = over-well (d .counts) b (d .request) f

@@ -26,7 +26,7 @@ returns c =
     let u = c .before .before .before .before .before .before .before .before .before .before .unpack .ensures in
     let n = c .before .before .before .before .before .before .before .before .next .ensures in
     let t = c .before .before .before .before .spoken .ensures in
-    (rw (t, n .0, u) refl, (rw (c .before .before .keep .ensures, t, n .0, u) refl, (rw (n .1, u) refl, (rw (t, n .0, u) refl, (rw (t, n .0, u) refl, rw (t, n .0, u) refl)))))
+    (rw (t, n .0, u) refl, (rw (c .before .before .keep .ensures, t, n .0, u) refl, (rw (n .1, u) refl, (rw (t, n .0, u) refl, (rw (t, n .0, u) refl, (rw (t, n .0, u) refl, rw (t, n .0, u) refl))))))
 
 pub sapwoodle-driver-next-spec : {M : Type 1} → statement M
 sapwoodle-driver-next-spec =

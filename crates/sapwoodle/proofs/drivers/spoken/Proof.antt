@@ -15,6 +15,9 @@ enum-known-answer-3 c = search needs
 number-requires : tie.Need-number-requires
 number-requires c κs = search needs
 
+verdict-place-requires : tie.Need-verdict-place-requires
+verdict-place-requires c κs = search needs
+
 returns : tie.Need-returns
 returns c = simp (tests, c .before .answer .given .1)
 
@@ -22,7 +25,7 @@ returns-2 : tie.Need-returns-2
 returns-2 c = simp (tests, c .before .answer2 .given .1)
 
 returns-3 : tie.Need-returns-3
-returns-3 c = simp (tests, ← c .number .ensures, c .before .before .answer3 .given .1)
+returns-3 c = simp (tests, ← c .verdict-place .ensures, ← c .before .number .ensures, c .before .before .before .answer3 .given .1)
 
 pub spoken-spec : {M : Type 1} → statement M
 spoken-spec =
@@ -32,6 +35,7 @@ spoken-spec =
     enum-known-answer-2
     enum-known-answer-3
     number-requires
+    verdict-place-requires
     returns
     returns-2
     returns-3)

@@ -12,6 +12,9 @@ unpack-requires c κs = search needs
 run-requires : tie.Need-run-requires
 run-requires c κs = search needs
 
+verdict-place-requires : tie.Need-verdict-place-requires
+verdict-place-requires c κs = search needs
+
 keep-requires : tie.Need-keep-requires
 keep-requires c κs = search needs
 
@@ -32,10 +35,11 @@ same-length-4 c = search needs
 
 returns : tie.Need-returns
 returns c =
-    let u = c .before .before .before .before .before .before .before .before .before .before .before .before .before .before .before .before .unpack .ensures in
-    let q = c .before .before .before .before .before .before .before .before .before .before .before .before .before .before .before .before .before .before .request .ensures in
-    let s = c .before .before .before .before .before .before .before .before .before .before .before .before .run .ensures in
-    (rw (c .verdict-number .ensures, s .0, u, q) refl, (rw (c .before .before .before .keep .ensures, s .0, u, q) refl, (rw (s .1 .0, u, q) refl, (rw (s .1 .1, u, q) refl, (rw (s .0, u, q) refl, (rw (s .0, u, q) refl, (rw (s .0, u, q) refl, rw (s .0, u, q) refl)))))))
+    let u = c .before .before .before .before .before .before .before .before .before .before .before .before .before .before .before .before .before .unpack .ensures in
+    let q = c .before .before .before .before .before .before .before .before .before .before .before .before .before .before .before .before .before .before .before .request .ensures in
+    let s = c .before .before .before .before .before .before .before .before .before .before .before .before .before .run .ensures in
+    let v = c .before .before .before .before .before .verdict-place .ensures in
+    (rw (c .verdict-number .ensures, s .0, u, q) refl, (rw (c .before .before .before .keep .ensures, s .0, u, q) refl, (rw (s .1 .0, u, q) refl, (rw (s .1 .1, u, q) refl, (rw (v, s .0, u, q) refl, (rw (s .0, u, q) refl, (rw (s .0, u, q) refl, (rw (s .0, u, q) refl, rw (s .0, u, q) refl))))))))
 
 pub sapwoodle-bench-run-spec : {M : Type 1} → statement M
 sapwoodle-bench-run-spec =
@@ -44,6 +48,7 @@ sapwoodle-bench-run-spec =
     request-requires
     unpack-requires
     run-requires
+    verdict-place-requires
     keep-requires
     verdict-number-requires
     same-length

@@ -1,0 +1,261 @@
+-- Which byte each number names, from the fourth promise; and a faulty line gives each.
+-- Assumes nothing.
+use Prim.Native.Nat.{ℕ, zero, suc, _+_, _-_, _*_, _/_, _%_, _≤_, _<_}
+use mathlib.Core.Path.{_≡_, refl, sym, _∙_, ap, subst}
+use mathlib.Core.Bool.{Bool, true, false, cond}
+use mathlib.Core.Logic.{inl, inr}
+use mathlib.Core.List.{List, [], _∷_, _++_}
+use lib.ListN.{length, getD, take, replicate, length-append, length-replicate, getD-replicate}
+use lib.Dec.{eqb}
+use native.Mathlib.Omega.{arith}
+use borrow.Author.Tests.{lt-ltb, ne-eqb}
+use Rattle.parts.specs.declared.Refusal.{Refusal}
+use Rattle.parts.specs.declared.Refusal.the-variants.{NoSelect, NoData, NoFirst, NoSecond}
+use Rattle.parts.specs.declared.Spot.{Spot}
+use Rattle.parts.specs.Table.{factsOf, enableRightOf, addressBytesOf}
+use Rattle.parts.specs.Refusals.{numberOf, spotOf, placeTold, soonerOf}
+use Rattle.driver.specs.declared.Place.the-variants.{Array}
+use Rattle.driver.specs.declared.Request.{Request}
+use Rattle.driver.specs.declared.Slot.the-variants.{High}
+use Rattle.driver.specs.declared.Answer.{Answer}
+use Rattle.driver.specs.declared.Answer.the-variants.{Send, Done, Refused}
+use Rattle.driver.specs.Split.{toPageEndOf, pagesMetOf}
+use Rattle.driver.specs.Request.{beyondAt, limitOf, judgeOf, allowedOf, kOf}
+use Rattle.driver.specs.Step.{lastAddressOf, selectAt, wireOf, bitOf, shiftOf, readyOf, bitsAt, leadAt, lowAt, dataAt, pollMoveOf, answeredOf, heardMoveOf, bitsMoveOf, driverStepOf, countsRight, rangeOf, driverNextOf, byteKeptOf, bufferOf}
+use Rattle.driver.specs.Machine.{ourDriver}
+use Rattle.driver_promises.specs.Run.{pollsIn, addressBytes, boundOf}
+use Rattle.driver_promises.specs.Plan.{thenStart, thenStop, thenBits, thenByte, thenPolls, thenData, addressAt, selectOf, thenSelect, thenHigh, thenHead, lengthOf}
+use Rattle.driver_promises.specs.Heard.{Acked, Missed}
+use Rattle.driver_promises.specs.Where.{pageOf, RefusedByte, the-select, the-first, the-only, the-second, the-turn, the-data, the-poll}
+use Rattle.driver_promises.specs.Promises.{Accepted, sent, answers}
+use Rattle.driver_promises.specs.Listens.{Ear, silence, hears, earOf}
+use Rattle.driver_promises.specs.Idle.{deafTo}
+use Rattle.driver_promises.specs.Which.{untilLast, clocksSince, Names, RefusedSays, failing, FaultyLine, allNine, secondOfOne, requestPage, partIndex, WrongNamesBreak}
+use Rattle.driver_promises.proofs.Inv.{wide}
+use Rattle.driver_promises.proofs.Grow.{A, bit-lt, two-bytes, one-byte}
+use Rattle.driver_promises.proofs.Promises.{promises}
+use Rattle.driver_promises.proofs.Pinned.{Out, endsRefused, lastBy, headOut, out, select-no, high-no, last-no, head-out, whole, ends-as}
+
+-- ---- clocks since the last Start
+ear-app : (k : Ear) (es fs : List ℕ) → earOf k (es ++ fs) ≡ earOf (earOf k es) fs
+ear-app k [] fs = refl
+ear-app k (e ∷ es) fs = ear-app (hears k e) es fs
+
+one-clock : (k : Ear) (e : ℕ) → e < 2 → hears k e .clocks ≡ k .clocks + 1
+one-clock k e h = simp (lt-ltb e 2 h)
+
+since-clock : (es : List ℕ) (e : ℕ) → e < 2 → clocksSince (es ++ (e ∷ [])) ≡ clocksSince es + 1
+since-clock es e h = ap (λ (k : Ear). k .clocks) (ear-app silence es (e ∷ [])) ∙ one-clock (earOf silence es) e h
+
+since-start : (es : List ℕ) → clocksSince (thenStart es) ≡ 0
+since-start es = ap (λ (k : Ear). k .clocks) (ear-app silence es (2 ∷ []))
+
+since-bits : (es : List ℕ) (v n : ℕ) → clocksSince (thenBits es v n) ≡ clocksSince es + n
+since-bits es v zero = omega arith
+since-bits es v (suc n) = omega (arith, since-clock (thenBits es v n) (bitOf v n) (bit-lt v n), since-bits es v n)
+
+since-byte : (es : List ℕ) (v : ℕ) → clocksSince (thenByte es v 1) ≡ clocksSince es + 9
+since-byte es v = omega (arith, since-clock (thenBits es v 8) 1 (omega arith), since-bits es v 8)
+
+since-data : (es xs : List ℕ) (o m : ℕ) → clocksSince (thenData es xs o m) ≡ clocksSince es + 9 * m
+since-data es xs o zero = omega arith
+since-data es xs o (suc m) = omega (arith, since-byte (thenData es xs o m) (getD xs (o + m) 0), since-data es xs o m)
+
+module _ (r : Request) (past : List ℕ) (o : ℕ) where
+  since-select : clocksSince (thenSelect r past o) ≡ 9
+  since-select = omega (arith, since-byte (thenStart past) (selectOf r o), since-start past)
+
+  since-high : (b : Bool) → wide r ≡ b → clocksSince (thenHigh r b past o) ≡ 9 * A r
+  since-high true e = omega (arith, two-bytes r e, since-byte (thenSelect r past o) (addressAt r o / 256 % 256), since-select)
+  since-high false e = omega (arith, one-byte r e, since-select)
+
+  since-head : clocksSince (thenHead r past o) ≡ 9 * (1 + A r)
+  since-head = omega (arith, since-byte (thenHigh r (wide r) past o) (addressAt r o % 256), since-high (wide r) refl)
+
+  -- ---- by the byte
+  module _ (xs ls : List ℕ) where
+    named : {f : Refusal} {v : ℕ} {bef : List ℕ} → RefusedByte r xs ls past o f v bef → Names r o (thenByte bef v 1) f
+    named the-select =
+        record {
+          select = λ e. (omega (arith, since-select), refl);
+          first = λ e. absurd (omega arith);
+          second = λ e. absurd (omega arith);
+          byte = λ e. absurd (omega arith);
+          polls = λ e. absurd (omega arith);
+          these = inl refl;
+        }
+    named (the-first w a) =
+        record {
+          select = λ e. absurd (omega arith);
+          first = λ e. (omega (arith, since-byte (thenSelect r past o) (addressAt r o / 256 % 256), since-select), refl);
+          second = λ e. absurd (omega arith);
+          byte = λ e. absurd (omega arith);
+          polls = λ e. absurd (omega arith);
+          these = inr (inr (inr (inl refl)));
+        }
+    named (the-only w a) =
+        record {
+          select = λ e. absurd (omega arith);
+          first = λ e. (omega (arith, since-byte (thenSelect r past o) (addressAt r o % 256), since-select), refl);
+          second = λ e. absurd (omega arith);
+          byte = λ e. absurd (omega arith);
+          polls = λ e. absurd (omega arith);
+          these = inr (inr (inr (inl refl)));
+        }
+    named (the-second w a) =
+        record {
+          select = λ e. absurd (omega arith);
+          first = λ e. absurd (omega arith);
+          second = λ e. (omega (arith, two-bytes r w, since-byte (thenHigh r true past o) (addressAt r o % 256), since-high true w), refl, w);
+          byte = λ e. absurd (omega arith);
+          polls = λ e. absurd (omega arith);
+          these = inr (inr (inr (inr refl)));
+        }
+    named (the-turn w a) =
+        record {
+          select = λ e. (omega (arith, since-byte (thenStart (thenHead r past o)) (selectOf r o + 1), since-start (thenHead r past o)), refl);
+          first = λ e. absurd (omega arith);
+          second = λ e. absurd (omega arith);
+          byte = λ e. absurd (omega arith);
+          polls = λ e. absurd (omega arith);
+          these = inl refl;
+        }
+    named (the-data i w h a) =
+        record {
+          select = λ e. absurd (omega arith);
+          first = λ e. absurd (omega arith);
+          second = λ e. absurd (omega arith);
+          byte = λ e. (i, omega (arith, since-byte (thenData (thenHead r past o) xs o i) (getD xs (o + i) 0), since-data (thenHead r past o) xs o i, since-head), refl);
+          polls = λ e. absurd (omega arith);
+          these = inr (inl refl);
+        }
+    named (the-poll w a p) =
+        let X = thenPolls (thenStop (thenData (thenHead r past o) xs o (lengthOf r o))) (selectOf r o) (allowedOf r - 1) in
+        record {
+          select = λ e. absurd (omega arith);
+          first = λ e. absurd (omega arith);
+          second = λ e. absurd (omega arith);
+          byte = λ e. absurd (omega arith);
+          polls = λ e. (omega (arith, since-byte (thenStart X) (selectOf r o), since-start X), refl);
+          these = inr (inr (inl refl));
+        }
+
+-- the events before the last one
+take-app : (es fs : List ℕ) → take (length es) (es ++ fs) ≡ es
+take-app [] [] = refl
+take-app [] (f ∷ fs) = refl
+take-app (e ∷ es) fs = ap (λ (l : List ℕ). e ∷ l) (take-app es fs)
+
+until-stop : (es : List ℕ) → untilLast (thenStop es) ≡ es
+until-stop es =
+    let n : length (es ++ (3 ∷ [])) - 1 ≡ length es = omega (arith, length-append es (3 ∷ [])) in
+    ap (λ (i : ℕ). take i (es ++ (3 ∷ []))) n ∙ take-app es (3 ∷ [])
+
+pub refused-says : RefusedSays
+refused-says M p r xs a ls l q m f e =
+    let s = p r xs a ls l q m f e .stopped in
+    let es = thenByte (s .before) (s .byte) 1 in
+    let u : untilLast (sent M r xs ls l) ≡ es = ap untilLast (s .events) ∙ until-stop es in
+    record {
+      stop = s .events ∙ ap thenStop (sym u);
+      missed = subst (Missed ls) (sym u) (s .level);
+      names = subst (λ (y : List ℕ). Names r m y f) (sym u) (named r (s .past) m xs ls (s .which));
+    }
+
+-- ---- a faulty line
+failing-missed : (k n : ℕ) → 0 < n → 0 < getD (failing k n) k 0
+failing-missed zero n h = omega (arith, getD-replicate {A = ℕ} n 0 1 0 h)
+failing-missed (suc k) n h = failing-missed k n h
+
+failing-acked : (k n i : ℕ) → i < k → getD (failing k n) i 1 ≡ 0
+failing-acked zero n i h = absurd (omega arith)
+failing-acked (suc k) n zero h = refl
+failing-acked (suc k) n (suc i) h = failing-acked k n i (omega arith)
+
+-- without a Stop there is no poll
+abbrev NoStops : List ℕ → Type 0
+NoStops [] = Unit {0}
+NoStops (e ∷ es) = (eqb e 3 ≡ false) × NoStops es
+
+no-polls : (es : List ℕ) → NoStops es → pollsIn false (thenStop es) ≡ 0
+no-polls [] h = refl
+no-polls (e ∷ es) h = omega (arith, ap (λ (b : Bool). pollsIn (cond b true false) (thenStop es)) (h .0), no-polls es (h .1))
+
+stops-app : (es fs : List ℕ) → NoStops es → NoStops fs → NoStops (es ++ fs)
+stops-app [] fs h k = k
+stops-app (e ∷ es) fs h k = (h .0, stops-app es fs (h .1) k)
+
+stops-bits : (es : List ℕ) (v n : ℕ) → NoStops es → NoStops (thenBits es v n)
+stops-bits es v zero h = h
+stops-bits es v (suc n) h = stops-app (thenBits es v n) _ (stops-bits es v n h) (ne-eqb (bitOf v n) 3 (λ e. (let k = bit-lt v n in omega arith)), tt)
+
+stops-byte : (es : List ℕ) (v : ℕ) → NoStops es → NoStops (thenByte es v 1)
+stops-byte es v h = stops-app (thenBits es v 8) _ (stops-bits es v 8 h) (refl, tt)
+
+module _ (r : Request) (xs : List ℕ) (a : Accepted r xs) (h : 0 < r .length) (n l : ℕ) (b : boundOf r < n) where
+  some : 0 < n
+  some = omega arith
+
+  answer-is : (k : ℕ) (f : Refusal) (es : List ℕ) → ((on : Out) → headOut r xs (failing k n) [] 0 on ≡ endsRefused r xs (failing k n) f es 0) → NoStops es → answers ourDriver r xs (failing k n) l ≡ Refused f 0 0
+  answer-is k f es g z =
+      let d : boundOf r < length (failing k n) = omega (arith, length-append {A = ℕ} (replicate k 0) (replicate n 1), length-replicate {A = ℕ} n 1) in
+      ap (λ (o : Out). o .answer) (ends-as r xs (failing k n) ourDriver l promises a (promises .one-each r xs a (failing k n) l .bound d) ∙ head-out r xs (failing k n) h _ g (r .reads))
+      ∙ ap (λ (q : ℕ). Refused f q 0) (no-polls es z)
+
+  stops-select : NoStops (thenSelect r [] 0)
+  stops-select = stops-byte (thenStart []) (selectOf r 0) (refl, tt)
+
+  first-fails : (w : Bool) → wide r ≡ w → answers ourDriver r xs (failing 19 n) l ≡ Refused (NoFirst (pageOf r 0)) 0 0
+  first-fails true e =
+      answer-is 19 (NoFirst (pageOf r 0)) (thenHigh r true [] 0) (λ on. high-no r xs (failing 19 n) (wide r) [] 0 _ e (failing-acked 19 n 10 (omega arith)) (failing-missed 19 n some))
+      (stops-byte (thenSelect r [] 0) (addressAt r 0 / 256 % 256) stops-select)
+  first-fails false e =
+      answer-is 19 (NoFirst (pageOf r 0)) (lastBy r xs (failing 19 n) false [] 0) (λ on. last-no r xs (failing 19 n) false [] 0 _ e (failing-acked 19 n 10 (omega arith)) (failing-missed 19 n some))
+      (stops-byte (thenSelect r [] 0) (addressAt r 0 % 256) stops-select)
+
+pub faulty-line : FaultyLine ourDriver
+faulty-line r xs a h n l b =
+    let s = some r xs a h n l b in
+    let z = stops-select r xs a h n l b in
+    record {
+      select = answer-is r xs a h n l b 10 (NoSelect (pageOf r 0)) (thenSelect r [] 0) (λ on. select-no r xs (failing 10 n) (wide r) [] 0 _ (failing-missed 10 n s)) z;
+      first = first-fails r xs a h n l b (wide r) refl;
+      second = λ e.
+          answer-is r xs a h n l b 28 (NoSecond (pageOf r 0)) (lastBy r xs (failing 28 n) true [] 0)
+          (λ on. last-no r xs (failing 28 n) true [] 0 _ e (failing-acked 28 n 10 (omega arith), failing-acked 28 n 19 (omega arith)) (failing-missed 28 n s))
+          (stops-byte (thenHigh r true [] 0) (addressAt r 0 % 256) (stops-byte (thenSelect r [] 0) (addressAt r 0 / 256 % 256) z));
+    }
+
+-- ---- the wrong ones: five bytes at 30 on part 2, and one byte at 0
+abbrev five : Request
+five = record { part = 2; enable = 0; place = Array (record { 0 = 30 }); reads = false; length = 5; budget = 1 }
+
+abbrev one : ℕ → Request
+one part = record { part = part; enable = 0; place = Array (record { 0 = 0 }); reads = false; length = 1; budget = 1 }
+
+abbrev fiveBytes : List ℕ
+fiveBytes = replicate 5 90
+
+five-fits : Accepted five fiveBytes
+unfolding judgeOf soonerOf factsOf enableRightOf beyondAt limitOf
+five-fits = record { fine = refl; size = refl }
+
+one-fits : (Accepted (one 0) (90 ∷ [])) × (Accepted (one 2) (90 ∷ []))
+unfolding judgeOf soonerOf factsOf enableRightOf beyondAt limitOf
+one-fits = (record { fine = refl; size = refl }, record { fine = refl; size = refl })
+
+abbrev toldNumber : Answer → ℕ
+toldNumber (Send e) = 0
+toldNumber (Done q n) = 0
+toldNumber (Refused f q n) = numberOf f
+
+pub wrong-names-break : WrongNamesBreak
+unfolding driverNextOf rangeOf judgeOf soonerOf factsOf addressBytesOf enableRightOf beyondAt limitOf countsRight allowedOf kOf pagesMetOf toPageEndOf driverStepOf readyOf bitsMoveOf bitsAt heardMoveOf leadAt lowAt dataAt pollMoveOf answeredOf wireOf selectAt bitOf shiftOf bufferOf byteKeptOf
+wrong-names-break =
+    record {
+      all-nine = λ p. omega (arith, p (one 2) (90 ∷ []) (one-fits .1) (failing 19 1) 0 0 0 (NoSelect 0) refl .names .select refl .0);
+      second-of-one = λ p. omega (arith, p (one 0) (90 ∷ []) (one-fits .0) (failing 19 1) 0 0 0 (NoSecond 0) refl .names .second refl .0);
+      request-page = λ p. omega (arith, ap placeTold (p five fiveBytes five-fits (failing 68 1) 0 1 2 (NoSelect 0) refl .names .select refl .1));
+      part-index = λ p. omega (arith, ap placeTold (p five fiveBytes five-fits (failing 95 1) 0 1 2 (NoData 0) refl .names .byte refl .2));
+      never-fourteen = λ p. (let z : _≡_ {A = ℕ} 15 14 = ap toldNumber (p (one 2) (90 ∷ []) (one-fits .1) (omega arith) 50 0 (omega arith) .first) in omega arith);
+    }
