@@ -1,7 +1,8 @@
 /* A driver and a chip on two wires, as on a bench: one side sets SCL and SDA and reads SDA, the other watches the wires and pulls SDA.
  * Neither knows of the other but by the wires, so either can be replaced by the reader's own.
  *
- * It writes a page and reads it back through the wires, then shows what a late Stop does. examples/run builds and runs it. */
+ * It writes a page and reads it back through the wires, then shows what a late Stop does, and which byte went unanswered where the straps are
+ * wrong and where the line fails. examples/run builds and runs it. */
 #include "../include/sapwoodle.h"
 
 /* The toolchain has the C library, but no headers of it. */
@@ -106,6 +107,7 @@ static void set_sda(int level)
 /* ---- the master's side */
 
 static unsigned long clocks;
+static long lost = -1; /* the byte on the bus whose acknowledge the line loses; -1 for none */
 
 static void start(void)
 {
@@ -130,21 +132,35 @@ static int clock_pulse(int level)
     set_sda(level);
     set_scl(1);
     read = wire_sda();
+    if ((long)clocks == 9 * lost + 8)
+        read = 1;
     set_scl(0);
     clocks++;
     return read;
 }
 
-/* A driver, event after event, until it has no more to send. */
-static unsigned char drive(unsigned char what, unsigned long address, unsigned char *data, unsigned long n)
+/* What a bench should look at first. */
+static void tell(unsigned char answer, unsigned long place)
+{
+    if (answer == 10)
+        printf("refused 10, data byte %lu: Write Control, or the lock\n", place);
+    else if (answer == 11)
+        printf("refused 11: busy for longer than the budget of polls\n");
+    else
+        printf("refused %d, %s, page %lu: %s\n", answer, answer == 9 ? "select" : answer == 14 ? "first address byte" : "second address byte",
+            place, answer == 9 ? "the enable straps" : "the line");
+}
+
+/* A driver, event after event, until it has no more to send. It selects by an enable. */
+static unsigned char drive(unsigned char enable, unsigned char what, unsigned long address, unsigned char *data, unsigned long n)
 {
     unsigned char driver[SAPWOODLE_DRIVER_LENGTH], code, answer, level = 1;
-    unsigned long polls, bytes;
+    unsigned long place, polls, bytes;
     clocks = 0;
     cycles = 0;
-    must(sapwoodle_driver_begin(PART, ENABLE, what, address, n, 10, driver, sizeof driver) == 0, "a request refused");
+    must(sapwoodle_driver_begin(PART, enable, what, address, n, 10, driver, sizeof driver) == 0, "a request refused");
     for (;;) {
-        answer = sapwoodle_driver_next(driver, sizeof driver, level, data, n, &code, &polls, &bytes);
+        answer = sapwoodle_driver_next(driver, sizeof driver, level, data, n, &code, &place, &polls, &bytes);
         if (code == SAPWOODLE_START)
             start();
         else if (code == SAPWOODLE_STOP)
@@ -156,6 +172,8 @@ static unsigned char drive(unsigned char what, unsigned long address, unsigned c
     }
     printf("%s %lu bytes at %04lXh: %s, bytes %lu, polls %lu, cycles %lu, clocks %lu\n", what == SAPWOODLE_WRITE ? "write" : "read", n,
         address, answer ? "refused" : "done", bytes, polls, cycles, clocks);
+    if (answer)
+        tell(answer, place);
     return answer;
 }
 
@@ -191,10 +209,14 @@ int main(void)
         page[i] = (unsigned char)(7 * i);
     must(sapwoodle_deliver(PART, state, sizeof state, array, sizeof array, id, 0) == 0, "a delivery refused");
 
-    must(drive(SAPWOODLE_WRITE, 0x0040, page, PAGE) == 0 && cycles == 1, "one cycle for the page");
-    must(drive(SAPWOODLE_READ, 0x0040, back, PAGE) == 0 && memcmp(page, back, PAGE) == 0, "what was read is what was written");
+    must(drive(ENABLE, SAPWOODLE_WRITE, 0x0040, page, PAGE) == 0 && cycles == 1, "one cycle for the page");
+    must(drive(ENABLE, SAPWOODLE_READ, 0x0040, back, PAGE) == 0 && memcmp(page, back, PAGE) == 0, "what was read is what was written");
 
     must(one_byte(1) == 0 && array[5] == 0xFF, "a late Stop begins no cycle");
     must(one_byte(0) == 1 && array[5] == 0x5A, "a Stop in place begins one");
+
+    must(drive(ENABLE + 1, SAPWOODLE_WRITE, 0x0040, page, PAGE) == 9, "the straps are not what the driver was told");
+    for (lost = 1; lost <= 4; lost++)
+        must(drive(ENABLE, SAPWOODLE_WRITE, 0x0040, page, PAGE) == (lost == 1 ? 14 : lost == 2 ? 15 : 10), "the byte that the line lost");
     return 0;
 }

@@ -8,13 +8,13 @@
  * and the pointers for results must point to a variable each. A call answers 0, or the number of its refusal:
  *
  *      1  part above 5                                   8  budget or d outside its limits
- *      2  enable wrong for the part                      9  select or address byte not acknowledged
+ *      2  enable wrong for the part                      9  select not acknowledged
  *      3  array or identification buffer not exactly    10  data byte not acknowledged
  *         the part's length (0 without such a page)     11  polls used up
  *      4  state or driver: another length, bytes that   12  image length, mark, version or lock byte wrong
  *         hold none, or one that is out of range        13  more than 32,768 events
- *      5  event above 8, or a pin event without a pin
- *      6  answer or output buffer too short
+ *      5  event above 8, or a pin event without a pin   14  first address byte not acknowledged
+ *      6  answer or output buffer too short             15  second address byte not acknowledged
  *      7  address plus length beyond the array or page; no such page
  *
  * Where several of 1 to 8, 12 and 13 apply, the first of 1 2 3 4 13 5 6 7 8 12 is answered. A call refused with one of these changes
@@ -149,7 +149,8 @@ enum {
  *     3      1 for a read, 0 for a write
  *     4      what it is doing: 0 before a Start, or done; 1 to 7 inside a byte; 8 to 14 after the ninth clock of it (select, first
  *            of two address bytes, last address byte, data, select of a poll, second select of a read, byte read); 15 after the Stop of
- *            a page; 16 to 18 refused, with 9, 10, 11
+ *            a page; refused 16 at a select, 17 at a data byte, 18 with its polls used up, 19 at the first of two address bytes, 20 at
+ *            the last address byte
  *     5      clocks sent of the byte, in 1 to 7; else 0
  *     6      bits told of a byte that is read
  *     7      seven numbers of four bytes each, high byte first: address, length and budget of the request, bytes sent or got, bytes seen
@@ -166,18 +167,24 @@ unsigned char sapwoodle_driver_begin(unsigned char part, unsigned char enable, u
  * `data` is the same buffer at each step, of exactly the length asked for: the bytes to write, or where the bytes read go.
  *
  * `event` gets a clock, a Start or a Stop to send; or SAPWOODLE_NO_EVENT, and then the answer is 0, done, or the refusal that ended the
- * driver, `polls` the polls spent and `bytes` the leading bytes that were seen to be written, or were read. With an event both are 0.
- * A finished driver answers the same again. Refused with 9, 10, 11 after its Stop was sent, and with 4. */
+ * driver, `place` which byte that was, `polls` the polls spent and `bytes` the leading bytes that were seen to be written, or were read.
+ * With an event all three are 0. A finished driver answers the same again. Refused with 9, 10, 11, 14, 15 after its Stop was sent, and
+ * with 4.
+ *
+ * `place`: of 9, 14 and 15 the page of the address that the driver was sending, counted from 0 (page 2 of part 2 is 0040h to 005Fh;
+ * the identification page is 0); of 10 the index of the data byte among all that were asked for, from 0; else 0. 9 is a select, of a
+ * write or either one of a read: look at the enable straps first, or the chip is busy. A chip of the part that has kept its power gives
+ * neither 14 nor 15, whatever its straps: look at the line. Parts 0 and 1 have one address byte, the first. */
 unsigned char sapwoodle_driver_next(unsigned char *driver, unsigned long driver_length,
     unsigned char level,
     unsigned char *data, unsigned long data_length,
-    unsigned char *event, unsigned long *polls, unsigned long *bytes);
+    unsigned char *event, unsigned long *place, unsigned long *polls, unsigned long *bytes);
 
 /* ---- driver and chip together, to the end
  *
  * `chip_enable` is the chip's own enable, `enable` the one that the driver selects. Each write cycle ends just before its poll number `d`,
  * 1 to 65,535. `data` has the bytes to write, exactly `length`; or room for the bytes read, and keeps its further bytes.
- * `polls` and `bytes` as above, `cycles` the write cycles begun, `clocks` the clocks sent; of a call refused with 1 to 8 all 0.
+ * `place`, `polls` and `bytes` as above, `cycles` the write cycles begun, `clocks` the clocks sent; of a call refused with 1 to 8 all 0.
  * Refused with 1 to 4, 6, 7, 8 before anything changes; with 9 to 11 by the driver, and then the chip is as the driver left it. */
 unsigned char sapwoodle_bench_run(unsigned char part, unsigned char enable, unsigned char what,
     unsigned long address, unsigned long length, unsigned long budget,
@@ -186,7 +193,7 @@ unsigned char sapwoodle_bench_run(unsigned char part, unsigned char enable, unsi
     unsigned char *array, unsigned long array_length,
     unsigned char *id, unsigned long id_length,
     unsigned char *data, unsigned long data_length,
-    unsigned long *polls, unsigned long *bytes, unsigned long *cycles, unsigned long *clocks);
+    unsigned long *place, unsigned long *polls, unsigned long *bytes, unsigned long *cycles, unsigned long *clocks);
 
 /* ---- the trace program: a typed trace in, what the program prints out, `refused N` too. `length` gets the number of bytes written, at
  * most 32,800. Refused with 6 where `out` is too short for them: it is then as before, and `length` gets 0. */
