@@ -63,7 +63,7 @@ use Rattle.bench.specs.Together.{System, startOf, answeredBy, askedOf, cycleEnd
 use Rattle.bench.specs.Calls.{reportBy, finalOf, benchBy, benchVerdict, benchOf}
 use Rattle.bench_promises.specs.Together.{answerOf}
 use Rattle.bench_promises.specs.Calls.{ourBench}
-use Rattle.bench_promises.specs.Answered.{Happens, asks, outside, outsideOf, amid, choiceOf, ChoicesAmid, Outside, PowerKept, Addressed, AddressAnswered, AddressedKept, onPage2, ResetBreaks}
+use Rattle.bench_promises.specs.Answered.{Happens, asks, outside, outsideOf, amid, choiceOf, ChoicesAmid, Outside, PowerKept, Addressed, AddressAnswered, AddressedKept, onPage2, ResetBreaks, BlamingBreaks}
 use Rattle.bench_promises.proofs.Steps.{Drives, Step, step, ask-elim, ask-drives, drives-of}
 use Rattle.bench_promises.proofs.Turns.{choices, choices-same, spare-turn}
 use Rattle.bench_promises.proofs.Tape.{last, accepted}
@@ -451,3 +451,8 @@ reset-breaks =
       second = refl;
       breaks = λ p. p onPage2 (90 ∷ []) fits 0 (standbyOf (factsOf 2) false) (mem [] []) (replicate 10 asks ++ (outside 8 ∷ replicate 10 asks)) (refl, tt) .0 refl;
     }
+
+-- a chip with other straps
+pub blaming-breaks : BlamingBreaks
+unfolding factsOf enableRightOf eventOf soonerOf enabledOf namedOf decodeOf addressStartOf selectedOf loadArrayOf loadIdOf loadedOf takenOf receivedOf receiveActOf receiveLevelOf clockedOf clockActOf clockLevelOf startedOf startActOf stoppedOf stopActOf resetOf nextOf actOf levelOf noLatch seenOf stateOf chipLevelOf pinAtFirstOf standbyOf beyondAt limitOf judgeOf allowedOf kOf pagesMetOf selectAt wireOf bitOf readyOf bitsAt leadAt lowAt heardMoveOf bitsMoveOf driverStepOf countsRight rangeOf driverNextOf byteKeptOf bufferOf askedOf
+blaming-breaks p = p onPage2 (90 ∷ []) fits 1 (standbyOf (factsOf 2) false) (mem [] []) (replicate 11 asks) tt .0 refl

@@ -22,6 +22,7 @@ use Rattle.driver.specs.declared.Answer.{Answer}
 use Rattle.driver.specs.declared.Answer.the-variants.{Send, Done, Refused}
 use Rattle.driver.specs.Machine.{Machine, ourDriver}
 use Rattle.driver_promises.specs.Promises.{Accepted}
+use Rattle.driver_promises.specs.Misnamed.{toldAs, telling}
 use Rattle.bench.specs.Together.{System, startOf, askedOf, ends, togetherOf}
 use Rattle.bench_promises.specs.Calls.{BenchCall, Bench, verdictOf}
 
@@ -109,3 +110,10 @@ pub record ResetBreaks : Type 0 where
   pub second : cutAfter 19 ≡ Refused (NoSecond 2) 0 0
   -- so the promise without its condition is broken, and by resets alone
   pub breaks : AnsweredWith (λ e. e ≡ 8) ourDriver ours → ⊥
+
+-- ---- and a driver that blames the line where the straps are wrong: ours, but that it tells a missed select as the first address byte
+abbrev pub blaming : Machine
+blaming = telling (λ d. toldAs 9 NoFirst)
+
+abbrev pub BlamingBreaks : Type 0
+BlamingBreaks = AddressAnswered blaming ours → ⊥

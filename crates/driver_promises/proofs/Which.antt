@@ -2,39 +2,38 @@
 -- Assumes nothing.
 use Prim.Native.Nat.{ℕ, zero, suc, _+_, _-_, _*_, _/_, _%_, _≤_, _<_}
 use mathlib.Core.Path.{_≡_, refl, sym, _∙_, ap, subst}
-use mathlib.Core.Bool.{Bool, true, false, cond}
+use mathlib.Core.Bool.{Bool, true, false, cond, not}
 use mathlib.Core.Logic.{inl, inr}
 use mathlib.Core.List.{List, [], _∷_, _++_}
 use lib.ListN.{length, getD, take, replicate, length-append, length-replicate, getD-replicate}
 use lib.Dec.{eqb}
 use native.Mathlib.Omega.{arith}
-use borrow.Author.Tests.{lt-ltb, ne-eqb}
+use borrow.Author.Tests.{lt-ltb, eq-eqb, ne-eqb}
 use Rattle.parts.specs.declared.Refusal.{Refusal}
-use Rattle.parts.specs.declared.Refusal.the-variants.{NoSelect, NoData, NoFirst, NoSecond}
-use Rattle.parts.specs.declared.Spot.{Spot}
-use Rattle.parts.specs.Table.{factsOf, enableRightOf, addressBytesOf}
-use Rattle.parts.specs.Refusals.{numberOf, spotOf, placeTold, soonerOf}
-use Rattle.driver.specs.declared.Place.the-variants.{Array}
+use Rattle.parts.specs.declared.Refusal.the-variants.{NoSelect, NoFirst, NoSecond}
 use Rattle.driver.specs.declared.Request.{Request}
-use Rattle.driver.specs.declared.Slot.the-variants.{High}
-use Rattle.driver.specs.declared.Answer.{Answer}
-use Rattle.driver.specs.declared.Answer.the-variants.{Send, Done, Refused}
-use Rattle.driver.specs.Split.{toPageEndOf, pagesMetOf}
-use Rattle.driver.specs.Request.{beyondAt, limitOf, judgeOf, allowedOf, kOf}
-use Rattle.driver.specs.Step.{lastAddressOf, selectAt, wireOf, bitOf, shiftOf, readyOf, bitsAt, leadAt, lowAt, dataAt, pollMoveOf, answeredOf, heardMoveOf, bitsMoveOf, driverStepOf, countsRight, rangeOf, driverNextOf, byteKeptOf, bufferOf}
+use Rattle.driver.specs.declared.Answer.the-variants.{Refused}
+use Rattle.driver.specs.Request.{allowedOf}
+use Rattle.driver.specs.Step.{bitOf}
 use Rattle.driver.specs.Machine.{ourDriver}
 use Rattle.driver_promises.specs.Run.{pollsIn, addressBytes, boundOf}
-use Rattle.driver_promises.specs.Plan.{thenStart, thenStop, thenBits, thenByte, thenPolls, thenData, addressAt, selectOf, thenSelect, thenHigh, thenHead, lengthOf}
+use Rattle.driver_promises.specs.Plan.{thenStart, thenStop, thenBits, thenByte, thenPolls, thenData, addressAt, selectOf, thenSelect, thenHigh, thenHead, lengthOf, thenPart, thenParts, readPlan}
 use Rattle.driver_promises.specs.Heard.{Acked, Missed}
-use Rattle.driver_promises.specs.Where.{pageOf, RefusedByte, the-select, the-first, the-only, the-second, the-turn, the-data, the-poll}
+use Rattle.driver_promises.specs.Where.{Before, pageOf, RefusedByte, the-select, the-first, the-only, the-second, the-turn, the-data, the-poll}
 use Rattle.driver_promises.specs.Promises.{Accepted, sent, answers}
 use Rattle.driver_promises.specs.Listens.{Ear, silence, hears, earOf}
-use Rattle.driver_promises.specs.Idle.{deafTo}
-use Rattle.driver_promises.specs.Which.{untilLast, clocksSince, Names, RefusedSays, failing, FaultyLine, allNine, secondOfOne, requestPage, partIndex, WrongNamesBreak}
+use Rattle.driver_promises.specs.Which.{untilLast, clocksSince, inPolls, Names, RefusedSays, failing, FaultyLine}
 use Rattle.driver_promises.proofs.Inv.{wide}
 use Rattle.driver_promises.proofs.Grow.{A, bit-lt, two-bytes, one-byte}
 use Rattle.driver_promises.proofs.Promises.{promises}
 use Rattle.driver_promises.proofs.Pinned.{Out, endsRefused, lastBy, headOut, out, select-no, high-no, last-no, head-out, whole, ends-as}
+
+no-stop : (v n : ℕ) → eqb (bitOf v n) 3 ≡ false
+no-stop v n = ne-eqb (bitOf v n) 3 (λ e. (let k = bit-lt v n in omega arith))
+
+twice : (b : Bool) → not (not b) ≡ b
+twice true = refl
+twice false = refl
 
 -- ---- clocks since the last Start
 ear-app : (k : Ear) (es fs : List ℕ) → earOf k (es ++ fs) ≡ earOf (earOf k es) fs
@@ -61,6 +60,63 @@ since-data : (es xs : List ℕ) (o m : ℕ) → clocksSince (thenData es xs o m)
 since-data es xs o zero = omega arith
 since-data es xs o (suc m) = omega (arith, since-byte (thenData es xs o m) (getD xs (o + m) 0), since-data es xs o m)
 
+-- ---- Stops: only they move it
+in-app : (b : Bool) (es fs : List ℕ) → inPolls b (es ++ fs) ≡ inPolls (inPolls b es) fs
+in-app b [] fs = refl
+in-app b (e ∷ es) fs = in-app (cond (eqb e 3) (not b) b) es fs
+
+in-more : (b : Bool) (es : List ℕ) (e : ℕ) → eqb e 3 ≡ false → inPolls b (es ++ (e ∷ [])) ≡ inPolls b es
+in-more b es e h = in-app b es (e ∷ []) ∙ ap (λ (t : Bool). cond t (not (inPolls b es)) (inPolls b es)) h
+
+in-bits : (b : Bool) (es : List ℕ) (v n : ℕ) → inPolls b (thenBits es v n) ≡ inPolls b es
+in-bits b es v zero = refl
+in-bits b es v (suc n) = in-more b (thenBits es v n) (bitOf v n) (no-stop v n) ∙ in-bits b es v n
+
+in-byte : (b : Bool) (es : List ℕ) (v : ℕ) → inPolls b (thenByte es v 1) ≡ inPolls b es
+in-byte b es v = in-more b (thenBits es v 8) 1 refl ∙ in-bits b es v 8
+
+in-start : (b : Bool) (es : List ℕ) → inPolls b (thenStart es) ≡ inPolls b es
+in-start b es = in-more b es 2 refl
+
+in-stop : (b : Bool) (es : List ℕ) → inPolls b (thenStop es) ≡ not (inPolls b es)
+in-stop b es = in-app b es (3 ∷ [])
+
+in-data : (b : Bool) (es xs : List ℕ) (o m : ℕ) → inPolls b (thenData es xs o m) ≡ inPolls b es
+in-data b es xs o zero = refl
+in-data b es xs o (suc m) = in-byte b (thenData es xs o m) (getD xs (o + m) 0) ∙ in-data b es xs o m
+
+in-all : (b : Bool) (es : List ℕ) (v q : ℕ) → inPolls b (thenPolls es v q) ≡ inPolls b es
+in-all b es v zero = refl
+in-all b es v (suc q) = in-byte b (thenStart (thenPolls es v q)) v ∙ (in-start b (thenPolls es v q) ∙ in-all b es v q)
+
+module _ (r : Request) (b : Bool) where
+  in-select : (es : List ℕ) (o : ℕ) → inPolls b (thenSelect r es o) ≡ inPolls b es
+  in-select es o = in-byte b (thenStart es) (selectOf r o) ∙ in-start b es
+
+  in-high : (w : Bool) (es : List ℕ) (o : ℕ) → inPolls b (thenHigh r w es o) ≡ inPolls b es
+  in-high true es o = in-byte b (thenSelect r es o) (addressAt r o / 256 % 256) ∙ in-select es o
+  in-high false es o = in-select es o
+
+  in-head : (es : List ℕ) (o : ℕ) → inPolls b (thenHead r es o) ≡ inPolls b es
+  in-head es o = in-byte b (thenHigh r (wide r) es o) (addressAt r o % 256) ∙ in-high (wide r) es o
+
+  -- the data of a part, and its Stop
+  in-closed : (es xs : List ℕ) (o m : ℕ) → inPolls b (thenStop (thenData (thenHead r es o) xs o m)) ≡ not (inPolls b es)
+  in-closed es xs o m = in-stop b (thenData (thenHead r es o) xs o m) ∙ ap not (in-data b (thenHead r es o) xs o m ∙ in-head es o)
+
+  in-parts : (xs es : List ℕ) (o : ℕ) (qs : List ℕ) → inPolls b (thenParts r es xs o qs) ≡ inPolls b es
+  in-parts xs es o [] = refl
+  in-parts xs es o (q ∷ qs) =
+      let X = thenStop (thenData (thenHead r es o) xs o (lengthOf r o)) in
+      in-parts xs (thenPart r es xs o q) (o + lengthOf r o) qs
+      ∙ (in-stop b (thenPolls X (selectOf r o) q) ∙ (ap not (in-all b X (selectOf r o) q ∙ in-closed es xs o (lengthOf r o)) ∙ twice (inPolls b es)))
+
+-- what went before the part that was refused
+past-even : (t : Bool) (r : Request) (xs ls : List ℕ) (m q : ℕ) (past : List ℕ) → Before t r xs ls m q past → (t ≡ true → m ≡ 0) → inPolls false past ≡ false
+past-even true r xs ls m q past h z =
+    ap (inPolls false) (h .0 ∙ ap (λ (b : Bool). cond b [] (readPlan r)) (eq-eqb m 0 (z refl)))
+past-even false r xs ls m q past h z = ap (inPolls false) (h .events) ∙ in-parts r false xs [] 0 (h .each)
+
 module _ (r : Request) (past : List ℕ) (o : ℕ) where
   since-select : clocksSince (thenSelect r past o) ≡ 9
   since-select = omega (arith, since-byte (thenStart past) (selectOf r o), since-start past)
@@ -72,8 +128,8 @@ module _ (r : Request) (past : List ℕ) (o : ℕ) where
   since-head : clocksSince (thenHead r past o) ≡ 9 * (1 + A r)
   since-head = omega (arith, since-byte (thenHigh r (wide r) past o) (addressAt r o % 256), since-high (wide r) refl)
 
-  -- ---- by the byte
-  module _ (xs ls : List ℕ) where
+  -- ---- by the byte; before the part there are no polls
+  module _ (xs ls : List ℕ) (even : inPolls false past ≡ false) where
     named : {f : Refusal} {v : ℕ} {bef : List ℕ} → RefusedByte r xs ls past o f v bef → Names r o (thenByte bef v 1) f
     named the-select =
         record {
@@ -81,6 +137,7 @@ module _ (r : Request) (past : List ℕ) (o : ℕ) where
           first = λ e. absurd (omega arith);
           second = λ e. absurd (omega arith);
           byte = λ e. absurd (omega arith);
+          polling = in-select r false past o ∙ even;
           polls = λ e. absurd (omega arith);
           these = inl refl;
         }
@@ -90,6 +147,7 @@ module _ (r : Request) (past : List ℕ) (o : ℕ) where
           first = λ e. (omega (arith, since-byte (thenSelect r past o) (addressAt r o / 256 % 256), since-select), refl);
           second = λ e. absurd (omega arith);
           byte = λ e. absurd (omega arith);
+          polling = in-high r false true past o ∙ even;
           polls = λ e. absurd (omega arith);
           these = inr (inr (inr (inl refl)));
         }
@@ -99,6 +157,7 @@ module _ (r : Request) (past : List ℕ) (o : ℕ) where
           first = λ e. (omega (arith, since-byte (thenSelect r past o) (addressAt r o % 256), since-select), refl);
           second = λ e. absurd (omega arith);
           byte = λ e. absurd (omega arith);
+          polling = in-byte false (thenSelect r past o) (addressAt r o % 256) ∙ (in-select r false past o ∙ even);
           polls = λ e. absurd (omega arith);
           these = inr (inr (inr (inl refl)));
         }
@@ -108,6 +167,7 @@ module _ (r : Request) (past : List ℕ) (o : ℕ) where
           first = λ e. absurd (omega arith);
           second = λ e. (omega (arith, two-bytes r w, since-byte (thenHigh r true past o) (addressAt r o % 256), since-high true w), refl, w);
           byte = λ e. absurd (omega arith);
+          polling = in-byte false (thenHigh r true past o) (addressAt r o % 256) ∙ (in-high r false true past o ∙ even);
           polls = λ e. absurd (omega arith);
           these = inr (inr (inr (inr refl)));
         }
@@ -117,6 +177,7 @@ module _ (r : Request) (past : List ℕ) (o : ℕ) where
           first = λ e. absurd (omega arith);
           second = λ e. absurd (omega arith);
           byte = λ e. absurd (omega arith);
+          polling = in-byte false (thenStart (thenHead r past o)) (selectOf r o + 1) ∙ (in-start false (thenHead r past o) ∙ (in-head r false past o ∙ even));
           polls = λ e. absurd (omega arith);
           these = inl refl;
         }
@@ -126,6 +187,7 @@ module _ (r : Request) (past : List ℕ) (o : ℕ) where
           first = λ e. absurd (omega arith);
           second = λ e. absurd (omega arith);
           byte = λ e. (i, omega (arith, since-byte (thenData (thenHead r past o) xs o i) (getD xs (o + i) 0), since-data (thenHead r past o) xs o i, since-head), refl);
+          polling = in-byte false (thenData (thenHead r past o) xs o i) (getD xs (o + i) 0) ∙ (in-data false (thenHead r past o) xs o i ∙ (in-head r false past o ∙ even));
           polls = λ e. absurd (omega arith);
           these = inr (inl refl);
         }
@@ -136,6 +198,7 @@ module _ (r : Request) (past : List ℕ) (o : ℕ) where
           first = λ e. absurd (omega arith);
           second = λ e. absurd (omega arith);
           byte = λ e. absurd (omega arith);
+          polling = in-byte false (thenStart X) (selectOf r o) ∙ (in-start false X ∙ (in-all false (thenStop (thenData (thenHead r past o) xs o (lengthOf r o))) (selectOf r o) (allowedOf r - 1) ∙ (in-closed r false past xs o (lengthOf r o) ∙ ap not even)));
           polls = λ e. (omega (arith, since-byte (thenStart X) (selectOf r o), since-start X), refl);
           these = inr (inr (inl refl));
         }
@@ -153,13 +216,14 @@ until-stop es =
 
 pub refused-says : RefusedSays
 refused-says M p r xs a ls l q m f e =
-    let s = p r xs a ls l q m f e .stopped in
+    let w = p r xs a ls l q m f e in
+    let s = w .stopped in
     let es = thenByte (s .before) (s .byte) 1 in
     let u : untilLast (sent M r xs ls l) ≡ es = ap untilLast (s .events) ∙ until-stop es in
     record {
       stop = s .events ∙ ap thenStop (sym u);
       missed = subst (Missed ls) (sym u) (s .level);
-      names = subst (λ (y : List ℕ). Names r m y f) (sym u) (named r (s .past) m xs ls (s .which));
+      names = subst (λ (y : List ℕ). Names r m y f) (sym u) (named r (s .past) m xs ls (past-even (r .reads) r xs ls m (s .spent) (s .past) (s .parts) (λ t. w .none t .0)) (s .which));
     }
 
 -- ---- a faulty line
@@ -187,7 +251,7 @@ stops-app (e ∷ es) fs h k = (h .0, stops-app es fs (h .1) k)
 
 stops-bits : (es : List ℕ) (v n : ℕ) → NoStops es → NoStops (thenBits es v n)
 stops-bits es v zero h = h
-stops-bits es v (suc n) h = stops-app (thenBits es v n) _ (stops-bits es v n h) (ne-eqb (bitOf v n) 3 (λ e. (let k = bit-lt v n in omega arith)), tt)
+stops-bits es v (suc n) h = stops-app (thenBits es v n) _ (stops-bits es v n h) (no-stop v n, tt)
 
 stops-byte : (es : List ℕ) (v : ℕ) → NoStops es → NoStops (thenByte es v 1)
 stops-byte es v h = stops-app (thenBits es v 8) _ (stops-bits es v 8 h) (refl, tt)
@@ -224,38 +288,4 @@ faulty-line r xs a h n l b =
           answer-is r xs a h n l b 28 (NoSecond (pageOf r 0)) (lastBy r xs (failing 28 n) true [] 0)
           (λ on. last-no r xs (failing 28 n) true [] 0 _ e (failing-acked 28 n 10 (omega arith), failing-acked 28 n 19 (omega arith)) (failing-missed 28 n s))
           (stops-byte (thenHigh r true [] 0) (addressAt r 0 % 256) (stops-byte (thenSelect r [] 0) (addressAt r 0 / 256 % 256) z));
-    }
-
--- ---- the wrong ones: five bytes at 30 on part 2, and one byte at 0
-abbrev five : Request
-five = record { part = 2; enable = 0; place = Array (record { 0 = 30 }); reads = false; length = 5; budget = 1 }
-
-abbrev one : ℕ → Request
-one part = record { part = part; enable = 0; place = Array (record { 0 = 0 }); reads = false; length = 1; budget = 1 }
-
-abbrev fiveBytes : List ℕ
-fiveBytes = replicate 5 90
-
-five-fits : Accepted five fiveBytes
-unfolding judgeOf soonerOf factsOf enableRightOf beyondAt limitOf
-five-fits = record { fine = refl; size = refl }
-
-one-fits : (Accepted (one 0) (90 ∷ [])) × (Accepted (one 2) (90 ∷ []))
-unfolding judgeOf soonerOf factsOf enableRightOf beyondAt limitOf
-one-fits = (record { fine = refl; size = refl }, record { fine = refl; size = refl })
-
-abbrev toldNumber : Answer → ℕ
-toldNumber (Send e) = 0
-toldNumber (Done q n) = 0
-toldNumber (Refused f q n) = numberOf f
-
-pub wrong-names-break : WrongNamesBreak
-unfolding driverNextOf rangeOf judgeOf soonerOf factsOf addressBytesOf enableRightOf beyondAt limitOf countsRight allowedOf kOf pagesMetOf toPageEndOf driverStepOf readyOf bitsMoveOf bitsAt heardMoveOf leadAt lowAt dataAt pollMoveOf answeredOf wireOf selectAt bitOf shiftOf bufferOf byteKeptOf
-wrong-names-break =
-    record {
-      all-nine = λ p. omega (arith, p (one 2) (90 ∷ []) (one-fits .1) (failing 19 1) 0 0 0 (NoSelect 0) refl .names .select refl .0);
-      second-of-one = λ p. omega (arith, p (one 0) (90 ∷ []) (one-fits .0) (failing 19 1) 0 0 0 (NoSecond 0) refl .names .second refl .0);
-      request-page = λ p. omega (arith, ap placeTold (p five fiveBytes five-fits (failing 68 1) 0 1 2 (NoSelect 0) refl .names .select refl .1));
-      part-index = λ p. omega (arith, ap placeTold (p five fiveBytes five-fits (failing 95 1) 0 1 2 (NoData 0) refl .names .byte refl .2));
-      never-fourteen = λ p. (let z : _≡_ {A = ℕ} 15 14 = ap toldNumber (p (one 2) (90 ∷ []) (one-fits .1) (omega arith) 50 0 (omega arith) .first) in omega arith);
     }

@@ -153,7 +153,7 @@ fn run(bytes: bool) {
 fn usage(fd: i32) {
     io::write_all(
         fd,
-        b"usage: sapwoodle [trace]        runs the trace on standard input\n       sapwoodle trace --bytes  tells it byte by byte first\n       sapwoodle write PART ENABLE ADDRESS HEXBYTES  the driver against the model\n       sapwoodle read PART ENABLE ADDRESS LENGTH\n       sapwoodle bench [PART [--enable N]]           what a board cannot try, as tables\n       sapwoodle help           prints this\n       sapwoodle version        prints the version\n",
+        b"usage: sapwoodle [trace]        runs the trace on standard input\n       sapwoodle trace --bytes  tells it byte by byte first\n       sapwoodle write PART ENABLE ADDRESS HEXBYTES  the driver against the model\n       sapwoodle read PART ENABLE ADDRESS LENGTH     refused, each says which byte went unanswered: 9 a select, 14 and 15 an\n                                                     address byte, 10 a data byte; 11 that the chip stayed busy\n       sapwoodle bench [PART [--enable N]]           what a board cannot try, as tables\n       sapwoodle help           prints this\n       sapwoodle version        prints the version\n",
     );
     io::write_all(
         fd,

@@ -44,16 +44,7 @@ fn bytes(ok: bool, n: usize, asked: usize) -> bool {
 
 // ---- what was refused
 
-fn first_of(page: usize, size: usize) -> usize {
-    if page < 65536 {
-        if size < 65536 {
-            return page * size;
-        }
-    }
-    0
-}
-
-// The address of the i-th byte from one on; guarded for the proof alone, as is the product.
+// The address of the i-th byte from one on. The sum is guarded for the proof alone, as is the product below: what is shown lies in an array.
 fn onward(from: usize, i: usize) -> usize {
     if from < 65536 {
         if i < 65536 {
@@ -61,6 +52,16 @@ fn onward(from: usize, i: usize) -> usize {
         }
     }
     from
+}
+
+// The first address of a page, and its last.
+fn first_of(page: usize, size: usize) -> usize {
+    if page < 65536 {
+        if size < 65536 {
+            return page * size;
+        }
+    }
+    0
 }
 
 fn last_of(page: usize, size: usize) -> usize {
@@ -124,6 +125,7 @@ fn lost_data(g: Ground, i: usize, n: u8) -> bool {
 // What a call is refused for, and which byte ended a run that has begun; the others cannot come of a command.
 fn reason(g: Ground, r: Refusal) -> bool {
     let n = parts::number(r);
+    let k = parts::verdict_place(Verdict::Refused(r));
     match r {
         Refusal::NoPart => say(true, b"there is no such part\n"),
         Refusal::WrongEnable => say(true, b"this part is never at this enable\n"),
@@ -136,10 +138,10 @@ fn reason(g: Ground, r: Refusal) -> bool {
             true,
             b"the budget goes from 1 to 1000, --ends-at from 1 to 65535\n",
         ),
-        Refusal::NoSelect(p) => lost(g, b"select", p, n),
-        Refusal::NoFirst(p) => lost(g, b"first address byte", p, n),
-        Refusal::NoSecond(p) => lost(g, b"second address byte", p, n),
-        Refusal::NoData(i) => lost_data(g, i, n),
+        Refusal::NoSelect(_) => lost(g, b"select", k, n),
+        Refusal::NoFirst(_) => lost(g, b"first address byte", k, n),
+        Refusal::NoSecond(_) => lost(g, b"second address byte", k, n),
+        Refusal::NoData(_) => lost_data(g, k, n),
         Refusal::PollsUsed => advised(say(true, b"polls used up"), n),
         Refusal::BadImage => say(true, b"the file is no image of its part\n"),
         Refusal::WrongBuffer => true,
@@ -234,17 +236,11 @@ fn hex(ok: bool, b: u8) -> bool {
     say(ok, &[b' ', d[0], d[1]])
 }
 
-// The sum is guarded for the proof alone: what is shown lies in an array.
 fn address(ok: bool, from: usize, i: usize) -> bool {
-    if from < 65536 {
-        if i < 65536 {
-            let at = from + i;
-            let mut text = [0u8; 16];
-            let k = io::hex(at as u64, 4, &mut text);
-            return say(ok, &text[..k]);
-        }
-    }
-    ok
+    let at = onward(from, i);
+    let mut text = [0u8; 16];
+    let k = io::hex(at as u64, 4, &mut text);
+    say(ok, &text[..k])
 }
 
 // 16 bytes to a line, behind the address of the first.
