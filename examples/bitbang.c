@@ -216,7 +216,7 @@ int main(void)
     must(one_byte(0) == 1 && array[5] == 0x5A, "a Stop in place begins one");
 
     must(drive(ENABLE + 1, SAPWOODLE_WRITE, 0x0040, page, PAGE) == 9, "the straps are not what the driver was told");
-    for (lost = 1; lost <= 4; lost++)
+    for (lost = 1; lost <= 3; lost++)
         must(drive(ENABLE, SAPWOODLE_WRITE, 0x0040, page, PAGE) == (lost == 1 ? 14 : lost == 2 ? 15 : 10), "the byte that the line lost");
     return 0;
 }
