@@ -2,7 +2,7 @@
 -- Assumes nothing.
 use Rattle.driver.specs.Machine.{ourDriver}
 use Rattle.driver_promises.proofs.Promises.{promises}
-use Rattle.driver_promises.proofs.Which.{refused-says, faulty-line}
+use Rattle.driver_promises.proofs.Which.{refused-says, one-address-byte, faulty-line}
 use Rattle.bench_promises.proofs.Answered.{address-answered, addressed-kept, reset-breaks}
 use Rattle.sapwoodle.proofs.drivers.Kept.{next-is-drivers}
 use Rattle.sapwoodle.proofs.runs.Kept.{bench-is-benchs}
@@ -14,6 +14,7 @@ requests =
       first =
           record {
             which = refused-says ourDriver (promises .refused-at);
+            one-address = one-address-byte;
             ending = promises;
             answered = address-answered;
             run = addressed-kept;

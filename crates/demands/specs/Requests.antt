@@ -4,7 +4,7 @@
 use Rattle.chip.specs.Model.{ours}
 use Rattle.driver.specs.Machine.{ourDriver}
 use Rattle.driver_promises.specs.Promises.{Promises}
-use Rattle.driver_promises.specs.Which.{SaysWhichKept, FaultyLine}
+use Rattle.driver_promises.specs.Which.{SaysWhichKept, OneAddressByte, FaultyLine}
 use Rattle.bench_promises.specs.Answered.{AddressAnswered, AddressedKept, ResetBreaks}
 use Rattle.bench_promises.specs.Calls.{ourBench}
 use Rattle.sapwoodle.specs.Promises.{NextIsDrivers, BenchIsBenchs}
@@ -16,6 +16,8 @@ pub record Request1 : Type 0 where
   -- "Split it by byte, and give the page of the transfer's address. Refusal 10 gains the data byte's index in the request. Refusals: 9 is the
   -- select only; 14 first address byte, 15 second": for any levels, which byte of the events each number names, with its page or index
   pub which : SaysWhichKept ourDriver
+  -- parts 0 and 1 have one address byte: no 15, whatever driver is handed in
+  pub one-address : OneAddressByte ourDriver
   -- "both ending a begun driver like 9": Stop first, the same answer again, the buffer as before, everything before the byte acknowledged
   pub ending : Promises ourDriver
   -- "With power kept no chip of the named part gives 14 or 15": cycle ends and pin events at any moment, any chip, at any enable of its

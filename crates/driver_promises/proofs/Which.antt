@@ -6,15 +6,27 @@ use mathlib.Core.Bool.{Bool, true, false, cond, not}
 use mathlib.Core.Logic.{inl, inr}
 use mathlib.Core.List.{List, [], _∷_, _++_}
 use lib.ListN.{length, getD, take, replicate, length-append, length-replicate, getD-replicate}
-use lib.Dec.{eqb}
+use lib.Dec.{eqb, ltb}
 use native.Mathlib.Omega.{arith}
 use borrow.Author.Tests.{lt-ltb, eq-eqb, ne-eqb}
 use Rattle.parts.specs.declared.Refusal.{Refusal}
 use Rattle.parts.specs.declared.Refusal.the-variants.{NoSelect, NoFirst, NoSecond}
+use Rattle.parts.specs.Table.{factsOf}
+use Rattle.parts.specs.Refusals.{numberOf}
+use Rattle.parts.proofs.Laws.{branch}
 use Rattle.driver.specs.declared.Request.{Request}
+use Rattle.driver.specs.declared.Slot.{Slot}
+use Rattle.driver.specs.declared.Slot.the-variants.{Select, High, Low, Data, Poll, Turn, Take}
+use Rattle.driver.specs.declared.Failed.{Failed}
+use Rattle.driver.specs.declared.Failed.the-variants.{AtSelect, AtHigh, AtLow, AtData, AtPolls}
+use Rattle.driver.specs.declared.Phase.{Phase}
+use Rattle.driver.specs.declared.Phase.the-variants.{Ready, Bits, Heard, Rest, Over}
+use Rattle.driver.specs.declared.Driver.{Driver}
+use Rattle.driver.specs.declared.Move.{Move}
+use Rattle.driver.specs.declared.Asked.{Asked}
 use Rattle.driver.specs.declared.Answer.the-variants.{Refused}
 use Rattle.driver.specs.Request.{allowedOf}
-use Rattle.driver.specs.Step.{bitOf}
+use Rattle.driver.specs.Step.{bitOf, readyOf, bitsAt, leadAt, lowAt, dataAt, pollMoveOf, answeredOf, takeAt, endOf, heardAt, heardMoveOf, bitsMoveOf, pageAt, lastAddressOf, overOf, moveAt, driverStepOf, rangeOf, driverNextOf}
 use Rattle.driver.specs.Machine.{ourDriver}
 use Rattle.driver_promises.specs.Run.{pollsIn, addressBytes, boundOf}
 use Rattle.driver_promises.specs.Plan.{thenStart, thenStop, thenBits, thenByte, thenPolls, thenData, addressAt, selectOf, thenSelect, thenHigh, thenHead, lengthOf, thenPart, thenParts, readPlan}
@@ -22,7 +34,7 @@ use Rattle.driver_promises.specs.Heard.{Acked, Missed}
 use Rattle.driver_promises.specs.Where.{Before, pageOf, RefusedByte, the-select, the-first, the-only, the-second, the-turn, the-data, the-poll}
 use Rattle.driver_promises.specs.Promises.{Accepted, sent, answers}
 use Rattle.driver_promises.specs.Listens.{Ear, silence, hears, earOf}
-use Rattle.driver_promises.specs.Which.{untilLast, clocksSince, inPolls, Names, RefusedSays, failing, FaultyLine}
+use Rattle.driver_promises.specs.Which.{untilLast, clocksSince, inPolls, Names, RefusedSays, NotSecond, OneAddressByte, failing, FaultyLine}
 use Rattle.driver_promises.proofs.Inv.{wide}
 use Rattle.driver_promises.proofs.Grow.{A, bit-lt, two-bytes, one-byte}
 use Rattle.driver_promises.proofs.Promises.{promises}
@@ -225,6 +237,41 @@ refused-says M p r xs a ls l q m f e =
       missed = subst (Missed ls) (sym u) (s .level);
       names = subst (λ (y : List ℕ). Names r m y f) (sym u) (named r (s .past) m xs ls (past-even (r .reads) r xs ls m (s .spent) (s .past) (s .parts) (λ t. w .none t .0)) (s .which));
     }
+
+-- ---- no 15 where there is one address byte: only a driver that is over is refused, or one out of range
+abbrev Kept : Move → Type 0
+Kept m = NotSecond (m .answer)
+
+module _ (d : Driver) (level : ℕ) where
+  heard-kept : (s : Slot) (clock : ℕ) → Kept (heardAt d s level clock)
+  unfolding leadAt lowAt dataAt answeredOf pollMoveOf takeAt
+  heard-kept Select clock = branch Kept (eqb level 0) (λ _. tt) (λ _. tt)
+  heard-kept High clock = branch Kept (eqb level 0) (λ _. tt) (λ _. tt)
+  heard-kept Low clock = branch Kept (eqb level 0) (λ _. branch Kept (d .request .reads) (λ _. tt) (λ _. tt)) (λ _. tt)
+  heard-kept Data clock = branch Kept (eqb level 0) (λ _. branch Kept (eqb (d .counts .at) (endOf d)) (λ _. tt) (λ _. tt)) (λ _. tt)
+  heard-kept Poll clock = branch Kept (eqb level 0) (λ _. tt) (λ _. branch Kept (ltb (d .counts .tries) (allowedOf (d .request))) (λ _. tt) (λ _. tt))
+  heard-kept Turn clock = branch Kept (eqb level 0) (λ _. tt) (λ _. tt)
+  heard-kept Take clock = branch Kept (eqb (d .counts .at) (d .request .length)) (λ _. tt) (λ _. tt)
+
+  over-kept : (f : Failed) → factsOf (d .request .part) .wide ≡ false → Kept (overOf (d .request) (d .counts) f)
+  over-kept AtSelect w e = omega arith
+  over-kept AtHigh w e = omega arith
+  over-kept AtLow w e = subst (λ (b : Bool). numberOf (lastAddressOf b (pageAt (d .request) (d .counts))) ≡ 15 → ⊥) (sym w) (λ k. omega arith) e
+  over-kept AtData w e = omega arith
+  over-kept AtPolls w e = omega arith
+
+  move-kept : (p : Phase) (value : ℕ) → factsOf (d .request .part) .wide ≡ false → Kept (moveAt p d level value)
+  unfolding readyOf bitsMoveOf bitsAt heardMoveOf pollMoveOf
+  move-kept Ready value w = branch Kept (eqb (d .counts .at) (d .request .length)) (λ _. tt) (λ _. tt)
+  move-kept (Bits s b) value w = branch Kept (ltb b 8) (λ _. tt) (λ _. tt)
+  move-kept (Heard s) value w = heard-kept s _
+  move-kept Rest value w = tt
+  move-kept (Over f) value w = over-kept f w
+
+pub one-address-byte : OneAddressByte ourDriver
+unfolding driverNextOf driverStepOf
+one-address-byte d level xs w =
+    branch (λ (a : Asked). NotSecond (a .answer)) (rangeOf d (length xs)) (λ _. move-kept d level (d .phase) (getD xs (d .counts .at) 0) w) (λ _ e. omega arith)
 
 -- ---- a faulty line
 failing-missed : (k n : ℕ) → 0 < n → 0 < getD (failing k n) k 0

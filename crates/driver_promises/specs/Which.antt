@@ -14,7 +14,9 @@ use Rattle.parts.specs.declared.Spot.the-variants.{Nowhere, At}
 use Rattle.parts.specs.Table.{factsOf}
 use Rattle.parts.specs.Refusals.{numberOf, spotOf}
 use Rattle.driver.specs.declared.Request.{Request}
-use Rattle.driver.specs.declared.Answer.the-variants.{Refused}
+use Rattle.driver.specs.declared.Driver.{Driver}
+use Rattle.driver.specs.declared.Answer.{Answer}
+use Rattle.driver.specs.declared.Answer.the-variants.{Send, Done, Refused}
 use Rattle.driver.specs.Machine.{Machine}
 use Rattle.driver_promises.specs.Run.{addressBytes, boundOf}
 use Rattle.driver_promises.specs.Plan.{thenStop}
@@ -66,6 +68,15 @@ module _ (M : Machine) where
 -- whoever keeps the fourth promise keeps it
 abbrev pub RefusedSays : Type 0
 RefusedSays = (M : Machine) → RefusedKept M → SaysWhichKept M
+
+-- ---- a part with one address byte gives no 15, whatever driver is handed in, in range or not
+abbrev pub NotSecond : Answer → Type 0
+NotSecond (Send e) = Unit {0}
+NotSecond (Done polls bytes) = Unit {0}
+NotSecond (Refused f polls bytes) = numberOf f ≡ 15 → ⊥
+
+abbrev pub OneAddressByte : Machine → Type 0
+OneAddressByte M = (d : Driver) (level : ℕ) (xs : List ℕ) → factsOf (d .request .part) .wide ≡ false → NotSecond (M .next d level xs .answer)
 
 -- ---- a faulty line: the levels up to number k are low, then none is; for any request of a byte or more. The ninth clock of a read's or
 -- first part's select is told as level 10, that of each byte behind it nine later
