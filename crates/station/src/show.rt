@@ -97,34 +97,33 @@ fn memory(ok: bool, g: Ground) -> bool {
 }
 
 // And what to look at first.
-fn advised(ok: bool, number: u8) -> bool {
+fn advised(ok: bool, r: Refusal) -> bool {
     let named = say(ok, b": ");
     if !named {
         return false;
     }
-    let told = written(words::say_advice(number));
+    let told = written(words::say_advice(r));
     say(told, b"\n")
 }
 
-fn lost(g: Ground, name: &[u8], p: usize, number: u8) -> bool {
+fn lost(g: Ground, name: &[u8], p: usize, r: Refusal) -> bool {
     let named = say(true, name);
     let told = say(named, b" not acknowledged, ");
     let paged = page(told, g, p);
-    advised(paged, number)
+    advised(paged, r)
 }
 
-fn lost_data(g: Ground, i: usize, n: u8) -> bool {
+fn lost_data(g: Ground, i: usize, r: Refusal) -> bool {
     let named = say(true, b"data byte ");
     let told = number(named, i);
     let there = memory(told, g);
     let placed = told_address(there, onward(g.from, i));
     let all = say(placed, b") not acknowledged");
-    advised(all, n)
+    advised(all, r)
 }
 
 // What a call is refused for, and which byte ended a run that has begun; the others cannot come of a command.
 fn reason(g: Ground, r: Refusal) -> bool {
-    let n = parts::number(r);
     let k = parts::verdict_place(Verdict::Refused(r));
     match r {
         Refusal::NoPart => say(true, b"there is no such part\n"),
@@ -138,11 +137,11 @@ fn reason(g: Ground, r: Refusal) -> bool {
             true,
             b"the budget goes from 1 to 1000, --ends-at from 1 to 65535\n",
         ),
-        Refusal::NoSelect(_) => lost(g, b"select", k, n),
-        Refusal::NoFirst(_) => lost(g, b"first address byte", k, n),
-        Refusal::NoSecond(_) => lost(g, b"second address byte", k, n),
-        Refusal::NoData(_) => lost_data(g, k, n),
-        Refusal::PollsUsed => advised(say(true, b"polls used up"), n),
+        Refusal::NoSelect(_) => lost(g, b"select", k, r),
+        Refusal::NoFirst(_) => lost(g, b"first address byte", k, r),
+        Refusal::NoSecond(_) => lost(g, b"second address byte", k, r),
+        Refusal::NoData(_) => lost_data(g, k, r),
+        Refusal::PollsUsed => advised(say(true, b"polls used up"), r),
         Refusal::BadImage => say(true, b"the file is no image of its part\n"),
         Refusal::WrongBuffer => true,
         Refusal::BadState => true,

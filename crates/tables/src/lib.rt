@@ -621,7 +621,7 @@ fn tell_spot(r: Refusal) {
             say(b"   -     ");
         }
         Spot::At(n) => {
-            if parts::number(r) == 10 {
+            if parts::number(r) == parts::number(Refusal::NoData(0)) {
                 say(b"   byte ");
             } else {
                 say(b"   page ");
@@ -857,22 +857,21 @@ fn busy(part: u8, enable: u8, page: usize) -> bool {
     rows(part, enable, BUSY, more(BUDGET))
 }
 
-fn advice(number: u8) {
-    say(b"refused ");
-    say_right(text::wide(number), 2);
+fn advice(r: Refusal) {
+    tell_number(parts::number(r));
     say(b": ");
-    words::say_advice(number);
+    words::say_advice(r);
     say(b"\n");
 }
 
 // What each number says at a bench.
 fn advices(a: usize) {
-    advice(9);
-    advice(14);
+    advice(Refusal::NoSelect(0));
+    advice(Refusal::NoFirst(0));
     if a == 2 {
-        advice(15);
+        advice(Refusal::NoSecond(0));
     }
-    advice(10);
+    advice(Refusal::NoData(0));
 }
 
 fn losses(part: u8, enable: u8, a: usize, page: usize) -> bool {

@@ -2,6 +2,7 @@
 // one command answers with.
 use libc::STDERR_FILENO;
 use libc::STDIN_FILENO;
+use parts::Refusal;
 
 // What a command asks for. `ok` false: a word was wrong, and that was said.
 pub struct Job {
@@ -124,14 +125,19 @@ fn bad(read: Read, kind: usize) -> Read {
 
 // ---- answers
 
-// What a refusal that ends a begun driver means at a bench, and what to look at first; by its number.
-pub fn say_advice(number: u8) -> bool {
-    match number {
-        9 => text::say(b"look at the enable straps first; or the chip is busy, or there is none"),
-        10 => text::say(b"Write Control is high, or the identification page is locked"),
-        11 => text::say(b"the chip stayed busy longer than the budget of polls"),
-        _ => text::say(b"the chip answered its select, so look at the line, not at the board"),
+// What a refusal that ends a begun driver means at a bench, and what to look at first.
+pub fn say_advice(r: Refusal) -> bool {
+    let n = parts::number(r);
+    if n == parts::number(Refusal::NoSelect(0)) {
+        return text::say(b"look at the enable straps first; or the chip is busy, or there is none");
     }
+    if n == parts::number(Refusal::NoData(0)) {
+        return text::say(b"Write Control is high, or the identification page is locked");
+    }
+    if n == parts::number(Refusal::PollsUsed) {
+        return text::say(b"the chip stayed busy longer than the budget of polls");
+    }
+    text::say(b"the chip answered its select, so look at the line, not at the board")
 }
 
 // ---- letters and numbers
