@@ -57,22 +57,26 @@ unfoldable pub askedOf : Machine → Model → System → System
 askedOf D M s =
     answeredBy M s (D .next (s .driver) (s .level) (s .buffer) .driver) (D .leaves (s .driver) (s .level) (s .buffer)) (D .next (s .driver) (s .level) (s .buffer) .answer)
 
+-- the chip is given an event from outside: nothing of it is told to the driver
+abbrev pub outsideOf : Model → ℕ → System → System
+outsideOf M e s =
+    record {
+      driver = s .driver;
+      level = s .level;
+      buffer = s .buffer;
+      chip = M .next (s .chip) e;
+      mem = M .store (s .chip) (s .mem) e;
+      cycles = s .cycles;
+      clocks = s .clocks;
+    }
+
 -- the code of the end of a cycle
 abbrev pub ends : ℕ
 ends = 4
 
 -- the chip's cycle ends, if one runs
 unfoldable pub cycleEndedOf : Model → System → System
-cycleEndedOf M s =
-    record {
-      driver = s .driver;
-      level = s .level;
-      buffer = s .buffer;
-      chip = M .next (s .chip) ends;
-      mem = M .store (s .chip) (s .mem) ends;
-      cycles = s .cycles;
-      clocks = s .clocks;
-    }
+cycleEndedOf M s = outsideOf M ends s
 
 -- any interleaving: true asks the driver, false is an end
 unfoldable pub togetherOf : Machine → Model → List Bool → System → System

@@ -59,11 +59,11 @@ use Rattle.driver_promises.proofs.View.{at, clockOf, Way, w-done, w-open, w-bit
 use Rattle.driver_promises.proofs.Grow.{bit-lt}
 use Rattle.driver_promises.proofs.Extra.{seven-bits}
 use Rattle.bench.specs.declared.Report.{Report}
-use Rattle.bench.specs.Together.{System, startOf, answeredBy, askedOf, cycleEndedOf, togetherOf, turnsOf, lastOf, enough}
+use Rattle.bench.specs.Together.{System, startOf, answeredBy, askedOf, outsideOf, cycleEndedOf, togetherOf, turnsOf, lastOf, enough}
 use Rattle.bench.specs.Calls.{reportBy, finalOf, benchBy, benchVerdict, benchOf}
 use Rattle.bench_promises.specs.Together.{answerOf}
 use Rattle.bench_promises.specs.Calls.{ourBench}
-use Rattle.bench_promises.specs.Answered.{Happens, asks, outside, outsideOf, amid, choiceOf, ChoicesAmid, Outside, PowerKept, Addressed, AddressAnswered, AddressedKept, onPage2, ResetBreaks, BlamingBreaks}
+use Rattle.bench_promises.specs.Answered.{Happens, asks, outside, amid, choiceOf, ChoicesAmid, Outside, PowerKept, Addressed, AddressAnswered, AddressedKept, onPage2, ResetBreaks, BlamingBreaks}
 use Rattle.bench_promises.proofs.Steps.{Drives, Step, step, ask-elim, ask-drives, drives-of}
 use Rattle.bench_promises.proofs.Turns.{choices, choices-same, spare-turn}
 use Rattle.bench_promises.proofs.Tape.{last, accepted}

@@ -23,26 +23,13 @@ use Rattle.driver.specs.declared.Answer.the-variants.{Send, Done, Refused}
 use Rattle.driver.specs.Machine.{Machine, ourDriver}
 use Rattle.driver_promises.specs.Promises.{Accepted}
 use Rattle.driver_promises.specs.Misnamed.{toldAs, telling}
-use Rattle.bench.specs.Together.{System, startOf, askedOf, ends, togetherOf}
+use Rattle.bench.specs.Together.{System, startOf, askedOf, outsideOf, ends, togetherOf}
 use Rattle.bench_promises.specs.Calls.{BenchCall, Bench, verdictOf}
 
 -- what happens next: the driver is asked once, or the chip is given an event from outside
 pub data Happens : Type 0 where
   asks : Happens
   outside : ℕ → Happens
-
--- nothing of it is told to the driver
-abbrev pub outsideOf : Model → ℕ → System → System
-outsideOf M e s =
-    record {
-      driver = s .driver;
-      level = s .level;
-      buffer = s .buffer;
-      chip = M .next (s .chip) e;
-      mem = M .store (s .chip) (s .mem) e;
-      cycles = s .cycles;
-      clocks = s .clocks;
-    }
 
 module _ (D : Machine) (M : Model) where
   abbrev pub amid : List Happens → System → System

@@ -194,9 +194,9 @@ bitsMoveOf d slot b level value =
     bitsAt slot b (bitOf (slotByteOf (wireOf d value) slot) b) (ninthOf slot (eqb (d .counts .at + 1) (d .request .length)))
     (toldCountsOf slot (d .counts) level) (sentCountsOf slot (d .counts))
 
--- 02 §1, "the page of the transfer's address": the first address of the part under way, or of the read, div P
-abbrev pub pageAt : Request → Counts → ℕ
-pageAt r c = (fromOf (r .place) + c .seen) / factsOf (r .part) .page
+-- 02 §1, "the page of the transfer's address": of byte number o of a request, its address div P; pages are counted from 0
+abbrev pub pageAt : Request → ℕ → ℕ
+pageAt r o = (fromOf (r .place) + o) / factsOf (r .part) .page
 
 -- "the data byte's index in the request", from 0: the byte is counted when its ninth clock is sent
 abbrev pub indexAt : Counts → ℕ
@@ -206,11 +206,12 @@ indexAt c = c .at - 1
 abbrev pub lastAddressOf : Bool → ℕ → Refusal
 lastAddressOf wide page = cond wide (NoSecond page) (NoFirst page)
 
--- number and value of each ending: 9, 14, 15, 10 and 11 (entryOf of crate parts)
+-- number and value of each ending: 9, 14, 15, 10 and 11 (entryOf of crate parts). The part under way begins with byte number `seen`, a read
+-- with 0
 abbrev pub refusalOf : Request → Counts → Failed → Refusal
-refusalOf r c AtSelect = NoSelect (pageAt r c)
-refusalOf r c AtHigh = NoFirst (pageAt r c)
-refusalOf r c AtLow = lastAddressOf (factsOf (r .part) .wide) (pageAt r c)
+refusalOf r c AtSelect = NoSelect (pageAt r (c .seen))
+refusalOf r c AtHigh = NoFirst (pageAt r (c .seen))
+refusalOf r c AtLow = lastAddressOf (factsOf (r .part) .wide) (pageAt r (c .seen))
 refusalOf r c AtData = NoData (indexAt c)
 refusalOf r c AtPolls = PollsUsed
 

@@ -648,7 +648,7 @@ fn heard(d: Driver, slot: Slot, level: u8, value: u8) -> Move
 // The page of the part under way, or of the read: its first address div P.
 fn page_at(d: Driver) -> usize
     requires { ⌜ GoodRequest (d .request) × (d .counts .seen ≤ d .request .length) ⌝ }
-    ensures { λ r. ⌜ r ≡ pageAt (d .request) (d .counts) ⌝ }
+    ensures { λ r. ⌜ r ≡ pageAt (d .request) (d .counts .seen) ⌝ }
 {
     let request = d.request;
     let place = request.place;

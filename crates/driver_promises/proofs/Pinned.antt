@@ -17,13 +17,13 @@ use Rattle.driver.specs.declared.Request.{Request}
 use Rattle.driver.specs.declared.Answer.{Answer}
 use Rattle.driver.specs.declared.Answer.the-variants.{Send, Done, Refused}
 use Rattle.driver.specs.Request.{allowedOf, kOf}
-use Rattle.driver.specs.Step.{lastAddressOf}
+use Rattle.driver.specs.Step.{lastAddressOf, pageAt}
 use Rattle.driver.proofs.Facts.{good-request}
 use Rattle.driver.specs.Machine.{Machine}
 use Rattle.driver_promises.specs.Run.{DriverHeld, begun, sentBy, answerTo, told, afterAll, eventsSent, Finished, pollsIn, boundOf, clockOfByte}
 use Rattle.driver_promises.specs.Plan.{thenStart, thenStop, thenByte, thenPolls, thenData, addressAt, selectOf, thenSelect, thenHigh, thenHead, lengthOf, thenPart, thenParts, partsEndOf, readPlan}
 use Rattle.driver_promises.specs.Heard.{Acked, Missed, PollsMissed, DataAcked, HighAcked, HeadAcked, PartsTold}
-use Rattle.driver_promises.specs.Where.{leftOf, Within, pageOf, RefusedByte, the-select, the-first, the-only, the-second, the-turn, the-data, the-poll, Before, Stopped}
+use Rattle.driver_promises.specs.Where.{leftOf, Within, RefusedByte, the-select, the-first, the-only, the-second, the-turn, the-data, the-poll, Before, Stopped}
 use Rattle.driver_promises.specs.Promises.{Accepted, after, sent, answers, DoneAll, DoneOf, RefusedAt, BufferSoFar, Promises}
 use Rattle.driver_promises.specs.Pinned.{Pinned}
 use Rattle.driver_promises.proofs.Inv.{wide, stop, left-all, left-cut, less}
@@ -56,11 +56,11 @@ module _ (r : Request) (xs ls : List ℕ) where
   lastBy b es o = thenByte (thenHigh r b es o) (addressAt r o % 256) 1
 
   abbrev highOut : Bool → List ℕ → ℕ → Out → Out
-  highOut true es o on = ask (thenSelect r es o) (ask (thenHigh r true es o) on (endsRefused (NoFirst (pageOf r o)) (thenHigh r true es o) o)) (endsRefused (NoSelect (pageOf r o)) (thenSelect r es o) o)
-  highOut false es o on = ask (thenSelect r es o) on (endsRefused (NoSelect (pageOf r o)) (thenSelect r es o) o)
+  highOut true es o on = ask (thenSelect r es o) (ask (thenHigh r true es o) on (endsRefused (NoFirst (pageAt r o)) (thenHigh r true es o) o)) (endsRefused (NoSelect (pageAt r o)) (thenSelect r es o) o)
+  highOut false es o on = ask (thenSelect r es o) on (endsRefused (NoSelect (pageAt r o)) (thenSelect r es o) o)
 
   abbrev headBy : Bool → List ℕ → ℕ → Out → Out
-  headBy b es o on = highOut b es o (ask (lastBy b es o) on (endsRefused (lastAddressOf b (pageOf r o)) (lastBy b es o) o))
+  headBy b es o on = highOut b es o (ask (lastBy b es o) on (endsRefused (lastAddressOf b (pageAt r o)) (lastBy b es o) o))
 
   abbrev pub headOut : List ℕ → ℕ → Out → Out
   headOut es o on = headBy (wide r) es o on
@@ -85,7 +85,7 @@ module _ (r : Request) (xs ls : List ℕ) where
   turned = thenByte (thenStart (thenHead r [] 0)) (selectOf r 0 + 1) 1
 
   abbrev pub out : Bool → Out
-  out true = cond (eqb (r .length) 0) (endsDone []) (headOut [] 0 (ask turned (endsDone (readPlan r)) (endsRefused (NoSelect (pageOf r 0)) turned 0)))
+  out true = cond (eqb (r .length) 0) (endsDone []) (headOut [] 0 (ask turned (endsDone (readPlan r)) (endsRefused (NoSelect (pageAt r 0)) turned 0)))
   out false = partsOut (kOf r) [] 0
 
   -- ---- it goes as the levels say
@@ -102,15 +102,15 @@ module _ (r : Request) (xs ls : List ℕ) where
   head-yes : (es : List ℕ) (o : ℕ) (on : Out) → HeadAcked ls r es o → headOut es o on ≡ on
   head-yes es o on h = high-yes (wide r) es o _ (h .0) ∙ ask-yes (thenHead r es o) _ _ (h .1)
 
-  pub select-no : (b : Bool) (es : List ℕ) (o : ℕ) (on : Out) → Missed ls (thenSelect r es o) → highOut b es o on ≡ endsRefused (NoSelect (pageOf r o)) (thenSelect r es o) o
+  pub select-no : (b : Bool) (es : List ℕ) (o : ℕ) (on : Out) → Missed ls (thenSelect r es o) → highOut b es o on ≡ endsRefused (NoSelect (pageAt r o)) (thenSelect r es o) o
   select-no true es o on h = ask-no (thenSelect r es o) _ _ h
   select-no false es o on h = ask-no (thenSelect r es o) _ _ h
 
-  pub high-no : (b : Bool) (es : List ℕ) (o : ℕ) (on : Out) → b ≡ true → Acked ls (thenSelect r es o) → Missed ls (thenHigh r true es o) → highOut b es o on ≡ endsRefused (NoFirst (pageOf r o)) (thenHigh r true es o) o
+  pub high-no : (b : Bool) (es : List ℕ) (o : ℕ) (on : Out) → b ≡ true → Acked ls (thenSelect r es o) → Missed ls (thenHigh r true es o) → highOut b es o on ≡ endsRefused (NoFirst (pageAt r o)) (thenHigh r true es o) o
   high-no true es o on e h k = ask-yes (thenSelect r es o) _ _ h ∙ ask-no (thenHigh r true es o) _ _ k
   high-no false es o on e h k = absurd (false≢true e)
 
-  pub last-no : (b : Bool) (es : List ℕ) (o : ℕ) (on : Out) → wide r ≡ b → HighAcked ls r b es o → Missed ls (lastBy b es o) → headOut es o on ≡ endsRefused (lastAddressOf b (pageOf r o)) (lastBy b es o) o
+  pub last-no : (b : Bool) (es : List ℕ) (o : ℕ) (on : Out) → wide r ≡ b → HighAcked ls r b es o → Missed ls (lastBy b es o) → headOut es o on ≡ endsRefused (lastAddressOf b (pageAt r o)) (lastBy b es o) o
   last-no b es o on e a h = ap (λ (t : Bool). headBy t es o on) e ∙ (high-yes b es o _ a ∙ ask-no (lastBy b es o) _ _ h)
 
   data-yes : (es : List ℕ) (o m : ℕ) (on : Out) → DataAcked ls es xs o m → dataOut es o m on ≡ on
@@ -176,7 +176,7 @@ module _ (r : Request) (xs ls : List ℕ) where
       ∙ (data-yes (thenHead r past m) m (lengthOf r m) _ (a .1)
       ∙ polls-no (thenStop (thenData (thenHead r past m) xs m (lengthOf r m))) (selectOf r m) m (suc (allowedOf r - 1)) (allowedOf r) 0 _ (p, h) (omega arith))
 
-  byte-read : {f : Refusal} {v : ℕ} {bef : List ℕ} → RefusedByte r xs ls [] 0 f v bef → r .reads ≡ true → Missed ls (thenByte bef v 1) → headOut [] 0 (ask turned (endsDone (readPlan r)) (endsRefused (NoSelect (pageOf r 0)) turned 0)) ≡ endsRefused f (thenByte bef v 1) 0
+  byte-read : {f : Refusal} {v : ℕ} {bef : List ℕ} → RefusedByte r xs ls [] 0 f v bef → r .reads ≡ true → Missed ls (thenByte bef v 1) → headOut [] 0 (ask turned (endsDone (readPlan r)) (endsRefused (NoSelect (pageAt r 0)) turned 0)) ≡ endsRefused f (thenByte bef v 1) 0
   byte-read the-select w h = select-no (wide r) [] 0 _ h
   byte-read (the-first e a) w h = high-no (wide r) [] 0 _ e a h
   byte-read (the-only e a) w h = last-no false [] 0 _ e a h
@@ -185,8 +185,8 @@ module _ (r : Request) (xs ls : List ℕ) where
   byte-read (the-data i e l a) w h = absurd (false≢true (sym e ∙ w))
   byte-read (the-poll e a p) w h = absurd (false≢true (sym e ∙ w))
 
-  reads-some : 0 < r .length → out true ≡ headOut [] 0 (ask turned (endsDone (readPlan r)) (endsRefused (NoSelect (pageOf r 0)) turned 0))
-  reads-some h = ap (λ (t : Bool). cond t (endsDone []) (headOut [] 0 (ask turned (endsDone (readPlan r)) (endsRefused (NoSelect (pageOf r 0)) turned 0)))) (ne-eqb (r .length) 0 (λ z. omega arith))
+  reads-some : 0 < r .length → out true ≡ headOut [] 0 (ask turned (endsDone (readPlan r)) (endsRefused (NoSelect (pageAt r 0)) turned 0))
+  reads-some h = ap (λ (t : Bool). cond t (endsDone []) (headOut [] 0 (ask turned (endsDone (readPlan r)) (endsRefused (NoSelect (pageAt r 0)) turned 0)))) (ne-eqb (r .length) 0 (λ z. omega arith))
 
   -- a run of a byte or more ends where its head does
   pub head-out : 0 < r .length → (o : Out) → ((on : Out) → headOut [] 0 on ≡ o) → (b : Bool) → out b ≡ o
@@ -225,7 +225,7 @@ module _ (r : Request) (xs ls : List ℕ) where
         go true p = none (eqb (r .length) 0) refl
           where
             none : (t : Bool) → eqb (r .length) 0 ≡ t → endsDone (sent M r xs ls l) ≡ out true
-            none true z = ap endsDone (d .nothing (eqb-true _ _ z)) ∙ sym (ap (λ (t : Bool). cond t (endsDone []) (headOut [] 0 (ask turned (endsDone (readPlan r)) (endsRefused (NoSelect (pageOf r 0)) turned 0)))) z)
+            none true z = ap endsDone (d .nothing (eqb-true _ _ z)) ∙ sym (ap (λ (t : Bool). cond t (endsDone []) (headOut [] 0 (ask turned (endsDone (readPlan r)) (endsRefused (NoSelect (pageAt r 0)) turned 0)))) z)
             none false z =
                 let f = eqb-false (r .length) 0 z in
                 let o : 0 < r .length = omega (arith, f) in

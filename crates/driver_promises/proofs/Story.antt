@@ -25,6 +25,7 @@ use Rattle.driver_promises.specs.Run.{DriverHeld, begun, sentBy, told, a
 use Rattle.driver_promises.specs.Where.{leftOf, Before}
 use Rattle.driver_promises.proofs.View.{at, leads, takes, Way, w-done, w-open, w-bit, w-ninth, w-got, w-nack, w-high, w-only, w-low, w-turn, w-data, w-more, w-close, w-drop, w-poll, w-again, w-give, w-page, w-take, w-next, w-end, w-over, Steps, steps}
 use Rattle.driver_promises.proofs.Inv.{Inv, in-range, room-in, taken-elim, inv-step, left-all}
+use Rattle.driver_promises.specs.Which.{inPolls}
 use Rattle.driver_promises.proofs.Grow.{A, heads, ends, clocksAt, endsAt, over, oddAt, turn, Grown, grow}
 use Rattle.driver_promises.proofs.Trail.{Told, trail-step}
 use Rattle.driver_promises.proofs.Got.{Gets, Long, got-step}
@@ -32,15 +33,11 @@ use Rattle.driver_promises.proofs.Bound.{no-polls}
 use Rattle.parts.specs.Refusals.{isFine}
 
 -- ---- one event more at the end
-abbrev pub oddIn : Bool → List ℕ → Bool
-oddIn odd [] = odd
-oddIn odd (e ∷ es) = oddIn (turn odd e) es
-
-odd-more : (h : Bool) (es : List ℕ) (e : ℕ) → oddIn h (es ++ (e ∷ [])) ≡ turn (oddIn h es) e
+pub odd-more : (h : Bool) (es : List ℕ) (e : ℕ) → inPolls h (es ++ (e ∷ [])) ≡ turn (inPolls h es) e
 odd-more h [] e = refl
 odd-more h (x ∷ es) e = odd-more (turn h x) es e
 
-polls-more : (h : Bool) (es : List ℕ) (e : ℕ) → pollsIn h (es ++ (e ∷ [])) ≡ pollsIn h es + cond (oddIn h es && eqb e 2) 1 0
+polls-more : (h : Bool) (es : List ℕ) (e : ℕ) → pollsIn h (es ++ (e ∷ [])) ≡ pollsIn h es + cond (inPolls h es && eqb e 2) 1 0
 polls-more h [] e = omega arith
 polls-more h (x ∷ es) e = omega (arith, polls-more (turn h x) es e)
 
@@ -174,7 +171,7 @@ pub record Story (r : Request) (xs : List ℕ) (p : Phase) (c : Counts) (ys es l
   pub told : Told p r c ys es ls
   pub got : Gets p r c ys ls
   pub polls : c .polls ≡ pollsIn false es
-  pub odd : oddAt p r c ≡ oddIn false es
+  pub odd : oddAt p r c ≡ inPolls false es
   pub clocks : over p ≡ false → clocksIn es ≡ clocksAt p r c
   pub ends : over p ≡ false → length es ≡ clocksAt p r c + endsAt p r c
 
@@ -207,7 +204,7 @@ module _ (r : Request) (xs : List ℕ) where
   -- the counts in the events, by the answer
   pub record Counted (p : Phase) (c : Counts) (es : List ℕ) : Type 0 where
     pub polls : c .polls ≡ pollsIn false es
-    pub odd : oddAt p r c ≡ oddIn false es
+    pub odd : oddAt p r c ≡ inPolls false es
     pub clocks : over p ≡ false → clocksIn es ≡ clocksAt p r c
     pub ends : over p ≡ false → length es ≡ clocksAt p r c + endsAt p r c
 

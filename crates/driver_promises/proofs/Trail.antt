@@ -22,11 +22,11 @@ use Rattle.driver.specs.declared.Counts.{Counts}
 use Rattle.driver.specs.declared.Move.{Move}
 use Rattle.driver.specs.Split.{sum}
 use Rattle.driver.specs.Request.{allowedOf}
-use Rattle.driver.specs.Step.{wireOf, slotByteOf, bitOf, lastAddressOf, refusalOf, withByte, withNext}
+use Rattle.driver.specs.Step.{wireOf, slotByteOf, bitOf, lastAddressOf, refusalOf, withByte, withNext, pageAt}
 use Rattle.driver_promises.specs.Run.{sentBy}
 use Rattle.driver_promises.specs.Plan.{thenStart, thenStop, thenBits, thenByte, thenPolls, thenData, thenTaken, selectOf, addressAt, thenSelect, thenHigh, thenHead, lengthOf, thenPart, thenParts, partsEndOf, readPlan}
 use Rattle.driver_promises.specs.Heard.{PollsMissed, HighAcked, HeadAcked, FilledAcked, PartTold, ReadTold, TurnAcked}
-use Rattle.driver_promises.specs.Where.{leftOf, Within, Parts, Before, pageOf, RefusedByte, the-select, the-first, the-only, the-second, the-turn, the-data, the-poll, Stopped}
+use Rattle.driver_promises.specs.Where.{leftOf, Within, Parts, Before, RefusedByte, the-select, the-first, the-only, the-second, the-turn, the-data, the-poll, Stopped}
 use Rattle.driver_promises.proofs.View.{at, clockOf, leads, missedAt, Way, w-done, w-open, w-bit, w-ninth, w-got, w-nack, w-high, w-only, w-low, w-turn, w-data, w-more, w-close, w-drop, w-poll, w-again, w-give, w-page, w-take, w-next, w-end, w-over}
 use Rattle.driver_promises.proofs.Inv.{wide, stop, left-cut, Closed, After, Inv, taken-elim}
 use Rattle.driver_promises.proofs.Levels.{longer, missed-more, acked-now, missed-now, before-more, byte-more, ToldFar, in-more, filled-next, missed-next, told-more}
@@ -228,7 +228,7 @@ module _ (r : Request) where
   lead-byte High c xs ls past e v h = (_, _, the-first (v .here .1) h, refl)
   lead-byte Low c xs ls past e v h = last (wide r) refl h
     where
-      last : (w : Bool) → wide r ≡ w → HighAcked ls r w past (c .seen) → (v : ℕ) × (bef : List ℕ) × RefusedByte r xs ls past (c .seen) (lastAddressOf w (pageOf r (c .seen))) v bef × (thenByte (thenHigh r w past (c .seen)) (addressAt r (c .seen) % 256) 1 ≡ thenByte bef v 1)
+      last : (w : Bool) → wide r ≡ w → HighAcked ls r w past (c .seen) → (v : ℕ) × (bef : List ℕ) × RefusedByte r xs ls past (c .seen) (lastAddressOf w (pageAt r (c .seen))) v bef × (thenByte (thenHigh r w past (c .seen)) (addressAt r (c .seen) % 256) 1 ≡ thenByte bef v 1)
       last true k h = (_, _, the-second k h, refl)
       last false k h = (_, _, the-only k h, refl)
   lead-byte Data c xs ls past e v h = absurd (false≢true e)

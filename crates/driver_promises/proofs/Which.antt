@@ -31,12 +31,13 @@ use Rattle.driver.specs.Machine.{ourDriver}
 use Rattle.driver_promises.specs.Run.{pollsIn, addressBytes, boundOf}
 use Rattle.driver_promises.specs.Plan.{thenStart, thenStop, thenBits, thenByte, thenPolls, thenData, addressAt, selectOf, thenSelect, thenHigh, thenHead, lengthOf, thenPart, thenParts, readPlan}
 use Rattle.driver_promises.specs.Heard.{Acked, Missed}
-use Rattle.driver_promises.specs.Where.{Before, pageOf, RefusedByte, the-select, the-first, the-only, the-second, the-turn, the-data, the-poll}
+use Rattle.driver_promises.specs.Where.{Before, RefusedByte, the-select, the-first, the-only, the-second, the-turn, the-data, the-poll}
 use Rattle.driver_promises.specs.Promises.{Accepted, sent, answers}
 use Rattle.driver_promises.specs.Listens.{Ear, silence, hears, earOf}
 use Rattle.driver_promises.specs.Which.{untilLast, clocksSince, inPolls, Names, RefusedSays, NotSecond, OneAddressByte, failing, FaultyLine}
 use Rattle.driver_promises.proofs.Inv.{wide}
 use Rattle.driver_promises.proofs.Grow.{A, bit-lt, two-bytes, one-byte}
+use Rattle.driver_promises.proofs.Story.{odd-more}
 use Rattle.driver_promises.proofs.Promises.{promises}
 use Rattle.driver_promises.proofs.Pinned.{Out, endsRefused, lastBy, headOut, out, select-no, high-no, last-no, head-out, whole, ends-as}
 
@@ -73,12 +74,8 @@ since-data es xs o zero = omega arith
 since-data es xs o (suc m) = omega (arith, since-byte (thenData es xs o m) (getD xs (o + m) 0), since-data es xs o m)
 
 -- ---- Stops: only they move it
-in-app : (b : Bool) (es fs : List ℕ) → inPolls b (es ++ fs) ≡ inPolls (inPolls b es) fs
-in-app b [] fs = refl
-in-app b (e ∷ es) fs = in-app (cond (eqb e 3) (not b) b) es fs
-
 in-more : (b : Bool) (es : List ℕ) (e : ℕ) → eqb e 3 ≡ false → inPolls b (es ++ (e ∷ [])) ≡ inPolls b es
-in-more b es e h = in-app b es (e ∷ []) ∙ ap (λ (t : Bool). cond t (not (inPolls b es)) (inPolls b es)) h
+in-more b es e h = odd-more b es e ∙ ap (λ (t : Bool). cond t (not (inPolls b es)) (inPolls b es)) h
 
 in-bits : (b : Bool) (es : List ℕ) (v n : ℕ) → inPolls b (thenBits es v n) ≡ inPolls b es
 in-bits b es v zero = refl
@@ -91,7 +88,7 @@ in-start : (b : Bool) (es : List ℕ) → inPolls b (thenStart es) ≡ inPolls b
 in-start b es = in-more b es 2 refl
 
 in-stop : (b : Bool) (es : List ℕ) → inPolls b (thenStop es) ≡ not (inPolls b es)
-in-stop b es = in-app b es (3 ∷ [])
+in-stop b es = odd-more b es 3
 
 in-data : (b : Bool) (es xs : List ℕ) (o m : ℕ) → inPolls b (thenData es xs o m) ≡ inPolls b es
 in-data b es xs o zero = refl
@@ -256,7 +253,7 @@ module _ (d : Driver) (level : ℕ) where
   over-kept : (f : Failed) → factsOf (d .request .part) .wide ≡ false → Kept (overOf (d .request) (d .counts) f)
   over-kept AtSelect w e = omega arith
   over-kept AtHigh w e = omega arith
-  over-kept AtLow w e = subst (λ (b : Bool). numberOf (lastAddressOf b (pageAt (d .request) (d .counts))) ≡ 15 → ⊥) (sym w) (λ k. omega arith) e
+  over-kept AtLow w e = subst (λ (b : Bool). numberOf (lastAddressOf b (pageAt (d .request) (d .counts .seen))) ≡ 15 → ⊥) (sym w) (λ k. omega arith) e
   over-kept AtData w e = omega arith
   over-kept AtPolls w e = omega arith
 
@@ -316,12 +313,12 @@ module _ (r : Request) (xs : List ℕ) (a : Accepted r xs) (h : 0 < r .length) (
   stops-select : NoStops (thenSelect r [] 0)
   stops-select = stops-byte (thenStart []) (selectOf r 0) (refl, tt)
 
-  first-fails : (w : Bool) → wide r ≡ w → answers ourDriver r xs (failing 19 n) l ≡ Refused (NoFirst (pageOf r 0)) 0 0
+  first-fails : (w : Bool) → wide r ≡ w → answers ourDriver r xs (failing 19 n) l ≡ Refused (NoFirst (pageAt r 0)) 0 0
   first-fails true e =
-      answer-is 19 (NoFirst (pageOf r 0)) (thenHigh r true [] 0) (λ on. high-no r xs (failing 19 n) (wide r) [] 0 _ e (failing-acked 19 n 10 (omega arith)) (failing-missed 19 n some))
+      answer-is 19 (NoFirst (pageAt r 0)) (thenHigh r true [] 0) (λ on. high-no r xs (failing 19 n) (wide r) [] 0 _ e (failing-acked 19 n 10 (omega arith)) (failing-missed 19 n some))
       (stops-byte (thenSelect r [] 0) (addressAt r 0 / 256 % 256) stops-select)
   first-fails false e =
-      answer-is 19 (NoFirst (pageOf r 0)) (lastBy r xs (failing 19 n) false [] 0) (λ on. last-no r xs (failing 19 n) false [] 0 _ e (failing-acked 19 n 10 (omega arith)) (failing-missed 19 n some))
+      answer-is 19 (NoFirst (pageAt r 0)) (lastBy r xs (failing 19 n) false [] 0) (λ on. last-no r xs (failing 19 n) false [] 0 _ e (failing-acked 19 n 10 (omega arith)) (failing-missed 19 n some))
       (stops-byte (thenSelect r [] 0) (addressAt r 0 % 256) stops-select)
 
 pub faulty-line : FaultyLine ourDriver
@@ -329,10 +326,10 @@ faulty-line r xs a h n l b =
     let s = some r xs a h n l b in
     let z = stops-select r xs a h n l b in
     record {
-      select = answer-is r xs a h n l b 10 (NoSelect (pageOf r 0)) (thenSelect r [] 0) (λ on. select-no r xs (failing 10 n) (wide r) [] 0 _ (failing-missed 10 n s)) z;
+      select = answer-is r xs a h n l b 10 (NoSelect (pageAt r 0)) (thenSelect r [] 0) (λ on. select-no r xs (failing 10 n) (wide r) [] 0 _ (failing-missed 10 n s)) z;
       first = first-fails r xs a h n l b (wide r) refl;
       second = λ e.
-          answer-is r xs a h n l b 28 (NoSecond (pageOf r 0)) (lastBy r xs (failing 28 n) true [] 0)
+          answer-is r xs a h n l b 28 (NoSecond (pageAt r 0)) (lastBy r xs (failing 28 n) true [] 0)
           (λ on. last-no r xs (failing 28 n) true [] 0 _ e (failing-acked 28 n 10 (omega arith), failing-acked 28 n 19 (omega arith)) (failing-missed 28 n s))
           (stops-byte (thenHigh r true [] 0) (addressAt r 0 % 256) (stops-byte (thenSelect r [] 0) (addressAt r 0 / 256 % 256) z));
     }

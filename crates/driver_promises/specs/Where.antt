@@ -12,6 +12,7 @@ use Rattle.parts.specs.Table.{factsOf}
 use Rattle.driver.specs.declared.Request.{Request}
 use Rattle.driver.specs.Split.{sum, pagesMetOf}
 use Rattle.driver.specs.Request.{allowedOf, kOf}
+use Rattle.driver.specs.Step.{pageAt}
 use Rattle.driver_promises.specs.Plan.{thenStart, thenStop, thenByte, thenPolls, thenData, addressAt, selectOf, thenSelect, thenHigh, thenHead, lengthOf, thenParts, partsEndOf, readPlan}
 use Rattle.driver_promises.specs.Heard.{Acked, Missed, PollsMissed, HighAcked, HeadAcked, FilledAcked, PartsTold, ReadTold}
 
@@ -39,22 +40,18 @@ abbrev pub Before : Bool → Request → List ℕ → List ℕ → ℕ → ℕ �
 Before true r xs ls bytes polls es = (es ≡ cond (eqb bytes 0) [] (readPlan r)) × (0 < bytes → ReadTold ls r)
 Before false r xs ls bytes polls es = Parts r xs ls bytes polls es
 
--- "the page of the transfer's address", of the part that begins with byte number o, or of the read: pages are counted from 0
-abbrev pub pageOf : Request → ℕ → ℕ
-pageOf r o = addressAt r o / factsOf (r .part) .page
-
 -- a byte that a refusal can stand at, its number with its page or index, the byte, the events before it, and that of the part everything
 -- before it was acknowledged; `past` went before the part that begins with byte m
 pub data RefusedByte (r : Request) (xs ls : List ℕ) (past : List ℕ) (m : ℕ) : Refusal → ℕ → List ℕ → Type 0 where
   -- "9 is the select only"
-  the-select : RefusedByte r xs ls past m (NoSelect (pageOf r m)) (selectOf r m) (thenStart past)
+  the-select : RefusedByte r xs ls past m (NoSelect (pageAt r m)) (selectOf r m) (thenStart past)
   -- "14 first address byte": of two, or the only one
-  the-first : factsOf (r .part) .wide ≡ true → Acked ls (thenSelect r past m) → RefusedByte r xs ls past m (NoFirst (pageOf r m)) (addressAt r m / 256 % 256) (thenSelect r past m)
-  the-only : factsOf (r .part) .wide ≡ false → Acked ls (thenSelect r past m) → RefusedByte r xs ls past m (NoFirst (pageOf r m)) (addressAt r m % 256) (thenSelect r past m)
+  the-first : factsOf (r .part) .wide ≡ true → Acked ls (thenSelect r past m) → RefusedByte r xs ls past m (NoFirst (pageAt r m)) (addressAt r m / 256 % 256) (thenSelect r past m)
+  the-only : factsOf (r .part) .wide ≡ false → Acked ls (thenSelect r past m) → RefusedByte r xs ls past m (NoFirst (pageAt r m)) (addressAt r m % 256) (thenSelect r past m)
   -- "15 second"
-  the-second : factsOf (r .part) .wide ≡ true → HighAcked ls r true past m → RefusedByte r xs ls past m (NoSecond (pageOf r m)) (addressAt r m % 256) (thenHigh r true past m)
+  the-second : factsOf (r .part) .wide ≡ true → HighAcked ls r true past m → RefusedByte r xs ls past m (NoSecond (pageAt r m)) (addressAt r m % 256) (thenHigh r true past m)
   -- the second select of a read is a select
-  the-turn : r .reads ≡ true → HeadAcked ls r past m → RefusedByte r xs ls past m (NoSelect (pageOf r m)) (selectOf r m + 1) (thenStart (thenHead r past m))
+  the-turn : r .reads ≡ true → HeadAcked ls r past m → RefusedByte r xs ls past m (NoSelect (pageAt r m)) (selectOf r m + 1) (thenStart (thenHead r past m))
   -- "Refusal 10 gains the data byte's index in the request": data byte number m + i
   the-data : (i : ℕ) → r .reads ≡ false → i < lengthOf r m → FilledAcked ls r past xs m i → RefusedByte r xs ls past m (NoData (m + i)) (getD xs (m + i) 0) (thenData (thenHead r past m) xs m i)
   -- the select of the last poll allowed: the polls before it were missed

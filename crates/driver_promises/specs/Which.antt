@@ -18,10 +18,10 @@ use Rattle.driver.specs.declared.Driver.{Driver}
 use Rattle.driver.specs.declared.Answer.{Answer}
 use Rattle.driver.specs.declared.Answer.the-variants.{Send, Done, Refused}
 use Rattle.driver.specs.Machine.{Machine}
+use Rattle.driver.specs.Step.{pageAt}
 use Rattle.driver_promises.specs.Run.{addressBytes, boundOf}
 use Rattle.driver_promises.specs.Plan.{thenStop}
 use Rattle.driver_promises.specs.Heard.{Missed}
-use Rattle.driver_promises.specs.Where.{pageOf}
 use Rattle.driver_promises.specs.Promises.{Accepted, sent, answers, Always, RefusedKept}
 use Rattle.driver_promises.specs.Listens.{silence, earOf}
 
@@ -43,10 +43,10 @@ inPolls odd (e ∷ es) = inPolls (cond (eqb e 3) (not odd) odd) es
 -- refused with f after m bytes; es: the events before the Stop that is sent first
 pub record Names (r : Request) (m : ℕ) (es : List ℕ) (f : Refusal) : Type 0 where
   -- the byte behind a Start, of a part, or either of a read
-  pub select : numberOf f ≡ 9 → (clocksSince es ≡ 9) × (spotOf f ≡ At (pageOf r m))
-  pub first : numberOf f ≡ 14 → (clocksSince es ≡ 18) × (spotOf f ≡ At (pageOf r m))
+  pub select : numberOf f ≡ 9 → (clocksSince es ≡ 9) × (spotOf f ≡ At (pageAt r m))
+  pub first : numberOf f ≡ 14 → (clocksSince es ≡ 18) × (spotOf f ≡ At (pageAt r m))
   -- parts 0 and 1 have no second one
-  pub second : numberOf f ≡ 15 → (clocksSince es ≡ 27) × (spotOf f ≡ At (pageOf r m)) × (factsOf (r .part) .wide ≡ true)
+  pub second : numberOf f ≡ 15 → (clocksSince es ≡ 27) × (spotOf f ≡ At (pageAt r m)) × (factsOf (r .part) .wide ≡ true)
   -- behind select and address, data byte i of the part, which begins with byte m of the request
   pub byte : numberOf f ≡ 10 → (i : ℕ) × (clocksSince es ≡ 9 * (1 + addressBytes r + i + 1)) × (spotOf f ≡ At (m + i))
   -- the select of a poll; and no other number stands there
@@ -84,9 +84,9 @@ abbrev pub failing : ℕ → ℕ → List ℕ
 failing k n = replicate k 0 ++ replicate n 1
 
 pub record Fails (M : Machine) (r : Request) (xs : List ℕ) (n l : ℕ) : Type 0 where
-  pub select : answers M r xs (failing 10 n) l ≡ Refused (NoSelect (pageOf r 0)) 0 0
-  pub first : answers M r xs (failing 19 n) l ≡ Refused (NoFirst (pageOf r 0)) 0 0
-  pub second : factsOf (r .part) .wide ≡ true → answers M r xs (failing 28 n) l ≡ Refused (NoSecond (pageOf r 0)) 0 0
+  pub select : answers M r xs (failing 10 n) l ≡ Refused (NoSelect (pageAt r 0)) 0 0
+  pub first : answers M r xs (failing 19 n) l ≡ Refused (NoFirst (pageAt r 0)) 0 0
+  pub second : factsOf (r .part) .wide ≡ true → answers M r xs (failing 28 n) l ≡ Refused (NoSecond (pageAt r 0)) 0 0
 
 abbrev pub FaultyLine : Machine → Type 0
 FaultyLine M = (r : Request) (xs : List ℕ) → Accepted r xs → 0 < r .length → (n l : ℕ) → boundOf r < n → Fails M r xs n l

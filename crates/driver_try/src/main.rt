@@ -310,28 +310,17 @@ fn endings() {
     step(b"third data byte", made(data, 3, 2, 1, 1), 5);
 }
 
-// Which byte goes unanswered, on a line that fails: number, page or index, polls and bytes.
-fn lost(label: &[u8], request: Request, low: usize) {
-    let mut buffer = [90u8; 128];
-    let n = request.length;
+fn fails(label: &[u8], request: Request, low: usize) {
     say(label);
     tell(low);
-    if n <= 128 {
-        let t = drive(request, low, &mut buffer[..n]);
-        say(b":");
-        tell(text::wide(t.number));
-        tell(t.place);
-        tell(t.polls);
-        tell(t.bytes);
-    }
-    say(b"\n");
+    run(b":", request, low);
 }
 
-// For each number of askings before it fails.
+// Which byte goes unanswered, on a line that fails after each number of askings.
 fn sweep(label: &[u8], request: Request, most: usize) {
     let mut low: usize = 0;
     while low < most {
-        lost(label, request, low);
+        fails(label, request, low);
         low += 1;
     }
 }

@@ -12,8 +12,8 @@ abbrev μ-loop : tie.MeasureT-loop
 loop-holds : tie.Need-loop-holds Inv-loop μ-loop
 loop-holds c = search needs
 
-lost-requires : tie.Need-lost-requires Inv-loop μ-loop
-lost-requires c κs = search needs
+fails-requires : tie.Need-fails-requires Inv-loop μ-loop
+fails-requires c κs = search needs
 
 add-low : tie.Need-add-low Inv-loop μ-loop
 add-low c = search needs
@@ -28,4 +28,4 @@ returns : tie.Need-returns Inv-loop μ-loop
 returns c = search needs
 
 pub sweep-spec : {M : Type 1} → statement M
-sweep-spec = tie.close (tie.spec Inv-loop μ-loop loop-holds lost-requires add-low loop-less loop-again returns)
+sweep-spec = tie.close (tie.spec Inv-loop μ-loop loop-holds fails-requires add-low loop-less loop-again returns)
