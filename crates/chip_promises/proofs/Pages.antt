@@ -20,7 +20,7 @@ use Rattle.parts.specs.Table.{factsOf, pagesOf}
 use Rattle.parts.specs.Events.{eventOf}
 use Rattle.parts.specs.Bytes.{flagOf, sameOf}
 use Rattle.parts.proofs.Laws.{branch}
-use Rattle.parts.proofs.Bytes.{flag-below}
+use Rattle.parts.proofs.Bytes.{flag-below, same-eq}
 use Rattle.chip.proofs.Laws.{entered-length}
 use Rattle.line.specs.declared.Pin.{Pin}
 use Rattle.line.specs.declared.Pin.the-variants.{Low, High, Floating}
@@ -251,21 +251,6 @@ calls-pages-from-delivery part en m xs e =
     calls-pages part en (standbyOf (factsOf part) false) (deliverOf part m .mem) xs (standby-free (factsOf part) false)
 
 -- ---- no page is left out
-
-same-eq : (xs ys : List ℕ) → sameOf xs ys ≡ true → xs ≡ ys
-unfolding sameOf
-same-eq [] [] e = refl
-same-eq [] (y ∷ ys) e = cc
-same-eq (x ∷ xs) [] e = cc
-same-eq (x ∷ xs) (y ∷ ys) e =
-    let h = and-both (eqb x y) (sameOf xs ys) e in
-    let t : xs ≡ ys = same-eq xs ys (h .1) in
-    let u : x ≡ y = eqb-true x y (h .0) in
-    cc
-  where
-    and-both : (a b : Bool) → (a && b) ≡ true → (a ≡ true) × (b ≡ true)
-    and-both true b e = (refl, e)
-    and-both false b e = (e, cc)
 
 count-zero : (p : ℕ → Bool) (n k : ℕ) → countOf p n ≡ 0 → k < n → flagOf (p k) ≡ 0
 unfolding countOf

@@ -13,7 +13,7 @@ use borrow.Author.Tests.{eq-eqb, eqb-true, ltb-true, lt-ltb, le-ltb}
 use Rattle.parts.specs.Table.{factsOf}
 use Rattle.parts.specs.Bytes.{flagOf, AllBelow}
 use Rattle.parts.proofs.Laws.{sound, branch}
-use Rattle.parts.proofs.Bytes.{flag-below, flag-back, flag-in, below-at}
+use Rattle.parts.proofs.Bytes.{flag-below, flag-back, flag-in, below-at, below-drop}
 use Rattle.parts.proofs.Tests.{both}
 use Rattle.line.specs.declared.Pin.{Pin}
 use Rattle.line.specs.declared.Pin.the-variants.{Absent, Low, High, Floating}
@@ -150,11 +150,6 @@ pairs-fit : (k : List ℕ) → AllBelow 65536 k → AllBelow 256 (pairsOf k)
 pairs-fit [] b = tt
 pairs-fit (x ∷ k) b = (omega (arith, b .0), (omega arith, pairs-fit k (b .1)))
 
-all-drop : (n i : ℕ) (l : List ℕ) → AllBelow n l → AllBelow n (drop i l)
-all-drop n zero l b = b
-all-drop n (suc i) [] b = tt
-all-drop n (suc i) (x ∷ l) b = all-drop n i l (b .1)
-
 nine : (l : List ℕ) → length l ≡ 137
     → getD l 0 0 ∷ getD l 1 0 ∷ getD l 2 0 ∷ getD l 3 0 ∷ getD l 4 0 ∷ getD l 5 0 ∷ getD l 6 0 ∷ getD l 7 0 ∷ getD l 8 0 ∷ drop 9 l ≡ l
 nine l h =
@@ -220,7 +215,7 @@ module _ (l : List ℕ) (b : AllBelow 256 l) (h : holdsChipOf l ≡ true) where
         left = below-at l b 7;
         shift = below-at l b 8;
         latches = rw (row-length, rest-length) refl;
-        latch = row-fits (drop 9 l) (all-drop 256 9 l b);
+        latch = row-fits (drop 9 l) (below-drop 256 9 l b);
       }
 
   again : packedChipOf (record { line = lineIn l; latch = pairsIn (drop 9 l) }) ≡ l
@@ -230,7 +225,7 @@ module _ (l : List ℕ) (b : AllBelow 256 l) (h : holdsChipOf l ≡ true) where
       let first : pairJoinedOf (getD l 0 0) (getD l 1 0) / 256 ≡ getD l 0 0 = omega arith in
       let second : pairJoinedOf (getD l 0 0) (getD l 1 0) % 256 ≡ getD l 1 0 = omega arith in
       let even : length (drop 9 l) % 2 ≡ 0 = rw rest-length refl in
-      rw (first, second, pin-again (getD l 2 0) (codes .pin-low), flag-in (getD l 3 0) (codes .inhibited-low), flag-in (getD l 4 0) (codes .locked-low), code-again (getD l 5 0) (getD l 6 0) (codes .code-low), high-again (getD l 5 0) (getD l 6 0) (codes .code-low) (codes .high-kept), pairs-of-row (drop 9 l) (all-drop 256 9 l b) even)
+      rw (first, second, pin-again (getD l 2 0) (codes .pin-low), flag-in (getD l 3 0) (codes .inhibited-low), flag-in (getD l 4 0) (codes .locked-low), code-again (getD l 5 0) (getD l 6 0) (codes .code-low), high-again (getD l 5 0) (getD l 6 0) (codes .code-low) (codes .high-kept), pairs-of-row (drop 9 l) (below-drop 256 9 l b) even)
       (nine l (holds-long l h))
 
 pub chip-unpacks-back : ChipUnpacksBack packedChipOf unpackedChipOf

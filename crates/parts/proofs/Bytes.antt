@@ -3,13 +3,15 @@
 use Prim.Native.Nat.{ℕ, zero, suc, _≤_, _<_}
 use mathlib.Core.Path.{_≡_, _∙_, refl}
 use mathlib.Core.Bool.{Bool, true, false}
-use mathlib.Core.List.{List, [], _∷_, append-nil}
+use mathlib.Core.List.{List, [], _∷_, _++_, append-nil}
 use native.Mathlib.Nat.{zero-add}
 use native.Mathlib.Omega.{arith}
-use lib.ListN.{length, getD, drop-of-length-le}
+use lib.ListN.{length, getD, take, drop, drop-of-length-le}
 use lib.Seq.{sets, sets-eq}
 use lib.Dec.{eqb}
-use Rattle.parts.specs.Bytes.{flagOf, AllBelow}
+use borrow.Author.Tests.{eqb-true}
+use Rattle.parts.specs.Bytes.{flagOf, AllBelow, sameOf}
+use Rattle.parts.proofs.Tests.{and-both}
 
 pub flag-below : (b : Bool) → flagOf b < 2
 flag-below false = omega arith
@@ -33,6 +35,31 @@ below-at (x ∷ l) h (suc i) = below-at l (h .1) i
 pub below-all : (l : List ℕ) → ((i : ℕ) → getD l i 0 < 256) → AllBelow 256 l
 below-all [] h = tt
 below-all (x ∷ l) h = (h 0, below-all l (λ i. h (suc i)))
+
+pub below-append : (n : ℕ) (k l : List ℕ) → AllBelow n k → AllBelow n l → AllBelow n (k ++ l)
+below-append n [] l h g = g
+below-append n (x ∷ k) l h g = (h .0, below-append n k l (h .1) g)
+
+pub below-take : (n i : ℕ) (l : List ℕ) → AllBelow n l → AllBelow n (take i l)
+below-take n zero l h = tt
+below-take n (suc i) [] h = tt
+below-take n (suc i) (x ∷ l) h = (h .0, below-take n i l (h .1))
+
+pub below-drop : (n i : ℕ) (l : List ℕ) → AllBelow n l → AllBelow n (drop i l)
+below-drop n zero l h = h
+below-drop n (suc i) [] h = tt
+below-drop n (suc i) (x ∷ l) h = below-drop n i l (h .1)
+
+pub same-eq : (k l : List ℕ) → sameOf k l ≡ true → k ≡ l
+unfolding sameOf
+same-eq [] [] h = refl
+same-eq [] (y ∷ l) h = cc
+same-eq (x ∷ k) [] h = cc
+same-eq (x ∷ k) (y ∷ l) h =
+    let w = and-both (eqb x y) (sameOf k l) h in
+    let t : k ≡ l = same-eq k l (w .1) in
+    let u : x ≡ y = eqb-true x y (w .0) in
+    cc
 
 -- a list stored over the whole of another
 pub sets-whole : (k s : List ℕ) → length k ≡ length s → sets k 0 s ≡ s

@@ -265,9 +265,15 @@ pub enum Refusal {
     // The first address byte, and the second, each with the page.
     NoFirst(usize),
     NoSecond(usize),
+    // Of an Intel HEX file, each with the line, counted from 1: a malformed record, a wrong sum, overlap or beyond the array, no end record or
+    // text after it.
+    BadRecord(usize),
+    BadSum(usize),
+    Misplaced(usize),
+    NoEnd(usize),
 }
 
-// The place that a refusal tells: of 5 the event's, of 9, 14 and 15 the page, of 10 the data byte's.
+// The place that a refusal tells: of 5 the event's, of 9, 14 and 15 the page, of 10 the data byte's, of 16 to 19 the line.
 pub enum Spot {
     Nowhere,
     At(usize),
@@ -296,6 +302,10 @@ fn entry_of(r: Refusal) -> Entry
         Refusal::TooMany => Entry(13, 4513, Spot::Nowhere),
         Refusal::NoFirst(p) => Entry(14, 14014, Spot::At(p)),
         Refusal::NoSecond(p) => Entry(15, 15015, Spot::At(p)),
+        Refusal::BadRecord(n) => Entry(16, 16016, Spot::At(n)),
+        Refusal::BadSum(n) => Entry(17, 17017, Spot::At(n)),
+        Refusal::Misplaced(n) => Entry(18, 18018, Spot::At(n)),
+        Refusal::NoEnd(n) => Entry(19, 19019, Spot::At(n)),
     }
 }
 

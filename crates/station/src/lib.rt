@@ -1,6 +1,5 @@
 // One write or read at a bench, as the words of a command line ask for it: driver and model together, on a chip as delivered or
 // on a stored one.
-mod files;
 mod show;
 
 ghost use mathlib.Core.Path.{_≡_};
@@ -31,15 +30,9 @@ struct Ended {
 
 // ---- the chip before the run, held as its bytes
 
-fn delivered(part: u8, held: &mut [u8], array: &mut [u8], id: &mut [u8]) -> Verdict {
-    let d = chip::deliver(part, array, id);
-    pack_chip::pack(d.chip, held);
-    d.verdict
-}
-
 fn at_first(job: Job, held: &mut [u8], array: &mut [u8], id: &mut [u8]) -> Ready {
     if job.image == 0 {
-        return Ready::Judged(delivered(job.part, held, array, id));
+        return Ready::Judged(files::delivered(job.part, held, array, id));
     }
     files::fetched(job.image, job.part, job.own, held, array, id)
 }

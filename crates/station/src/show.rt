@@ -1,45 +1,17 @@
-// What a run is answered with: plain lines on standard output that other tools can read. Each function is told whether the lines
-// before it were written, and says so of its own: what standard output does not take is said once, and nothing follows.
+// What a run is answered with. Each function is told whether the lines before it were written, and says so of its own.
 use parts::Refusal;
 use parts::Verdict;
+use words::answer;
+use words::answer::bytes;
+use words::answer::count;
+use words::answer::number;
+use words::answer::say;
 
 // Where the bytes of a request lie: the bytes of a page, which of the two memories, and the first place.
 pub struct Ground {
     pub page: usize,
     pub ident: bool,
     pub from: usize,
-}
-
-fn written(done: bool) -> bool {
-    if !done {
-        os::fail(b"sapwoodle: standard output");
-    }
-    done
-}
-
-pub fn say(ok: bool, text: &[u8]) -> bool {
-    if !ok {
-        return false;
-    }
-    written(text::say(text))
-}
-
-fn number(ok: bool, n: usize) -> bool {
-    let mut text = [0u8; 20];
-    let k = io::decimal(n as u64, &mut text);
-    say(ok, &text[..k])
-}
-
-pub fn count(ok: bool, name: &[u8], n: usize) -> bool {
-    let named = say(ok, name);
-    let told = number(named, n);
-    say(told, b"\n")
-}
-
-fn bytes(ok: bool, n: usize, asked: usize) -> bool {
-    let named = say(ok, b"bytes ");
-    let told = number(named, n);
-    count(told, b" of ", asked)
 }
 
 // ---- what was refused
@@ -102,7 +74,7 @@ fn advised(ok: bool, r: Refusal) -> bool {
     if !named {
         return false;
     }
-    let told = written(words::say_advice(r));
+    let told = answer::written(words::say_advice(r));
     say(told, b"\n")
 }
 
@@ -122,11 +94,12 @@ fn lost_data(g: Ground, i: usize, r: Refusal) -> bool {
     advised(all, r)
 }
 
-// What a call is refused for, and which byte ended a run that has begun; the others cannot come of a command.
+// What a call is refused for, and which byte ended a run that has begun. Of a HEX file standard error has the reason; the others cannot
+// come of a command.
 fn reason(g: Ground, r: Refusal) -> bool {
     let k = parts::verdict_place(Verdict::Refused(r));
     match r {
-        Refusal::NoPart => say(true, b"there is no such part\n"),
+        Refusal::NoPart => answer::no_part(true),
         Refusal::WrongEnable => say(true, b"this part is never at this enable\n"),
         Refusal::BadEvent(_) => say(true, b"this part has no Write Control pin\n"),
         Refusal::Beyond => say(
@@ -142,17 +115,20 @@ fn reason(g: Ground, r: Refusal) -> bool {
         Refusal::NoSecond(_) => lost(g, b"second address byte", k, r),
         Refusal::NoData(_) => lost_data(g, k, r),
         Refusal::PollsUsed => advised(say(true, b"polls used up"), r),
-        Refusal::BadImage => say(true, b"the file is no image of its part\n"),
+        Refusal::BadImage => answer::no_image(true),
         Refusal::WrongBuffer => true,
         Refusal::BadState => true,
         Refusal::ShortBuffer => true,
         Refusal::TooMany => true,
+        Refusal::BadRecord(_) => true,
+        Refusal::BadSum(_) => true,
+        Refusal::Misplaced(_) => true,
+        Refusal::NoEnd(_) => true,
     }
 }
 
 pub fn refused(g: Ground, r: Refusal) -> bool {
-    let number = parts::number(r);
-    if count(true, b"refused ", text::wide(number)) {
+    if answer::refused(r) {
         return reason(g, r);
     }
     false

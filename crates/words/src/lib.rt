@@ -1,5 +1,7 @@
 // The words of a command line, made into a job. What is wrong with a word is said on standard error at once. And the words that more than
 // one command answers with.
+pub mod answer;
+
 use libc::STDERR_FILENO;
 use libc::STDIN_FILENO;
 use parts::Refusal;
@@ -74,6 +76,9 @@ const LONG: usize = 15;
 
 const MISSING: usize = 16;
 
+// The word behind `hex`.
+const HEX: usize = 17;
+
 const NONE: usize = 255;
 
 // ---- complaints
@@ -84,7 +89,7 @@ fn tell(text: &[u8]) {
 
 fn usage() {
     tell(
-        b"usage: sapwoodle write PART ENABLE ADDRESS HEXBYTES [option ..]    HEXBYTES - : the bytes from standard input\n       sapwoodle read PART ENABLE ADDRESS LENGTH [option ..]\n       sapwoodle bench [PART [--enable N]]\noptions: --ident --events --budget N --ends-at D --pin high|low|floating --chip-enable N --image FILE --save FILE\n",
+        b"usage: sapwoodle write PART ENABLE ADDRESS HEXBYTES [option ..]    HEXBYTES - : the bytes from standard input\n       sapwoodle read PART ENABLE ADDRESS LENGTH [option ..]\n       sapwoodle bench [PART [--enable N]]\n       sapwoodle hex check PART FILE\n       sapwoodle hex image PART FILE --save FILE\n       sapwoodle hex text IMAGE\noptions: --ident --events --budget N --ends-at D --pin high|low|floating --chip-enable N --image FILE --save FILE\n--image takes an EPR image or an Intel HEX file; a file that is read can be - : standard input\n",
     );
 }
 
@@ -92,10 +97,12 @@ fn reason(kind: usize) {
     match kind {
         PART => tell(b"is no part: a digit, or a name such as M24C64-D\n"),
         PIN => tell(b"is none of high, low, floating, for --pin\n"),
+        SAVE => tell(b"is not --save, and hex image wants --save FILE\n"),
         OPTION => tell(b"is no option, or one too many\n"),
         BYTES => tell(b"is no row of bytes: two hexadecimal digits a byte, or -\n"),
         LONG => tell(b"is too long\n"),
         MISSING => tell(b"is missing\n"),
+        HEX => tell(b"is none of check, image, text, for hex\n"),
         _ => tell(b"is no number, decimal or 0x\n"),
     }
 }
@@ -317,10 +324,25 @@ fn parsed_at(i: usize, kind: usize) -> Number {
     parsed(&word[..n], kind)
 }
 
+// Whether word i is this one.
+pub fn is(i: usize, this: &[u8]) -> bool {
+    let mut word = io::buffer();
+    let n = os::arg(i, &mut word);
+    same(&word[..n], this)
+}
+
+// Whether a word stands for standard input; 0, which names no word, does not.
+pub fn is_input(i: usize) -> bool {
+    if i == 0 {
+        return false;
+    }
+    is(i, b"-")
+}
+
 // ---- reading the words
 
 // The limit is for the proof alone.
-fn after(i: usize) -> usize {
+pub fn after(i: usize) -> usize {
     if i < 1000 { i + 1 } else { i }
 }
 
@@ -400,15 +422,19 @@ fn take_some(read: Read) -> Read {
     take_option(three)
 }
 
-// There are eight options: more words than that repeat one.
-fn take_options(read: Read) -> Read {
-    let all = take_some(take_some(read));
-    if all.ok {
-        if all.next < all.end {
-            return bad(all, OPTION);
+// No word is left over.
+fn ended(read: Read) -> Read {
+    if read.ok {
+        if read.next < read.end {
+            return bad(read, OPTION);
         }
     }
-    all
+    read
+}
+
+// There are eight options: more words than that repeat one.
+fn take_options(read: Read) -> Read {
+    ended(take_some(take_some(read)))
 }
 
 // Nothing is said yet; the words go from `next` to before `end`.
@@ -459,13 +485,27 @@ fn job_of(read: Read, reads: bool) -> Job {
     }
 }
 
+// Standard input is read once: for the bytes of a write, or for its image.
+fn once(job: Job) -> Job {
+    if !is_input(job.bytes) {
+        return job;
+    }
+    if job.ok {
+        if is_input(job.image) {
+            tell(b"sapwoodle: only one of HEXBYTES and --image can be standard input\n");
+            return Job { ok: false, ..job };
+        }
+    }
+    job
+}
+
 // `PART ENABLE ADDRESS LENGTH` of a read, `PART ENABLE ADDRESS HEXBYTES` of a write, and options.
 pub fn asked(reads: bool, next: usize, end: usize) -> Job {
     let last = after(after(after(next)));
     if end <= last {
         return job_of(bad(start(end, end), MISSING), reads);
     }
-    job_of(take_all(start(next, end), reads), reads)
+    once(job_of(take_all(start(next, end), reads), reads))
 }
 
 // The enable of `PART [--enable N]`, behind the part.
@@ -485,6 +525,53 @@ fn take_enable(read: Read) -> Read {
 
 pub fn bench_asked(next: usize, end: usize) -> Job {
     job_of(take_enable(take(start(next, end), PART)), false)
+}
+
+// The file that is read; what was wrong before it is said already.
+fn take_read(read: Read) -> Read {
+    if read.ok {
+        return take_file(read, IMAGE);
+    }
+    read
+}
+
+// `--save FILE`
+fn take_saved(read: Read) -> Read {
+    if !read.ok {
+        return read;
+    }
+    if read.next < read.end {
+        let kind = parsed_at(read.next, OPTION);
+        if kind.n == SAVE {
+            return take_file(passed(read), SAVE);
+        }
+    }
+    bad(read, SAVE)
+}
+
+// `PART FILE` of hex check, `PART FILE --save FILE` of hex image.
+pub fn hex_asked(saves: bool, next: usize, end: usize) -> Job {
+    if end <= next {
+        return job_of(bad(start(end, end), MISSING), true);
+    }
+    let read = take_read(take(start(next, end), PART));
+    if saves {
+        return job_of(ended(take_saved(read)), true);
+    }
+    job_of(ended(read), true)
+}
+
+// `IMAGE` of hex text.
+pub fn text_asked(next: usize, end: usize) -> Job {
+    job_of(ended(take_read(start(next, end))), true)
+}
+
+// The word behind `hex` is missing, or none that it knows.
+pub fn complain_hex(next: usize, end: usize) {
+    if next < end {
+        return complain(next, HEX);
+    }
+    complain(end, MISSING);
 }
 
 // ---- the bytes of a write

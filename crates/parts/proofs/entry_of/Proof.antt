@@ -47,6 +47,18 @@ enum-known-r-4 c = search needs
 enum-known-r-5 : tie.Need-enum-known-r-5
 enum-known-r-5 c = search needs
 
+enum-known-r-6 : tie.Need-enum-known-r-6
+enum-known-r-6 c = search needs
+
+enum-known-r-7 : tie.Need-enum-known-r-7
+enum-known-r-7 c = search needs
+
+enum-known-r-8 : tie.Need-enum-known-r-8
+enum-known-r-8 c = search needs
+
+enum-known-r-9 : tie.Need-enum-known-r-9
+enum-known-r-9 c = search needs
+
 returns : tie.Need-returns
 returns c = simp (c .enum-told .given .1)
 
@@ -92,6 +104,18 @@ returns-14 c = simp (c .before .r4 .given .1)
 returns-15 : tie.Need-returns-15
 returns-15 c = simp (c .before .r5 .given .1)
 
+returns-16 : tie.Need-returns-16
+returns-16 c = simp (c .before .r6 .given .1)
+
+returns-17 : tie.Need-returns-17
+returns-17 c = simp (c .before .r7 .given .1)
+
+returns-18 : tie.Need-returns-18
+returns-18 c = simp (c .before .r8 .given .1)
+
+returns-19 : tie.Need-returns-19
+returns-19 c = simp (c .before .r9 .given .1)
+
 pub entry-of-spec : {M : Type 1} → statement M
 entry-of-spec =
     tie.close
@@ -111,6 +135,10 @@ entry-of-spec =
     enum-told-10
     enum-known-r-4
     enum-known-r-5
+    enum-known-r-6
+    enum-known-r-7
+    enum-known-r-8
+    enum-known-r-9
     returns
     returns-2
     returns-3
@@ -125,4 +153,8 @@ entry-of-spec =
     returns-12
     returns-13
     returns-14
-    returns-15)
+    returns-15
+    returns-16
+    returns-17
+    returns-18
+    returns-19)

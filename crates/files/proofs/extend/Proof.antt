@@ -2,8 +2,8 @@ use mathlib.Core.Path.{_≡_}
 use Prim.Native.Nat.{_≤_, _-_}
 use lib.ListN.{length}
 use borrow.Author.Needs.{needs}
-use Rattle.station.proofs.files.extend.Statement.{statement}
-use Rattle.station.proofs.files.extend.Tie as tie
+use Rattle.files.proofs.extend.Statement.{statement}
+use Rattle.files.proofs.extend.Tie as tie
 
 abbrev Inv-loop : tie.InvT-loop
 Inv-loop to₀ n from at₀ i₀ to at i = (i ≤ length from) × (length to ≡ length to₀)

@@ -1,0 +1,348 @@
+// Stored chips: an image or an Intel HEX file that is read, and an image written into a file that is there whole or not at all. A chip is
+// held as its bytes.
+mod why;
+
+ghost use mathlib.Core.Path.{_≡_};
+ghost use lib.ListN.{length};
+use hexfile::HexRead;
+use libc::STDERR_FILENO;
+use libc::STDIN_FILENO;
+use parts::Refusal;
+use parts::Verdict;
+use words::Number;
+
+// What became of a chip before its run: it was judged, or standard error has the reason.
+pub enum Ready {
+    Told,
+    Judged(Verdict),
+}
+
+// What became of a HEX file; of one that was read and refused, standard error has the reason too.
+pub enum HexReady {
+    Told,
+    Read(HexRead),
+}
+
+// The most bytes of a file that is read: a HEX file with a record a byte has half as many.
+const MOST: usize = 1048576;
+
+// ---- the bytes of a file
+
+// Room for one byte more, so that a longer file is seen to be too long.
+pub fn room() -> [u8; 1048577]
+    ensures { λ r. ⌜ 1048577 ≡ length r ⌝ }
+{
+    [0; 1048577]
+}
+
+fn complain(name: &[u8], what: &[u8]) {
+    io::write_all(STDERR_FILENO, b"sapwoodle: ");
+    io::write_all(STDERR_FILENO, name);
+    io::write_all(STDERR_FILENO, what);
+}
+
+fn read_from(fd: i32, name: &[u8], to: &mut [u8]) -> Number {
+    let got = words::read_all(fd, to);
+    if !got.ok {
+        complain(name, b" cannot be read\n");
+    }
+    got
+}
+
+fn read_named(name: &[u8], to: &mut [u8]) -> Number {
+    let fd = os::open_read(name);
+    if fd < 0 {
+        io::write_all(STDERR_FILENO, b"sapwoodle: ");
+        os::fail(name);
+        return Number { ok: false, n: 0 };
+    }
+    let got = read_from(fd, name, to);
+    libc::close(fd);
+    got
+}
+
+// All that the file has which a word names, into a buffer that `room` made; of a longer one as much as there is room for.
+pub fn contents(word: usize, to: &mut [u8]) -> Number {
+    if words::is_input(word) {
+        return read_from(STDIN_FILENO, b"standard input", to);
+    }
+    let mut name = io::buffer();
+    let n = os::arg(word, &mut name);
+    read_named(&name[..n], to)
+}
+
+// ---- reading a HEX file
+
+pub fn is_hex(bytes: &[u8]) -> bool {
+    parts::byte_at(bytes, 0) == b':'
+}
+
+pub fn delivered(part: u8, held: &mut [u8], array: &mut [u8], id: &mut [u8]) -> Verdict {
+    let d = chip::deliver(part, array, id);
+    pack_chip::pack(d.chip, held);
+    d.verdict
+}
+
+// A HEX file that is too long is not looked at, and has no number: of a longer image the length is wrong.
+fn too_long(word: usize, n: usize) -> bool {
+    if n <= MOST {
+        return false;
+    }
+    io::write_all(STDERR_FILENO, b"sapwoodle: ");
+    why::name(word);
+    io::write_all(STDERR_FILENO, b" is longer than 1048576 bytes\n");
+    true
+}
+
+fn told(verdict: Verdict, word: usize, part: u8, text: &[u8]) {
+    match verdict {
+        Verdict::Fine => {}
+        Verdict::Refused(r) => why::tell(word, part, text, r),
+    }
+}
+
+// A chip as delivered with the array of a text.
+fn hex_chip(
+    word: usize,
+    part: u8,
+    text: &[u8],
+    held: &mut [u8],
+    array: &mut [u8],
+    id: &mut [u8],
+) -> HexRead {
+    delivered(part, held, array, id);
+    let read = hexfile::read(part, text, array);
+    let verdict = read.verdict;
+    told(verdict, word, part, text);
+    read
+}
+
+fn hex_from(
+    word: usize,
+    part: u8,
+    bytes: &mut [u8],
+    held: &mut [u8],
+    array: &mut [u8],
+    id: &mut [u8],
+) -> HexReady {
+    let got = contents(word, bytes);
+    let n = got.n;
+    if !got.ok {
+        return HexReady::Told;
+    }
+    if too_long(word, n) {
+        return HexReady::Told;
+    }
+    if n <= bytes.len() {
+        return HexReady::Read(hex_chip(word, part, &bytes[0..n], held, array, id));
+    }
+    HexReady::Told
+}
+
+// The chip that the HEX file named by a word has.
+pub fn hex_fetched(
+    word: usize,
+    part: u8,
+    held: &mut [u8],
+    array: &mut [u8],
+    id: &mut [u8],
+) -> HexReady {
+    let mut bytes = room();
+    hex_from(word, part, &mut bytes, held, array, id)
+}
+
+// ---- reading an image
+
+// Whether the bytes are a whole image of the part that they name, whatever part that is.
+fn is_image(part: u8, bytes: &[u8]) -> bool {
+    let mut array = [0u8; 32768];
+    let mut id = [0u8; 64];
+    let loaded = image::load(
+        bytes,
+        0,
+        fitted::array(part, &mut array),
+        fitted::id(part, &mut id),
+    );
+    let verdict = loaded.verdict;
+    parts::verdict_number(verdict) == 0
+}
+
+// An image of another part is not what was meant; anything else is no image.
+fn other(part: u8, bytes: &[u8]) -> Ready {
+    if is_image(part, bytes) {
+        io::write_all(
+            STDERR_FILENO,
+            b"sapwoodle: the image is of another part than the one named\n",
+        );
+        return Ready::Told;
+    }
+    Ready::Judged(Verdict::Refused(Refusal::BadImage))
+}
+
+fn load(
+    part: u8,
+    enable: u8,
+    bytes: &[u8],
+    held: &mut [u8],
+    array: &mut [u8],
+    id: &mut [u8],
+) -> Ready {
+    let loaded = image::load(bytes, enable, array, id);
+    if loaded.part != part {
+        return other(loaded.part, bytes);
+    }
+    let verdict = loaded.verdict;
+    pack_chip::pack(loaded.chip, held);
+    Ready::Judged(verdict)
+}
+
+fn chip_in(
+    word: usize,
+    part: u8,
+    enable: u8,
+    bytes: &[u8],
+    held: &mut [u8],
+    array: &mut [u8],
+    id: &mut [u8],
+) -> Ready {
+    if is_hex(bytes) {
+        if too_long(word, bytes.len()) {
+            return Ready::Told;
+        }
+        let read = hex_chip(word, part, bytes, held, array, id);
+        let verdict = read.verdict;
+        return Ready::Judged(verdict);
+    }
+    load(part, enable, bytes, held, array, id)
+}
+
+fn chip_from(
+    word: usize,
+    part: u8,
+    enable: u8,
+    bytes: &mut [u8],
+    held: &mut [u8],
+    array: &mut [u8],
+    id: &mut [u8],
+) -> Ready {
+    let got = contents(word, bytes);
+    let n = got.n;
+    if got.ok {
+        if n <= bytes.len() {
+            return chip_in(word, part, enable, &bytes[0..n], held, array, id);
+        }
+    }
+    Ready::Told
+}
+
+// The chip that the file named by a word has, of either kind.
+pub fn fetched(
+    word: usize,
+    part: u8,
+    enable: u8,
+    held: &mut [u8],
+    array: &mut [u8],
+    id: &mut [u8],
+) -> Ready {
+    let mut bytes = room();
+    chip_from(word, part, enable, &mut bytes, held, array, id)
+}
+
+// ---- writing
+
+// As much of `from` as there is room for, behind the first n bytes.
+fn extend(to: &mut [u8], n: usize, from: &[u8]) -> usize {
+    let mut at = n;
+    let mut i = 0;
+    while i < from.len() {
+        if to.len() <= at {
+            return at;
+        }
+        to[at] = from[i];
+        at += 1;
+        i += 1;
+    }
+    at
+}
+
+fn fails(name: &[u8]) -> bool {
+    os::fail(b"sapwoodle: the file of --save");
+    os::unlink(name);
+    false
+}
+
+// The bytes are on the disk, and the file is closed.
+fn filled(fd: i32, bytes: &[u8]) -> bool {
+    let whole = io::write_all(fd, bytes);
+    if !whole {
+        libc::close(fd);
+        return false;
+    }
+    let synced = libc::fsync(fd);
+    let closed = libc::close(fd);
+    if synced < 0 {
+        return false;
+    }
+    0 <= closed
+}
+
+// A failure leaves the old file as it was. The new one is made, so that no file of that name is overwritten.
+fn replace(name: &[u8], beside: &[u8], bytes: &[u8]) -> bool {
+    let fd = os::create(beside);
+    if fd < 0 {
+        os::fail(b"sapwoodle: the file of --save with .new behind its name");
+        return false;
+    }
+    if !filled(fd, bytes) {
+        return fails(beside);
+    }
+    if os::rename(beside, name) < 0 {
+        return fails(beside);
+    }
+    true
+}
+
+fn named(name: &[u8], beside: &mut [u8], bytes: &[u8]) -> bool {
+    let n = extend(beside, 0, name);
+    let k = extend(beside, n, b".new");
+    if k <= beside.len() {
+        return replace(name, &beside[0..k], bytes);
+    }
+    false
+}
+
+fn store_as(name: &[u8], bytes: &[u8]) -> bool {
+    if name.len() == 0 {
+        io::write_all(
+            STDERR_FILENO,
+            b"sapwoodle: the file of --save has no name, or too long a one\n",
+        );
+        return false;
+    }
+    let mut beside = io::buffer();
+    named(name, &mut beside, bytes)
+}
+
+fn store(word: usize, bytes: &[u8]) -> bool {
+    let mut name = io::buffer();
+    let n = os::arg(word, &mut name);
+    store_as(&name[..n], bytes)
+}
+
+fn save_in(word: usize, part: u8, held: &[u8], array: &[u8], id: &[u8], out: &mut [u8]) -> bool {
+    let saved = image::save(part, pack_chip::unpack(held), array, id, out);
+    let n = saved.length;
+    if n <= out.len() {
+        return store(word, &out[0..n]);
+    }
+    false
+}
+
+// Whether the file stands that a word names, or none is asked for.
+pub fn save(word: usize, part: u8, held: &[u8], array: &[u8], id: &[u8]) -> bool {
+    if word == 0 {
+        return true;
+    }
+    let mut out = [0u8; 32839];
+    save_in(word, part, held, array, id, &mut out)
+}

@@ -1,0 +1,9 @@
+pub mod Kit
+pub mod Digits
+pub mod Values
+pub mod Lines
+pub mod Records
+pub mod Cells
+pub mod Rows
+pub mod Scans
+pub mod Writes

@@ -1,0 +1,5 @@
+pub mod Record
+pub mod File
+pub mod Written
+pub mod Calls
+pub mod Steps

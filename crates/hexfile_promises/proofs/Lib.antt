@@ -1,0 +1,14 @@
+pub mod Digits
+pub mod Records
+pub mod Lines
+pub mod Cells
+pub mod Reading
+pub mod OneWay
+pub mod Calls
+pub mod Rows
+pub mod Kept
+pub mod Numbers
+pub mod Idle
+pub mod Pinned
+pub mod Written
+pub mod Worked

@@ -1,0 +1,1 @@
+// What is promised of Intel HEX: laws alone, no code.
