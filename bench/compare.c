@@ -1,5 +1,7 @@
 // The product and the plain C model in one process: first the same events to both, every level, every stored byte and the
-// cycles compared; then the events per second of each. Prints a line for each workload, and ends with 1 where they differ.
+// cycles compared, and the same Intel HEX texts to both readers; then the events, and the bytes of text, per second of each. Prints a line
+// for each workload, and ends with 1 where they differ.
+#include "hex.h"
 #include "product.h"
 
 typedef long time_type;
@@ -159,7 +161,98 @@ static int same(unsigned part, unsigned enable, size_t n, const char *what) {
     return 0;
 }
 
-static double seconds_of(void (*run)(unsigned, unsigned, size_t), unsigned part, size_t n, int rounds) {
+// ---- Intel HEX
+
+static uint8_t text[SAPWOODLE_HEX_MOST], spoiled[SAPWOODLE_HEX_MOST + 64];
+
+static void random_array(uint8_t *array, size_t size) {
+    for (size_t i = 0; i < size; i++) array[i] = (uint8_t)random_below(256);
+}
+
+// A text of the part's array, some of its bytes changed, put in or left out: what the comparison runs on.
+static size_t spoil(size_t n, unsigned changes) {
+    static const uint8_t often[] = "0123456789ABCDEFabcdef:\r\n x";
+    memcpy(spoiled, text, n);
+    for (unsigned k = 0; k < changes; k++) {
+        size_t at = random_below((unsigned)n);
+        uint8_t byte = random_below(8) ? often[random_below(sizeof often - 1)] : (uint8_t)random_below(256);
+        switch (random_below(3)) {
+        case 0: spoiled[at] = byte; break;
+        case 1:
+            for (size_t i = n; i > at; i--) spoiled[i] = spoiled[i - 1];
+            spoiled[at] = byte;
+            n++;
+            break;
+        default:
+            for (size_t i = at; i + 1 < n; i++) spoiled[i] = spoiled[i + 1];
+            n--;
+        }
+    }
+    return n;
+}
+
+static int same_read(unsigned part, const uint8_t *from, size_t n) {
+    size_t size = model_size(part);
+    random_array(plain.array, size);
+    memcpy(product.array, plain.array, size);
+    struct hex_answer a = hex_read(from, n, plain.array, size), b = product_hex_read((uint8_t)part, from, n, product.array);
+    if (a.number == b.number && a.line == b.line && a.records == b.records && a.named == b.named &&
+        memcmp(plain.array, product.array, size) == 0)
+        return 1;
+    printf("differ hex_read part %u: plain %u line %zu, product %u line %zu\n", part, a.number, a.line, b.number, b.line);
+    return 0;
+}
+
+// Answers the length of the text, or 0 where the two differ.
+static size_t same_written(unsigned part) {
+    static uint8_t other[SAPWOODLE_HEX_MOST];
+    size_t size = model_size(part);
+    random_array(plain.array, size);
+    size_t n = hex_write(plain.array, size, text), k = product_hex_write((uint8_t)part, plain.array, other, sizeof other);
+    if (n == k && memcmp(text, other, n) == 0) return n;
+    printf("differ hex_write part %u: plain %zu bytes, product %zu\n", part, n, k);
+    return 0;
+}
+
+static size_t same_texts(unsigned part) {
+    size_t n = same_written(part), compared = 0;
+    if (n == 0 || !same_read(part, text, n)) return 0;
+    for (unsigned k = 0; k < 200; k++) {
+        // Mostly within the first lines, so that what is behind them is read too.
+        size_t m = spoil(k % 4 ? n : 44 + random_below(400), 1 + random_below(3));
+        if (!same_read(part, spoiled, m)) return 0;
+        compared += m;
+    }
+    return compared + 2 * n;
+}
+
+static void read_plain(unsigned part, unsigned enable, size_t n) {
+    (void)enable;
+    plain.cycles = hex_read(text, n, plain.array, model_size(part)).records;
+}
+
+static void read_product(unsigned part, unsigned enable, size_t n) {
+    (void)enable;
+    product.cycles = product_hex_read((uint8_t)part, text, n, product.array).records;
+}
+
+static void write_plain(unsigned part, unsigned enable, size_t n) {
+    (void)enable;
+    (void)n;
+    plain.cycles = hex_write(plain.array, model_size(part), text);
+}
+
+static void write_product(unsigned part, unsigned enable, size_t n) {
+    (void)enable;
+    (void)n;
+    product.cycles = product_hex_write((uint8_t)part, plain.array, text, sizeof text);
+}
+
+// ---- times
+
+typedef void (*runner)(unsigned, unsigned, size_t);
+
+static double seconds_of(runner run, unsigned part, size_t n, int rounds) {
     struct timespec a, b;
     clock_gettime(1, &a);
     for (int k = 0; k < rounds; k++) {
@@ -170,17 +263,17 @@ static double seconds_of(void (*run)(unsigned, unsigned, size_t), unsigned part,
     return (double)(b.seconds - a.seconds) + 1e-9 * (double)(b.nanoseconds - a.nanoseconds);
 }
 
-static void measure(const char *name, unsigned part, size_t n) {
+static void measure(const char *name, const char *unit, unsigned part, size_t n, runner by_plain, runner by_product) {
     int rounds = 1;
-    while (seconds_of(run_plain, part, n, rounds) < 0.003) rounds *= 2;
+    while (seconds_of(by_plain, part, n, rounds) < 0.003) rounds *= 2;
     double best_plain = 1e9, best_product = 1e9;
     for (int k = 0; k < REPEATS; k++) {
-        double a = seconds_of(run_plain, part, n, rounds), b = seconds_of(run_product, part, n, rounds);
+        double a = seconds_of(by_plain, part, n, rounds), b = seconds_of(by_product, part, n, rounds);
         if (a < best_plain) best_plain = a;
         if (b < best_product) best_product = b;
     }
     double all = (double)n * rounds;
-    printf("workload=%s part=%u events=%zu plain_per_second=%.0f product_per_second=%.0f ratio=%.2f\n", name, part, n,
+    printf("workload=%s part=%u %s=%zu plain_per_second=%.0f product_per_second=%.0f ratio=%.2f\n", name, part, unit, n,
            all / best_plain, all / best_product, best_product / best_plain);
 }
 
@@ -203,11 +296,21 @@ int main(int argc, char **argv) {
         }
     }
     printf("compared events=%zu parts=6 same=yes\n", compared);
+    size_t texts = 0;
+    for (unsigned p = 0; p < 6; p++) {
+        size_t n = same_texts(p);
+        if (n == 0) return 1;
+        texts += n;
+    }
+    printf("compared hex_bytes=%zu parts=6 same=yes\n", texts);
     if (part > 5) return 1;
     for (int w = 0; w < 3; w++) {
         size_t n = make[w](part);
         fresh(part);
-        measure(name[w], part, n);
+        measure(name[w], "events", part, n, run_plain, run_product);
     }
+    size_t n = same_written(part);
+    measure("hex_read", "bytes", part, n, read_plain, read_product);
+    measure("hex_write", "bytes", part, n, write_plain, write_product);
     return 0;
 }

@@ -2,6 +2,7 @@
 #ifndef PRODUCT_H
 #define PRODUCT_H
 #include "../include/sapwoodle.h"
+#include "hex.h"
 #include "model.h"
 
 void *memcpy(void *, const void *, size_t);
@@ -22,6 +23,19 @@ static size_t product_run(uint8_t part, uint8_t enable, uint8_t *array, uint8_t 
     sapwoodle_run(part, enable, state, sizeof state, array, model_size(part), id, model_id_size(part), events, n, answers, n,
                   &cycles, &place);
     return cycles;
+}
+
+static struct hex_answer product_hex_read(uint8_t part, const uint8_t *text, size_t n, uint8_t *array) {
+    struct hex_answer a = {0, 0, 0, 0};
+    a.number = sapwoodle_hex_read(part, text, n, array, model_size(part), &a.line, &a.records, &a.named);
+    return a;
+}
+
+// Answers the length of the text; 0 where it is refused.
+static size_t product_hex_write(uint8_t part, const uint8_t *array, uint8_t *out, size_t room) {
+    size_t written = 0;
+    sapwoodle_hex_write(part, array, model_size(part), out, room, &written);
+    return written;
 }
 
 #endif

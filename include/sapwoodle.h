@@ -15,10 +15,14 @@
  *         hold none, or one that is out of range        13  more than 32,768 events
  *      5  event above 8, or a pin event without a pin   14  first address byte not acknowledged
  *      6  answer or output buffer too short             15  second address byte not acknowledged
- *      7  address plus length beyond the array or page; no such page
+ *      7  address plus length beyond the array or       16  HEX: malformed record
+ *         page; no such page                            17  HEX: wrong sum
+ *                                                       18  HEX: overlap, or beyond the array
+ *                                                       19  HEX: no end record, or text after it
  *
- * Where several of 1 to 8, 12 and 13 apply, the first of 1 2 3 4 13 5 6 7 8 12 is answered. A call refused with one of these changes
- * no lent byte; its results are the ones said below for a refused call.
+ * Where several of 1 to 8, 12 and 13 apply, the first of 1 2 3 4 13 5 6 7 8 12 is answered; of 16 to 19, which come after these, the one of the
+ * earliest record, and within it the lowest. A call refused with one of these changes no lent byte; its results are the ones said below for
+ * a refused call.
  *
  * unsigned char has 8 bits here, unsigned long 64: uint8_t, size_t and uint64_t fit. */
 #ifndef SAPWOODLE_H
@@ -132,6 +136,26 @@ unsigned char sapwoodle_load(const unsigned char *image, unsigned long image_len
     unsigned char *array, unsigned long array_length,
     unsigned char *id, unsigned long id_length,
     unsigned char *part);
+
+/* ---- Intel HEX: the array alone as text. A HEX file says nothing of the identification page, the lock or the part.
+ *
+ * Read: data records (type 00) of 0 to 255 bytes in any order, then the end record `:00000001FF`; either case of hex; lines end with LF or CR LF, the
+ * last may have no end. Any other type is refused with 16. Written: records of 16 bytes in ascending order, upper case, LF. */
+#define SAPWOODLE_HEX_MOST 90124 /* the longest text that is written: 44 bytes for each 16 of the array, and 12 */
+
+/* The array that a text names; bytes that no record names are FFh. `records` gets how many data records there were, `named` how many bytes they
+ * name: fewer than the array has, where there is a hole. Of a refused call both are 0. `line` gets the line of a record refused with 16 to 19,
+ * counted from 1 (of 19, the one behind the last line that was read), else 0. Refused with 1, 3, 16 to 19. */
+unsigned char sapwoodle_hex_read(unsigned char part,
+    const unsigned char *text, unsigned long text_length,
+    unsigned char *array, unsigned long array_length,
+    unsigned long *line, unsigned long *records, unsigned long *named);
+
+/* The array as text. `written` gets its length, of a refused call 0; further bytes of `out` keep their values. Refused with 1, 3, 6. */
+unsigned char sapwoodle_hex_write(unsigned char part,
+    const unsigned char *array, unsigned long array_length,
+    unsigned char *out, unsigned long out_length,
+    unsigned long *written);
 
 /* ---- the driver: it is asked for one event at a time, and told the level of the last clock */
 enum {

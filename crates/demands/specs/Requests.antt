@@ -7,6 +7,12 @@ use Rattle.driver_promises.specs.Promises.{Promises}
 use Rattle.driver_promises.specs.Which.{SaysWhichKept, OneAddressByte, FaultyLine}
 use Rattle.bench_promises.specs.Answered.{AddressAnswered, AddressedKept, ResetBreaks}
 use Rattle.bench_promises.specs.Calls.{ourBench}
+use Rattle.hexfile.specs.Calls.{readingOf, writingOf}
+use Rattle.hexfile_promises.specs.Promises.{GivesBack, Settles, AcceptsAll, AcceptsOnly, NamesEach, ReadsOneWay, StopsFirst, WritesPlain, RefusedKeeps}
+use Rattle.hexfile_promises.specs.Numbers.{HexReadNumbers, HexWriteNumbers}
+use Rattle.hexfile_promises.specs.Pinned.{HexPinned, HexWriterPinned}
+use Rattle.hexfile_promises.specs.Worked.{WorkedLines}
+use Rattle.hexfile_promises.specs.Idle.{WrongHex}
 use Rattle.sapwoodle.specs.Promises.{NextIsDrivers, BenchIsBenchs}
 use Rattle.sapwoodle.specs.Drivers.{asking}
 use Rattle.sapwoodle.specs.Runs.{benching}
@@ -30,5 +36,32 @@ pub record Request1 : Type 0 where
   -- callers that hold bytes are told the same
   pub bytes : NextIsDrivers asking × BenchIsBenchs benching
 
+-- §2, "Intel HEX in and out.": of `readingOf` and `writingOf`, which `code` of specs/Demands.antt says `hexfile::read` and `hexfile::write` are
+pub record Request2 : Type 0 where
+  -- "Read data and end records (types 00 and 01) into an array buffer": the files of a relation that has no reader in it are read, and no others;
+  -- "Either case of hex and LF or CR LF are read, the last line end may be missing": that relation's `Digit`, `LineEnd`, `LastEnd`; "the end
+  -- record is `:00000001FF`": its `EndLine`
+  pub all : AcceptsAll readingOf
+  pub only : AcceptsOnly readingOf
+  pub one-way : ReadsOneWay
+  -- "bytes not named are FFh", and a byte that is named is the one of its record
+  pub names : NamesEach readingOf
+  -- "write an array out as records of 16 data bytes", "upper case and LF are written"
+  pub plain : WritesPlain writingOf
+  -- "Reading what we wrote gives the array back"
+  pub back : GivesBack readingOf writingOf
+  pub settles : Settles readingOf writingOf
+  -- "Refusals: 16 malformed record, 17 wrong sum, 18 overlap or beyond the array, 19 no end record or text after it; the earliest record decides,
+  -- within it the lowest number", "any other type or type 01 record 16": refused exactly so, with the line
+  pub first : StopsFirst readingOf
+  -- 1 and 3 before these, 1, 3 and 6 of a write; a refused call changes nothing
+  pub numbers : HexReadNumbers readingOf × HexWriteNumbers writingOf
+  pub keeps : RefusedKeeps readingOf writingOf
+  -- these leave nothing open, wrong readers and writers break them, and lines written out are what they should be
+  pub pinned : HexPinned × HexWriterPinned
+  pub wrong : WrongHex
+  pub worked : WorkedLines
+
 pub record Requests : Type 0 where
   pub first : Request1
+  pub second : Request2

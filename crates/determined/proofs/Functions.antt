@@ -16,6 +16,8 @@ use Rattle.determined.specs.Functions.{
   SapwoodleRunDetermined,
   SapwoodleSaveDetermined,
   SapwoodleLoadDetermined,
+  SapwoodleHexReadDetermined,
+  SapwoodleHexWriteDetermined,
   SapwoodleDriverBeginDetermined,
   SapwoodleDriverNextDetermined,
   SapwoodleBenchRunDetermined,
@@ -56,6 +58,8 @@ use Rattle.determined.specs.Functions.{
   LookDetermined,
   SaveDetermined,
   LoadDetermined,
+  HexReadDetermined,
+  HexWriteDetermined,
   LettersDetermined,
   CodeOfDetermined,
   TraceJudgeDetermined,
@@ -73,7 +77,7 @@ use Rattle.determined.specs.Functions.{
   DriverUnpackDetermined,
 }
 use Rattle.determined.proofs.Answers.{agree, same, plainly, of-machine}
-use Rattle.determined.proofs.Machines.{deliver-is, step-is, run-is, save-is, load-is, trace-is, begin-is, next-is-our-driver, bench-record-is-our-bench, bench-run-is-our-bench, sapwoodle-deliver-is, sapwoodle-step-is, sapwoodle-run-is, sapwoodle-save-is, sapwoodle-load-is, sapwoodle-driver-begin-is, sapwoodle-driver-next-is, sapwoodle-bench-run-is, sapwoodle-trace-is}
+use Rattle.determined.proofs.Machines.{deliver-is, step-is, run-is, save-is, load-is, hex-read-is, hex-write-is, trace-is, begin-is, next-is-our-driver, bench-record-is-our-bench, bench-run-is-our-bench, sapwoodle-deliver-is, sapwoodle-step-is, sapwoodle-run-is, sapwoodle-save-is, sapwoodle-load-is, sapwoodle-hex-read-is, sapwoodle-hex-write-is, sapwoodle-driver-begin-is, sapwoodle-driver-next-is, sapwoodle-bench-run-is, sapwoodle-trace-is}
 
 pub facts-of-determined : FactsOfDetermined
 facts-of-determined = record { taken = λ κs a. tt; equal = λ κs a x y p q. same (agree (p .0) (q .0)) refl }
@@ -186,6 +190,12 @@ save-determined = of-machine (λ κs a. tt) save-is
 pub load-determined : LoadDetermined
 load-determined = of-machine (λ κs a. tt) load-is
 
+pub hex-read-determined : HexReadDetermined
+hex-read-determined = of-machine (λ κs a. tt) hex-read-is
+
+pub hex-write-determined : HexWriteDetermined
+hex-write-determined = of-machine (λ κs a. tt) hex-write-is
+
 pub letters-determined : LettersDetermined
 letters-determined = record {
   taken = λ κs a. tt;
@@ -286,6 +296,12 @@ sapwoodle-save-determined = of-machine (λ κs a. tt) sapwoodle-save-is
 pub sapwoodle-load-determined : SapwoodleLoadDetermined
 sapwoodle-load-determined = of-machine (λ κs a. tt) sapwoodle-load-is
 
+pub sapwoodle-hex-read-determined : SapwoodleHexReadDetermined
+sapwoodle-hex-read-determined = of-machine (λ κs a. tt) sapwoodle-hex-read-is
+
+pub sapwoodle-hex-write-determined : SapwoodleHexWriteDetermined
+sapwoodle-hex-write-determined = of-machine (λ κs a. tt) sapwoodle-hex-write-is
+
 pub sapwoodle-driver-begin-determined : SapwoodleDriverBeginDetermined
 sapwoodle-driver-begin-determined = of-machine (λ κs a. tt) sapwoodle-driver-begin-is
 
@@ -307,6 +323,8 @@ every-answer =
       look = look-determined;
       save = save-determined;
       load = load-determined;
+      hex-read = hex-read-determined;
+      hex-write = hex-write-determined;
       trace = trace-determined;
       begin = begin-determined;
       next = next-determined;
@@ -317,6 +335,8 @@ every-answer =
       sapwoodle-run = sapwoodle-run-determined;
       sapwoodle-save = sapwoodle-save-determined;
       sapwoodle-load = sapwoodle-load-determined;
+      sapwoodle-hex-read = sapwoodle-hex-read-determined;
+      sapwoodle-hex-write = sapwoodle-hex-write-determined;
       sapwoodle-driver-begin = sapwoodle-driver-begin-determined;
       sapwoodle-driver-next = sapwoodle-driver-next-determined;
       sapwoodle-bench-run = sapwoodle-bench-run-determined;

@@ -2,7 +2,7 @@
 -- order; what is left is a row of the parameters.
 -- Assumes nothing.
 use mathlib.Core.Path.{refl}
-use Rattle.determined.specs.Machines.{EveryMachine, DeliverIs, StepIs, RunIs, SaveIs, LoadIs, TraceIs, BeginIs, NextIsOurDriver, BenchRecordIsOurBench, BenchRunIsOurBench, SapwoodleDeliverIs, SapwoodleStepIs, SapwoodleRunIs, SapwoodleSaveIs, SapwoodleLoadIs, SapwoodleDriverBeginIs, SapwoodleDriverNextIs, SapwoodleBenchRunIs, SapwoodleTraceIs}
+use Rattle.determined.specs.Machines.{EveryMachine, DeliverIs, StepIs, RunIs, SaveIs, LoadIs, HexReadIs, HexWriteIs, TraceIs, BeginIs, NextIsOurDriver, BenchRecordIsOurBench, BenchRunIsOurBench, SapwoodleDeliverIs, SapwoodleStepIs, SapwoodleRunIs, SapwoodleSaveIs, SapwoodleLoadIs, SapwoodleHexReadIs, SapwoodleHexWriteIs, SapwoodleDriverBeginIs, SapwoodleDriverNextIs, SapwoodleBenchRunIs, SapwoodleTraceIs}
 use Rattle.determined.proofs.Answers.{same}
 
 pub deliver-is : DeliverIs
@@ -19,6 +19,12 @@ save-is = λ κs a x p. same (p .0) (λ i. (tt, (tt, (tt, (tt, (p .1 i, tt))))))
 
 pub load-is : LoadIs
 load-is = λ κs a x p. same (p .0) (λ i. (tt, (tt, (p .1 .0 i, (p .1 .1 i, tt)))))
+
+pub hex-read-is : HexReadIs
+hex-read-is = λ κs a x p. same (p .0) (λ i. (tt, (tt, (p .1 i, tt))))
+
+pub hex-write-is : HexWriteIs
+hex-write-is = λ κs a x p. same (p .0) (λ i. (tt, (tt, (p .1 i, tt))))
 
 pub trace-is : TraceIs
 trace-is = λ κs a x p. same (p .0) (λ i. (tt, (p .1 i, tt)))
@@ -50,6 +56,12 @@ sapwoodle-save-is = λ κs a x p. same (p .0) (λ i. (tt, (tt, (tt, (tt, (p .1 .
 pub sapwoodle-load-is : SapwoodleLoadIs
 sapwoodle-load-is = λ κs a x p. same (p .0) (λ i. (tt, (tt, (p .1 .0 i, (p .1 .1 .0 i, (p .1 .1 .1 .0 i, (p .1 .1 .1 .1 i, tt)))))))
 
+pub sapwoodle-hex-read-is : SapwoodleHexReadIs
+sapwoodle-hex-read-is = λ κs a x p. same (p .0) (λ i. (tt, (tt, (p .1 .0 i, (p .1 .1 .0 i, (p .1 .1 .1 .0 i, (p .1 .1 .1 .1 i, tt)))))))
+
+pub sapwoodle-hex-write-is : SapwoodleHexWriteIs
+sapwoodle-hex-write-is = λ κs a x p. same (p .0) (λ i. (tt, (tt, (p .1 .0 i, (p .1 .1 i, tt)))))
+
 pub sapwoodle-driver-begin-is : SapwoodleDriverBeginIs
 sapwoodle-driver-begin-is = λ κs a x p. same (p .0) (λ i. (tt, (tt, (tt, (tt, (tt, (tt, (p .1 i, tt))))))))
 
@@ -70,6 +82,8 @@ every-machine =
       run = run-is;
       save = save-is;
       load = load-is;
+      hex-read = hex-read-is;
+      hex-write = hex-write-is;
       trace = trace-is;
       begin = begin-is;
       next = next-is-our-driver;
@@ -80,6 +94,8 @@ every-machine =
       sapwoodle-run = sapwoodle-run-is;
       sapwoodle-save = sapwoodle-save-is;
       sapwoodle-load = sapwoodle-load-is;
+      sapwoodle-hex-read = sapwoodle-hex-read-is;
+      sapwoodle-hex-write = sapwoodle-hex-write-is;
       sapwoodle-driver-begin = sapwoodle-driver-begin-is;
       sapwoodle-driver-next = sapwoodle-driver-next-is;
       sapwoodle-bench-run = sapwoodle-bench-run-is;

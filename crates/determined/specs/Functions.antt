@@ -37,6 +37,8 @@ use Rattle.page.proofs.look_refusal as look-refusal
 use Rattle.page.proofs.look as look
 use Rattle.image.proofs.save as save
 use Rattle.image.proofs.load as load
+use Rattle.hexfile.proofs.read as hex-read
+use Rattle.hexfile.proofs.write as hex-write
 use Rattle.trace.proofs.letters as letters
 use Rattle.trace.proofs.code_of as code-of
 use Rattle.trace.proofs.judge as trace-judge
@@ -64,6 +66,8 @@ use Rattle.sapwoodle.proofs.chips.sapwoodle_step as sapwoodle-step
 use Rattle.sapwoodle.proofs.chips.sapwoodle_run as sapwoodle-run
 use Rattle.sapwoodle.proofs.images.sapwoodle_save as sapwoodle-save
 use Rattle.sapwoodle.proofs.images.sapwoodle_load as sapwoodle-load
+use Rattle.sapwoodle.proofs.hexes.sapwoodle_hex_read as sapwoodle-hex-read
+use Rattle.sapwoodle.proofs.hexes.sapwoodle_hex_write as sapwoodle-hex-write
 use Rattle.sapwoodle.proofs.drivers.sapwoodle_driver_begin as sapwoodle-driver-begin
 use Rattle.sapwoodle.proofs.drivers.sapwoodle_driver_next as sapwoodle-driver-next
 use Rattle.sapwoodle.proofs.runs.sapwoodle_bench_run as sapwoodle-bench-run
@@ -193,6 +197,14 @@ SaveDetermined = Determined save.ended save.Reads.Asked save.Reads.Learnt
 abbrev pub LoadDetermined : Type 0
 LoadDetermined = Determined load.ended load.Reads.Asked load.Reads.Learnt
 
+-- ---- hexfile
+
+abbrev pub HexReadDetermined : Type 0
+HexReadDetermined = Determined hex-read.ended hex-read.Reads.Asked hex-read.Reads.Learnt
+
+abbrev pub HexWriteDetermined : Type 0
+HexWriteDetermined = Determined hex-write.ended hex-write.Reads.Asked hex-write.Reads.Learnt
+
 -- ---- trace
 
 -- its bytes: no rule asks where they lie
@@ -288,6 +300,12 @@ SapwoodleSaveDetermined = Determined sapwoodle-save.ended sapwoodle-save.Reads.A
 abbrev pub SapwoodleLoadDetermined : Type 0
 SapwoodleLoadDetermined = Determined sapwoodle-load.ended sapwoodle-load.Reads.Asked sapwoodle-load.Reads.Learnt
 
+abbrev pub SapwoodleHexReadDetermined : Type 0
+SapwoodleHexReadDetermined = Determined sapwoodle-hex-read.ended sapwoodle-hex-read.Reads.Asked sapwoodle-hex-read.Reads.Learnt
+
+abbrev pub SapwoodleHexWriteDetermined : Type 0
+SapwoodleHexWriteDetermined = Determined sapwoodle-hex-write.ended sapwoodle-hex-write.Reads.Asked sapwoodle-hex-write.Reads.Learnt
+
 abbrev pub SapwoodleDriverBeginDetermined : Type 0
 SapwoodleDriverBeginDetermined = Determined sapwoodle-driver-begin.ended sapwoodle-driver-begin.Reads.Asked sapwoodle-driver-begin.Reads.Learnt
 
@@ -309,6 +327,8 @@ pub record EveryAnswer : Type 0 where
   pub look : LookDetermined
   pub save : SaveDetermined
   pub load : LoadDetermined
+  pub hex-read : HexReadDetermined
+  pub hex-write : HexWriteDetermined
   pub trace : TraceDetermined
   pub begin : BeginDetermined
   pub next : NextDetermined
@@ -319,6 +339,8 @@ pub record EveryAnswer : Type 0 where
   pub sapwoodle-run : SapwoodleRunDetermined
   pub sapwoodle-save : SapwoodleSaveDetermined
   pub sapwoodle-load : SapwoodleLoadDetermined
+  pub sapwoodle-hex-read : SapwoodleHexReadDetermined
+  pub sapwoodle-hex-write : SapwoodleHexWriteDetermined
   pub sapwoodle-driver-begin : SapwoodleDriverBeginDetermined
   pub sapwoodle-driver-next : SapwoodleDriverNextDetermined
   pub sapwoodle-bench-run : SapwoodleBenchRunDetermined

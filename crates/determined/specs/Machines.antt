@@ -10,6 +10,7 @@ use Rattle.parts.specs.Refusals.{verdictNumberOf}
 use Rattle.chip.specs.Memory.{mem}
 use Rattle.chip.specs.Calls.{deliverOf, stepOf, runOf}
 use Rattle.image.specs.Calls.{saving, loading}
+use Rattle.hexfile.specs.Calls.{readingOf, writingOf}
 use Rattle.trace.specs.Trace.{traceOf, layingOf}
 use Rattle.driver.specs.Step.{beginOf}
 use Rattle.driver.specs.Machine.{ourDriver}
@@ -18,6 +19,7 @@ use Rattle.bench_promises.specs.Calls.{BenchCall, ourBench}
 use lib.ListN.{length}
 use Rattle.sapwoodle.specs.Chips.{stepping, running, delivering}
 use Rattle.sapwoodle.specs.Images.{savingBytes, loadingBytes}
+use Rattle.sapwoodle.specs.Hexes.{hexReading, hexWriting}
 use Rattle.sapwoodle.specs.Drivers.{requestOf, beginning, asking}
 use Rattle.sapwoodle.specs.Runs.{benching}
 use Rattle.chip.proofs.deliver as deliver
@@ -25,6 +27,8 @@ use Rattle.chip.proofs.step as step
 use Rattle.chip.proofs.run as chip-run
 use Rattle.image.proofs.save as save
 use Rattle.image.proofs.load as load
+use Rattle.hexfile.proofs.read as hex-read
+use Rattle.hexfile.proofs.write as hex-write
 use Rattle.trace.proofs.trace as trace
 use Rattle.driver.proofs.begin as begin
 use Rattle.driver.proofs.next as next
@@ -35,6 +39,8 @@ use Rattle.sapwoodle.proofs.chips.sapwoodle_step as sapwoodle-step
 use Rattle.sapwoodle.proofs.chips.sapwoodle_run as sapwoodle-run
 use Rattle.sapwoodle.proofs.images.sapwoodle_save as sapwoodle-save
 use Rattle.sapwoodle.proofs.images.sapwoodle_load as sapwoodle-load
+use Rattle.sapwoodle.proofs.hexes.sapwoodle_hex_read as sapwoodle-hex-read
+use Rattle.sapwoodle.proofs.hexes.sapwoodle_hex_write as sapwoodle-hex-write
 use Rattle.sapwoodle.proofs.drivers.sapwoodle_driver_begin as sapwoodle-driver-begin
 use Rattle.sapwoodle.proofs.drivers.sapwoodle_driver_next as sapwoodle-driver-next
 use Rattle.sapwoodle.proofs.runs.sapwoodle_bench_run as sapwoodle-bench-run
@@ -68,7 +74,7 @@ RunIs =
     let m = runOf (a .0) (a .1 .0) (a .1 .1 .0) (mem (a .1 .1 .1 .0 .now) (a .1 .1 .1 .1 .0 .now)) (a .1 .1 .1 .1 .1 .0 .now) (a .1 .1 .1 .1 .1 .1 .0 .now) in
     record { result = m .answer; left = (tt, (tt, (tt, (m .mem .cells, (m .mem .ident, (tt, (m .answers, tt))))))) })
 
--- ---- image and trace
+-- ---- image, Intel HEX and trace
 
 abbrev pub SaveIs : Type 0
 SaveIs =
@@ -83,6 +89,20 @@ LoadIs =
     (λ κs a.
     let m = loading (a .0 .now) (a .1 .0) (mem (a .1 .1 .0 .now) (a .1 .1 .1 .0 .now)) in
     record { result = m .answer; left = (tt, (tt, (m .stored .cells, (m .stored .ident, tt)))) })
+
+abbrev pub HexReadIs : Type 0
+HexReadIs =
+    Is hex-read.ended hex-read.Reads.Learnt
+    (λ κs a.
+    let m = readingOf (a .0) (a .1 .0 .now) (a .1 .1 .0 .now) in
+    record { result = m .answer; left = (tt, (tt, (m .array, tt))) })
+
+abbrev pub HexWriteIs : Type 0
+HexWriteIs =
+    Is hex-write.ended hex-write.Reads.Learnt
+    (λ κs a.
+    let m = writingOf (a .0) (a .1 .0 .now) (a .1 .1 .0 .now) in
+    record { result = m .answer; left = (tt, (tt, (m .out, tt))) })
 
 abbrev pub TraceIs : Type 0
 TraceIs =
@@ -162,6 +182,20 @@ SapwoodleLoadIs =
     let m = loadingBytes (a .0 .now) (a .1 .0) (a .1 .1 .0 .now) (mem (a .1 .1 .1 .0 .now) (a .1 .1 .1 .1 .0 .now)) in
     record { result = m .number; left = (tt, (tt, (m .state, (m .stored .cells, (m .stored .ident, (m .part, tt)))))) })
 
+abbrev pub SapwoodleHexReadIs : Type 0
+SapwoodleHexReadIs =
+    Is sapwoodle-hex-read.ended sapwoodle-hex-read.Reads.Learnt
+    (λ κs a.
+    let m = hexReading (a .0) (a .1 .0 .now) (a .1 .1 .0 .now) in
+    record { result = m .number; left = (tt, (tt, (m .array, (m .line, (m .records, (m .named, tt)))))) })
+
+abbrev pub SapwoodleHexWriteIs : Type 0
+SapwoodleHexWriteIs =
+    Is sapwoodle-hex-write.ended sapwoodle-hex-write.Reads.Learnt
+    (λ κs a.
+    let m = hexWriting (a .0) (a .1 .0 .now) (a .1 .1 .0 .now) in
+    record { result = m .number; left = (tt, (tt, (m .out, (m .written, tt)))) })
+
 abbrev pub SapwoodleDriverBeginIs : Type 0
 SapwoodleDriverBeginIs =
     Is sapwoodle-driver-begin.ended sapwoodle-driver-begin.Reads.Learnt
@@ -198,6 +232,8 @@ pub record EveryMachine : Type 0 where
   pub run : RunIs
   pub save : SaveIs
   pub load : LoadIs
+  pub hex-read : HexReadIs
+  pub hex-write : HexWriteIs
   pub trace : TraceIs
   pub begin : BeginIs
   pub next : NextIsOurDriver
@@ -208,6 +244,8 @@ pub record EveryMachine : Type 0 where
   pub sapwoodle-run : SapwoodleRunIs
   pub sapwoodle-save : SapwoodleSaveIs
   pub sapwoodle-load : SapwoodleLoadIs
+  pub sapwoodle-hex-read : SapwoodleHexReadIs
+  pub sapwoodle-hex-write : SapwoodleHexWriteIs
   pub sapwoodle-driver-begin : SapwoodleDriverBeginIs
   pub sapwoodle-driver-next : SapwoodleDriverNextIs
   pub sapwoodle-bench-run : SapwoodleBenchRunIs

@@ -28,6 +28,7 @@ use Rattle.pack_chip.specs.Promises.{ChipFits}
 use Rattle.pack_driver.specs.Layout.{driverLength, holdsDriverOf, unpackedDriverOf}
 use Rattle.sapwoodle.specs.Chips.{BytesAfterStep, BytesAfterRun, BytesAfterDeliver, stepping, running, delivering}
 use Rattle.sapwoodle.specs.Images.{BytesAfterSave, BytesAfterLoad, savingBytes, loadingBytes}
+use Rattle.sapwoodle.specs.Hexes.{BytesAfterHexRead, BytesAfterHexWrite, hexReading, hexWriting}
 use Rattle.sapwoodle.specs.Drivers.{requestOf, BytesAfterBegin, beginning, toldOf, BytesAfterNext, asking}
 use Rattle.sapwoodle.specs.Runs.{BytesAfterBench, benching}
 
@@ -139,6 +140,17 @@ abbrev pub LoadKeeps : LoadingBytes → Type 0
 LoadKeeps load =
     (l : List ℕ) (enable : ℕ) (s : List ℕ) (m : Mem) → (load l enable s m .number ≡ 0 → ⊥)
     → (load l enable s m .state ≡ s) × (load l enable s m .stored ≡ m) × (load l enable s m .part ≡ partIn l)
+
+-- ---- Intel HEX: of the part, the text and the array; of the part, the array and the output buffer
+
+abbrev pub HexReadKeeps : (ℕ → List ℕ → List ℕ → BytesAfterHexRead) → Type 0
+HexReadKeeps read =
+    (part : ℕ) (text array : List ℕ) → (read part text array .number ≡ 0 → ⊥)
+    → (read part text array .array ≡ array) × (read part text array .records ≡ 0) × (read part text array .named ≡ 0)
+
+abbrev pub HexWriteKeeps : (ℕ → List ℕ → List ℕ → BytesAfterHexWrite) → Type 0
+HexWriteKeeps write =
+    (part : ℕ) (array out : List ℕ) → (write part array out .number ≡ 0 → ⊥) → (write part array out .written ≡ 0) × (write part array out .out ≡ out)
 
 -- ---- on the bytes of a state, what is saved is the chip's image
 
@@ -265,6 +277,8 @@ pub record BytesKept : Type 0 where
   pub run : RunKeeps running
   pub save : SaveKeeps savingBytes
   pub load : LoadKeeps loadingBytes
+  pub hex-read : HexReadKeeps hexReading
+  pub hex-write : HexWriteKeeps hexWriting
   pub begin : BeginKeeps beginning
   pub next : NextKeeps asking
   pub bench : BenchKeeps benching

@@ -2,6 +2,7 @@
 mod answers;
 pub mod chips;
 pub mod drivers;
+pub mod hexes;
 pub mod images;
 pub mod runs;
 
