@@ -4,7 +4,8 @@ use Rattle.driver.specs.Machine.{ourDriver}
 use Rattle.driver_promises.proofs.Promises.{promises}
 use Rattle.driver_promises.proofs.Which.{refused-says, one-address-byte, faulty-line}
 use Rattle.bench_promises.proofs.Answered.{address-answered, addressed-kept, reset-breaks}
-use Rattle.hexfile_promises.proofs.Kept.{gives-back, settles, accepts-all, accepts-only, names-each, reads-one-way, stops-first, writes-plain, refused-keeps}
+use Rattle.hexfile_promises.proofs.Kept.{gives-back, settles, accepts-all, accepts-only, names-each, stops-first, writes-plain, refused-keeps}
+use Rattle.hexfile_promises.proofs.OneWay.{reads-one-way}
 use Rattle.hexfile_promises.proofs.Numbers.{hex-read-numbers, hex-write-numbers}
 use Rattle.hexfile_promises.proofs.Pinned.{hex-pinned}
 use Rattle.hexfile_promises.proofs.Written.{hex-writer-pinned}

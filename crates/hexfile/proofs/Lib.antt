@@ -6,4 +6,5 @@ pub mod Records
 pub mod Cells
 pub mod Rows
 pub mod Scans
+pub mod Table
 pub mod Writes

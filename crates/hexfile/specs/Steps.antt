@@ -129,3 +129,9 @@ judgedOf WrongSum k more = refusedScan (BadSum (k + 1))
 judgedOf Lapping k more = refusedScan (Misplaced (k + 1))
 judgedOf Taken k more = endedOf k false
 judgedOf Ending k more = endedOf k more
+
+-- ---- writing
+
+-- the table of digits that a writer lends to its steps: `0` to `9`, `A` to `F`
+unfoldable pub capitals : List ℕ
+capitals = 48 ∷ 49 ∷ 50 ∷ 51 ∷ 52 ∷ 53 ∷ 54 ∷ 55 ∷ 56 ∷ 57 ∷ 65 ∷ 66 ∷ 67 ∷ 68 ∷ 69 ∷ 70 ∷ []

@@ -20,10 +20,10 @@ use Rattle.hexfile.specs.File.{Got, gets, no, readOf, filledOf}
 use Rattle.hexfile.specs.Written.{textOf, textLengthOf}
 use Rattle.hexfile.specs.Calls.{AfterRead, AfterWrite, arrayVerdictOf, gotOf, readBy, readingOf, writeVerdictOf, writeBy, writingOf}
 use Rattle.hexfile_promises.specs.Files.{Each, Piece, IsFile, Placed, bytesIn, Fault, bad-record, bad-sum, misplaced, no-end, text-after, Stops}
-use Rattle.hexfile_promises.specs.Promises.{sizeOf, Lent, textIn, GivesBack, Settles, AcceptsAll, Read, AcceptsOnly, NamesEach, StopsFirst, WritesPlain, RefusedKeeps, HexPromises}
+use Rattle.hexfile_promises.specs.Promises.{sizeOf, Lent, textIn, GivesBack, Settles, AcceptsAll, Read, AcceptsOnly, NamesEach, StopsFirst, WritesPlain, RefusedKeeps}
 use Rattle.hexfile_promises.proofs.Cells.{Bytes, Fit, fit, entered, filled-below, clear, clear-fit, clear-placed, clear-named, clear-count, clear-more, more-clear}
 use Rattle.hexfile_promises.proofs.Reading.{counted, counted-is, begins-bytes, along, read-file, FaultAt, not-record, not-sum, not-fit, not-there, not-last, fault-read, Outcome, done, stopped, outcome}
-pub use Rattle.hexfile_promises.proofs.OneWay.{reads-one-way}
+use Rattle.hexfile_promises.proofs.OneWay.{reads-one-way}
 use Rattle.hexfile_promises.proofs.Calls.{is-lent, lent-is, is-roomy, roomy-is}
 use Rattle.hexfile_promises.proofs.Rows.{rows, text-long, placed-rows, count-rows, bytes-rows, named-rows, text-file, text-right}
 
@@ -197,20 +197,4 @@ refused-keeps =
     record {
       reading = λ part text array r. kept-reading (arrayVerdictOf (factsOf part) (length array)) (factsOf part) text array r;
       writing = λ part m out r. kept-writing (writeVerdictOf (factsOf part) (length m) (length out)) (factsOf part) m out r;
-    }
-
--- ---- all of it
-
-pub hex-promises : HexPromises readingOf writingOf
-hex-promises =
-    record {
-      gives-back = gives-back;
-      settles = settles;
-      accepts-all = accepts-all;
-      accepts-only = accepts-only;
-      names-each = names-each;
-      one-way = reads-one-way;
-      stops-first = stops-first;
-      plain = writes-plain;
-      keeps = refused-keeps;
     }

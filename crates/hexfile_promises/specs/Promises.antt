@@ -124,16 +124,3 @@ WriteKeeps write =
 pub record RefusedKeeps (read : Reading) (write : Writing) : Type 0 where
   pub reading : ReadKeeps read
   pub writing : WriteKeeps write
-
--- ---- all of it
-
-pub record HexPromises (read : Reading) (write : Writing) : Type 0 where
-  pub gives-back : GivesBack read write
-  pub settles : Settles read write
-  pub accepts-all : AcceptsAll read
-  pub accepts-only : AcceptsOnly read
-  pub names-each : NamesEach read
-  pub one-way : ReadsOneWay
-  pub stops-first : StopsFirst read
-  pub plain : WritesPlain write
-  pub keeps : RefusedKeeps read write

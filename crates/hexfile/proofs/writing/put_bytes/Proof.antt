@@ -12,11 +12,11 @@ use Rattle.hexfile.proofs.writing.put_bytes.Statement.{statement}
 use Rattle.hexfile.proofs.writing.put_bytes.Tie as tie
 
 abbrev Inv-loop : tie.InvT-loop
-Inv-loop out₀ bytes sum₀ i₀ out sum i =
+Inv-loop out₀ bytes digits sum₀ i₀ out sum i =
     (i ≤ length bytes) × (length out ≡ length out₀) × (out ≡ digitsOf (take i bytes) ++ drop (2 * i) out₀) × (sum ≡ sumOf (take i bytes)) × (sum ≤ 255 * i)
 
 abbrev μ-loop : tie.MeasureT-loop
-μ-loop out₀ bytes sum₀ i₀ out sum i = length bytes - i
+μ-loop out₀ bytes digits sum₀ i₀ out sum i = length bytes - i
 
 loop-holds : tie.Need-loop-holds Inv-loop μ-loop
 loop-holds c = (omega arith, refl, refl, refl, omega arith)

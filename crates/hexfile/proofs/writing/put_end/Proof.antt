@@ -25,7 +25,7 @@ put-bytes-requires : tie.Need-put-bytes-requires
 put-bytes-requires c κs = search needs
 
 slice-write-out-2 : tie.Need-slice-write-out-2
-slice-write-out-2 c = omega (arith, c .before .out .given .1 ∙ length-set (c .before .before .before .before .before .before .args .out .now) 0 58, c .before .before .before .before .before .before .pre)
+slice-write-out-2 c = omega (arith, c .before .out .given .1 ∙ length-set (c .before .before .before .before .before .before .args .out .now) 0 58, c .before .before .before .before .before .before .pre .0)
 
 same-length : tie.Need-same-length
 same-length c = simp length-set (c .before .out .given .1 ∙ length-set (c .before .before .before .before .before .before .args .out .now) 0 58)
@@ -34,7 +34,7 @@ returns : tie.Need-returns
 returns c =
     let s = c .before .before .before .before .before .before in
     let one = c .before .before .put-bytes in
-    end-written (s .args .out .now) (one .last .0) (s .pre) (one .ensures .1 .1)
+    end-written (s .args .out .now) (one .last .0) (s .pre .0) (one .ensures .1 .1)
 
 pub put-end-spec : {M : Type 1} → statement M
 put-end-spec =

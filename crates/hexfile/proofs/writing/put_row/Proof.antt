@@ -6,11 +6,11 @@ use borrow.Author.Needs.{needs}
 use Rattle.hexfile.proofs.writing.put_row.Statement.{statement}
 use Rattle.hexfile.proofs.writing.put_row.Tie as tie
 
-cast-t9 : tie.Need-cast-t9
-cast-t9 c = search needs
+cast-t10 : tie.Need-cast-t10
+cast-t10 c = search needs
 
-cast-t11 : tie.Need-cast-t11
-cast-t11 c = search needs
+cast-t12 : tie.Need-cast-t12
+cast-t12 c = search needs
 
 slice-write-out : tie.Need-slice-write-out
 slice-write-out c = search needs
@@ -40,7 +40,7 @@ part-put-bytes-end-2 : tie.Need-part-put-bytes-end-2
 part-put-bytes-end-2 c = omega (arith, c .before .out .given .1 ∙ length-set (c .before .before .before .before .before .before .before .args .out .now) 0 58, c .before .before .before .before .before .before .before .pre .0)
 
 put-bytes-requires-2 : tie.Need-put-bytes-requires-2
-put-bytes-requires-2 c κs = search needs
+put-bytes-requires-2 c κs = (search needs, search needs, c .before .before .before .before .before .before .before .before .pre .3)
 
 add-check-byte : tie.Need-add-check-byte
 add-check-byte c = search needs
@@ -82,8 +82,8 @@ pub put-row-spec : {M : Type 1} → statement M
 put-row-spec =
     tie.close
     (tie.spec
-    cast-t9
-    cast-t11
+    cast-t10
+    cast-t12
     slice-write-out
     sub-put-bytes
     part-put-bytes-start

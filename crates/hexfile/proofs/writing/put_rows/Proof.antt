@@ -10,10 +10,10 @@ use Rattle.hexfile.proofs.writing.put_rows.Statement.{statement}
 use Rattle.hexfile.proofs.writing.put_rows.Tie as tie
 
 abbrev Inv-loop : tie.InvT-loop
-Inv-loop rows array out₀ i₀ out i = (i ≤ rows) × (length out ≡ length out₀) × (out ≡ rowsOf i 0 array ++ drop (i * 44) out₀)
+Inv-loop rows array out₀ digits i₀ out i = (i ≤ rows) × (length out ≡ length out₀) × (out ≡ rowsOf i 0 array ++ drop (i * 44) out₀)
 
 abbrev μ-loop : tie.MeasureT-loop
-μ-loop rows array out₀ i₀ out i = rows - i
+μ-loop rows array out₀ digits i₀ out i = rows - i
 
 loop-holds : tie.Need-loop-holds Inv-loop μ-loop
 loop-holds c = (omega arith, refl, refl)

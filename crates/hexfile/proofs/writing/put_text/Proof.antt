@@ -1,5 +1,6 @@
 use mathlib.Core.Path.{refl}
 use native.Mathlib.Omega.{arith}
+use Rattle.hexfile.specs.Steps.{capitals}
 use Rattle.hexfile.specs.Written.{textLengthOf}
 use Rattle.hexfile.proofs.Writes.{text-written}
 use borrow.Author.Needs.{needs}
@@ -10,8 +11,8 @@ mul-end : tie.Need-mul-end
 mul-end c = search needs
 
 put-rows-requires : tie.Need-put-rows-requires
-unfolding textLengthOf
-put-rows-requires c κs = omega arith
+unfolding textLengthOf capitals
+put-rows-requires c κs = (omega arith, omega arith, omega arith, refl)
 
 add-put-end : tie.Need-add-put-end
 add-put-end c = search needs
@@ -24,10 +25,11 @@ part-put-end-start c = search needs
 
 part-put-end-end : tie.Need-part-put-end-end
 unfolding textLengthOf
-part-put-end-end c = omega (arith, c .before .before .put-rows .kept .1 .1 .0, c .before .before .before .before .before .before .pre .1)
+part-put-end-end c = omega (arith, c .before .before .put-rows .kept .1 .1 .0, c .before .before .before .before .before .before .before .before .before .pre .1)
 
 put-end-requires : tie.Need-put-end-requires
-put-end-requires c κs = search needs
+unfolding capitals
+put-end-requires c κs = (search needs, refl)
 
 add-result : tie.Need-add-result
 add-result c = search needs
@@ -38,8 +40,8 @@ same-length c = search needs
 returns : tie.Need-returns
 unfolding textLengthOf
 returns c =
-    let a = c .before .before .before .before .before .before .before .before .before .before .args in
-    let rows = c .before .before .before .before .before .before .put-rows in
+    let a = c .before .before .before .before .before .before .before .before .before .before .before .before .before .before .args in
+    let rows = c .before .before .before .before .before .before .before .put-rows in
     let end = c .before .before .put-end in
     (refl, text-written (rows .last .1 .1 .0) (a .out .now) (a .array .now) (end .last .0) (rows .ensures) (end .ensures))
 
