@@ -55,8 +55,8 @@ fn is_digit(b: u8) -> bool
     ((47 < b) & (b < 58)) | ((64 < b) & (b < 71)) | ((96 < b) & (b < 103))
 }
 
-// The value of a byte that is a digit: of `0` to `9` the low four bits, of `A` to `F` and `a` to `f` these and 9. With no branch, which no
-// processor can foresee.
+// The value of a byte that is a digit: its low four bits, and 9 more of a letter. There is no branch: which of the two it is, no processor
+// foresees.
 fn digit(b: u8) -> u16
     ensures { λ r. ⌜ (valueOf b < 16 → r ≡ valueOf b) ⌝ }
     ensures range { λ r. ⌜ r ≤ 42 ⌝ }
