@@ -7,8 +7,8 @@ use Rattle.bench_promises.proofs.Answered.{address-answered, addressed-kept, re
 use Rattle.hexfile_promises.proofs.Kept.{gives-back, settles, accepts-all, accepts-only, names-each, stops-first, writes-plain, refused-keeps}
 use Rattle.hexfile_promises.proofs.OneWay.{reads-one-way}
 use Rattle.hexfile_promises.proofs.Numbers.{hex-read-numbers, hex-write-numbers}
-use Rattle.hexfile_promises.proofs.Pinned.{hex-pinned}
-use Rattle.hexfile_promises.proofs.Written.{hex-writer-pinned}
+use Rattle.hexfile_promises.proofs.Pinned.{hex-reader, hex-pinned}
+use Rattle.hexfile_promises.proofs.Written.{hex-writer, hex-writer-pinned}
 use Rattle.hexfile_promises.proofs.Worked.{worked-lines}
 use Rattle.hexfile_promises.proofs.Idle.{wrong-hex}
 use Rattle.sapwoodle.proofs.drivers.Kept.{next-is-drivers}
@@ -41,6 +41,7 @@ requests =
             first = stops-first;
             numbers = (hex-read-numbers, hex-write-numbers);
             keeps = refused-keeps;
+            ours = (hex-reader, hex-writer);
             pinned = (hex-pinned, hex-writer-pinned);
             wrong = wrong-hex;
             worked = worked-lines;

@@ -10,7 +10,7 @@ use Rattle.bench_promises.specs.Calls.{ourBench}
 use Rattle.hexfile.specs.Calls.{readingOf, writingOf}
 use Rattle.hexfile_promises.specs.Promises.{GivesBack, Settles, AcceptsAll, AcceptsOnly, NamesEach, ReadsOneWay, StopsFirst, WritesPlain, RefusedKeeps}
 use Rattle.hexfile_promises.specs.Numbers.{HexReadNumbers, HexWriteNumbers}
-use Rattle.hexfile_promises.specs.Pinned.{HexPinned, HexWriterPinned}
+use Rattle.hexfile_promises.specs.Pinned.{HexReader, HexPinned, HexWriter, HexWriterPinned}
 use Rattle.hexfile_promises.specs.Worked.{WorkedLines}
 use Rattle.hexfile_promises.specs.Idle.{WrongHex}
 use Rattle.sapwoodle.specs.Promises.{NextIsDrivers, BenchIsBenchs}
@@ -57,7 +57,9 @@ pub record Request2 : Type 0 where
   -- 1 and 3 before these, 1, 3 and 6 of a write; a refused call changes nothing
   pub numbers : HexReadNumbers readingOf × HexWriteNumbers writingOf
   pub keeps : RefusedKeeps readingOf writingOf
-  -- these leave nothing open, wrong readers and writers break them, and lines written out are what they should be
+  -- these leave nothing open: ours keep them, and whoever else does is ours; wrong readers and writers break them, and lines written out are
+  -- what they should be
+  pub ours : HexReader readingOf × HexWriter writingOf
   pub pinned : HexPinned × HexWriterPinned
   pub wrong : WrongHex
   pub worked : WorkedLines

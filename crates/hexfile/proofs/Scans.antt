@@ -20,7 +20,7 @@ use Rattle.hexfile.specs.declared.HexRead.{HexRead}
 use Rattle.hexfile.specs.declared.reading.Line.{Line}
 use Rattle.hexfile.specs.declared.reading.Scan.{Scan}
 use Rattle.hexfile.specs.Record.{Record, malformed, bytes, last, recordOf}
-use Rattle.hexfile.specs.File.{Got, no, beforeLf, joinOf, linesOf, fitsOf, turnOf, someOf, readAt, filledOf, namedOf}
+use Rattle.hexfile.specs.File.{Got, beforeLf, joinOf, linesOf, fitsOf, turnOf, someOf, readAt, filledOf, namedOf}
 use Rattle.hexfile.specs.Steps.{foundOf, takenOf, Left, isTaken, Turned, scanOf, refusedScan, judgedOf}
 use Rattle.hexfile.specs.Calls.{arrayVerdictOf, refusedHex, gotOf}
 use Rattle.hexfile.proofs.Kit.{clash}

@@ -44,7 +44,7 @@ pub data Got : Type 0 where
   gets : List ℕ → ℕ → Got
   no : Refusal → Got
 
--- one record: of the cells, the line's number from 1, what the lines behind it give, and whether there are any
+-- one record: of what the lines behind it give, whether there are any, the cells, and how many lines stand before it
 abbrev pub turnOf : (List ℕ → Got) → Bool → List ℕ → ℕ → Record → Got
 turnOf on more cells k malformed = no (BadRecord (suc k))
 turnOf on more cells k (bytes a d right) =
@@ -55,7 +55,7 @@ abbrev pub someOf : List (List ℕ) → Bool
 someOf [] = false
 someOf (l ∷ ls) = true
 
--- the lines behind the first k
+-- of the cells, and the lines behind the first k
 abbrev pub readAt : List ℕ → ℕ → List (List ℕ) → Got
 readAt cells k [] = no (NoEnd (suc k))
 readAt cells k (l ∷ ls) = turnOf (λ now. readAt now (suc k) ls) (someOf ls) cells k (recordOf l)

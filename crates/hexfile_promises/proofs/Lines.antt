@@ -2,7 +2,7 @@
 -- Assumes nothing.
 use Prim.Native.Nat.{ℕ, _<_}
 use mathlib.Core.Path.{_≡_, refl, sym, ap, _∙_}
-use mathlib.Core.Bool.{Bool, true, false}
+use mathlib.Core.Bool.{Bool, false}
 use mathlib.Core.List.{List, [], _∷_, _++_, append-assoc, append-nil}
 use native.Mathlib.Omega.{arith}
 use native.Mathlib.Decide.{ℕ-discrete}
@@ -10,7 +10,7 @@ use lib.Dec.{eqb}
 use lib.ListN.{length, getD, length-append}
 use borrow.Author.Tests.{ne-eqb, eqb-true}
 use Rattle.parts.proofs.Laws.{branch}
-use Rattle.hexfile.specs.File.{beforeLf, linesOf, someOf}
+use Rattle.hexfile.specs.File.{beforeLf, linesOf}
 use Rattle.hexfile_promises.specs.Files.{NoLf, FirstLine, by-lf, by-cr-lf, by-end, LineEnd, lf, cr-lf, LastEnd, closed, missing}
 use Rattle.hexfile_promises.proofs.Digits.{High}
 

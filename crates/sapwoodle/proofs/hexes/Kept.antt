@@ -10,7 +10,7 @@ use Rattle.parts.specs.declared.Verdict.the-variants.{Fine, Refused}
 use Rattle.parts.specs.Table.{factsOf}
 use Rattle.parts.specs.Refusals.{verdictNumberOf}
 use Rattle.hexfile.specs.File.{Got, gets, no, readOf}
-use Rattle.hexfile.specs.Calls.{AfterRead, AfterWrite, arrayVerdictOf, gotOf, readBy, writeVerdictOf, writeBy}
+use Rattle.hexfile.specs.Calls.{AfterRead, arrayVerdictOf, gotOf, readBy, writeVerdictOf, writeBy}
 use Rattle.sapwoodle.specs.Hexes.{hexReading, hexWriting}
 use Rattle.sapwoodle.specs.Promises.{HexReadKeeps, HexWriteKeeps}
 
