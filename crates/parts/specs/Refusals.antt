@@ -1,11 +1,11 @@
--- Document 01, 'Refusal numbers', and document 02, §1 and §2: number, rank and place of each refusal, and which of several is given.
+-- Document 01, 'Refusal numbers', and document 02, §1 to §3: number, rank and place of each refusal, and which of several is given.
 -- Assumes nothing.
 use Prim.Native.Nat.{ℕ}
 use mathlib.Core.Bool.{Bool, true, false, not, cond}
 use lib.Dec.{ltb}
 use Rattle.parts.specs.declared.Facts.{Facts}
 use Rattle.parts.specs.declared.Refusal.{Refusal}
-use Rattle.parts.specs.declared.Refusal.the-variants.{NoPart, WrongEnable, WrongBuffer, BadState, BadEvent, ShortBuffer, Beyond, BadLimit, NoSelect, NoData, PollsUsed, BadImage, TooMany, NoFirst, NoSecond, BadRecord, BadSum, Misplaced, NoEnd}
+use Rattle.parts.specs.declared.Refusal.the-variants.{NoPart, WrongEnable, WrongBuffer, BadState, BadEvent, ShortBuffer, Beyond, BadLimit, NoSelect, NoData, PollsUsed, BadImage, TooMany, NoFirst, NoSecond, BadRecord, BadSum, Misplaced, NoEnd, BadSample}
 use Rattle.parts.specs.declared.Spot.{Spot}
 use Rattle.parts.specs.declared.Spot.the-variants.{Nowhere, At}
 use Rattle.parts.specs.declared.Entry.{Entry}
@@ -22,7 +22,8 @@ entry number rank spot = record { 0 = number; 1 = rank; 2 = spot }
 -- last two digits are the number, so that no two numbers share a rank. 9 to 11, 14 and 15 end a driver that has begun, one at a time. 5
 -- goes "with the first place"; 02 §1: "9 is the select only; 14 first address byte, 15 second", and "give the page of the transfer's address.
 -- Refusal 10 gains the data byte's index in the request". 02 §2: "16 malformed record, 17 wrong sum, 18 overlap or beyond the array, 19 no end
--- record or text after it; the earliest record decides, within it the lowest number": each goes with the record's line, counted from 1
+-- record or text after it; the earliest record decides, within it the lowest number": each goes with the record's line, counted from 1. §3: "20 a sample
+-- above 3, at its place, after 4": its rank stands behind that of 4, before that of 13
 abbrev pub entryOf : Refusal → Entry
 entryOf NoPart = entry 1 1001 Nowhere
 entryOf WrongEnable = entry 2 2002 Nowhere
@@ -43,6 +44,7 @@ entryOf (BadRecord n) = entry 16 16016 (At n)
 entryOf (BadSum n) = entry 17 17017 (At n)
 entryOf (Misplaced n) = entry 18 18018 (At n)
 entryOf (NoEnd n) = entry 19 19019 (At n)
+entryOf (BadSample k) = entry 20 4020 (At k)
 
 abbrev pub numberOf : Refusal → ℕ
 numberOf r = entryOf r .0

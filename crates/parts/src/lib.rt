@@ -271,9 +271,11 @@ pub enum Refusal {
     BadSum(usize),
     Misplaced(usize),
     NoEnd(usize),
+    // Of a capture of the two wires, with the first such sample, counted from 0: above 3.
+    BadSample(usize),
 }
 
-// The place that a refusal tells: of 5 the event's, of 9, 14 and 15 the page, of 10 the data byte's, of 16 to 19 the line.
+// The place that a refusal tells: of 5 the event's, of 9, 14 and 15 the page, of 10 the data byte's, of 16 to 19 the line, of 20 the sample's.
 pub enum Spot {
     Nowhere,
     At(usize),
@@ -306,6 +308,7 @@ fn entry_of(r: Refusal) -> Entry
         Refusal::BadSum(n) => Entry(17, 17017, Spot::At(n)),
         Refusal::Misplaced(n) => Entry(18, 18018, Spot::At(n)),
         Refusal::NoEnd(n) => Entry(19, 19019, Spot::At(n)),
+        Refusal::BadSample(k) => Entry(20, 4020, Spot::At(k)),
     }
 }
 

@@ -95,7 +95,7 @@ fn lost_data(g: Ground, i: usize, r: Refusal) -> bool {
 }
 
 // What a call is refused for, and which byte ended a run that has begun. Of a HEX file standard error has the reason; the others cannot
-// come of a command.
+// come of these commands.
 fn reason(g: Ground, r: Refusal) -> bool {
     let k = parts::verdict_place(Verdict::Refused(r));
     match r {
@@ -124,6 +124,7 @@ fn reason(g: Ground, r: Refusal) -> bool {
         Refusal::BadSum(_) => true,
         Refusal::Misplaced(_) => true,
         Refusal::NoEnd(_) => true,
+        Refusal::BadSample(_) => true,
     }
 }
 

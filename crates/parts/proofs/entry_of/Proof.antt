@@ -59,6 +59,9 @@ enum-known-r-8 c = search needs
 enum-known-r-9 : tie.Need-enum-known-r-9
 enum-known-r-9 c = search needs
 
+enum-known-r-10 : tie.Need-enum-known-r-10
+enum-known-r-10 c = search needs
+
 returns : tie.Need-returns
 returns c = simp (c .enum-told .given .1)
 
@@ -116,6 +119,9 @@ returns-18 c = simp (c .before .r8 .given .1)
 returns-19 : tie.Need-returns-19
 returns-19 c = simp (c .before .r9 .given .1)
 
+returns-20 : tie.Need-returns-20
+returns-20 c = simp (c .before .r10 .given .1)
+
 pub entry-of-spec : {M : Type 1} → statement M
 entry-of-spec =
     tie.close
@@ -139,6 +145,7 @@ entry-of-spec =
     enum-known-r-7
     enum-known-r-8
     enum-known-r-9
+    enum-known-r-10
     returns
     returns-2
     returns-3
@@ -157,4 +164,5 @@ entry-of-spec =
     returns-16
     returns-17
     returns-18
-    returns-19)
+    returns-19
+    returns-20)
