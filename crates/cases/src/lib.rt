@@ -85,3 +85,18 @@ pub fn fill(s: &mut [u8], first: u8) {
         i += 1;
     }
 }
+
+fn mix(sum: usize, x: u8) -> usize {
+    (sum % 1000003 * 31 + x as usize) % 1000003
+}
+
+// A number that tells buffers apart by their bytes and the places of these.
+pub fn mixed(s: &[u8]) -> usize {
+    let mut sum = 0;
+    let mut i = 0;
+    while i < s.len() {
+        sum = mix(sum, s[i]);
+        i += 1;
+    }
+    sum
+}

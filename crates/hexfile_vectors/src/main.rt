@@ -4,23 +4,13 @@
 ghost use mathlib.Core.Path.{_≡_};
 ghost use Prim.Native.Nat.{_<_};
 ghost use lib.ListN.{length};
+use cases::mixed;
 use libc::STDIN_FILENO;
 use parts::Verdict;
 use text::say;
 use text::say_number;
 
 // ---- what is told
-
-// A number that tells buffers apart by their bytes and the places of these. `% 256` is for the proof alone.
-fn mixed(s: &[u8]) -> usize {
-    let mut sum: usize = 0;
-    let mut i = 0;
-    while i < s.len() {
-        sum = (sum * 31 + text::wide(s[i]) % 256) % 1000003;
-        i += 1;
-    }
-    sum
-}
 
 fn tell(name: &[u8], n: usize) {
     say(name);

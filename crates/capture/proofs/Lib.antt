@@ -1,0 +1,3 @@
+pub mod Sampled
+pub mod Quiet
+pub mod Finish
