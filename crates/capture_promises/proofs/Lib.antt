@@ -1,0 +1,17 @@
+pub mod Judged
+pub mod Cuts
+pub mod Answered
+pub mod Drops
+pub mod Drawn
+pub mod Reading
+pub mod Ends
+pub mod Rises
+pub mod Marks
+pub mod Running
+pub mod Tallied
+pub mod Good
+pub mod Joined
+pub mod Pieces
+pub mod Wrong
+pub mod Worked
+pub mod WrongRuns

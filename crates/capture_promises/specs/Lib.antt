@@ -1,0 +1,9 @@
+pub mod Machines
+pub mod Reading
+pub mod Running
+pub mod Good
+pub mod Pieces
+pub mod Tallied
+pub mod Wrong
+pub mod WrongRuns
+pub mod Worked

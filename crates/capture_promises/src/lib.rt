@@ -1,0 +1,1 @@
+// What is promised of captures of the two wires: laws alone, no code.
