@@ -1,6 +1,7 @@
 // The product and the plain C model in one process: first the same events to both, every level, every stored byte and the
-// cycles compared, and the same Intel HEX texts to both readers; then the events, and the bytes of text, per second of each. Prints a line
-// for each workload, and ends with 1 where they differ.
+// cycles compared, the same Intel HEX texts to both readers and the same captures to both; then the events, bytes of text and samples per second
+// of each. Prints a line for each workload, and ends with 1 where they differ.
+#include "capture.h"
 #include "hex.h"
 #include "product.h"
 
@@ -248,6 +249,94 @@ static void write_product(unsigned part, unsigned enable, size_t n) {
     product.cycles = product_hex_write((uint8_t)part, plain.array, text, sizeof text);
 }
 
+// ---- captures
+
+// Ten samples to a clock.
+enum { SAMPLES = 12 * ROOM };
+
+static uint8_t wires[SAMPLES];
+static size_t drawn;
+
+static void show(uint8_t sample, int times) {
+    while (times-- > 0 && drawn < SAMPLES) wires[drawn++] = sample;
+}
+
+// The events on two wires: data change while the clock is low, and the clock rises once more before a Stop, and before a Start in a transfer.
+static size_t draw(size_t n) {
+    uint8_t data = 2, rest = 1;
+    drawn = 0;
+    show(3, 4);
+    for (size_t i = 0; i < n && drawn + 16 < SAMPLES; i++) {
+        unsigned code = events[i], level = plain.answers[i];
+        if (code > 3 || (code == 2 && rest)) {
+            if (code == 2) show(1, 4);
+        } else {
+            uint8_t to = code == 0 || code == 3 || (code == 1 && level == 0) ? 0 : 2;
+            show(data, 3);
+            show(to, 3);
+            show(to | 1, 4);
+            if (code > 1) show(3 - to, 4);
+            data = code == 3 ? 2 : code == 2 ? 0 : to;
+        }
+        if (code == 2) data = 0;
+        if (code == 2 || code == 3) rest = code == 3;
+    }
+    return drawn;
+}
+
+static int same_seen(unsigned part, unsigned enable, int bus, size_t n) {
+    uint8_t state[SAPWOODLE_STATE_LENGTH];
+    fresh(part);
+    struct seen a = capture_run(part, enable, &plain.chip, plain.array, plain.id, bus, wires, n);
+    struct seen b = product_capture((uint8_t)part, (uint8_t)enable, state, product.array, product.id, (uint8_t)bus, wires, n);
+    unsigned t[4] = {1, 2, 3, 0xFFFFFF00}, u[4] = {1, 2, 3, 0xFFFFFF00};
+    capture_tally(bus, wires, n, t);
+    product_tally((uint8_t)bus, wires, n, u);
+    if (memcmp(&a, &b, sizeof a) == 0 && memcmp(t, u, sizeof t) == 0 && memcmp(plain.array, product.array, model_size(part)) == 0 &&
+        memcmp(plain.id, product.id, model_id_size(part)) == 0)
+        return 1;
+    printf("differ capture part %u enable %u bus %d: plain cycles %zu ends %zu clock %zu, product cycles %zu ends %zu clock %zu\n", part, enable, bus,
+           a.cycles, a.ends, a.clock, b.cycles, b.ends, b.clock);
+    return 0;
+}
+
+// Wires of transfers that are cut and disturbed at random, some of their samples turned, left out or put twice.
+static size_t same_captures(unsigned part) {
+    size_t compared = 0;
+    for (unsigned k = 0; k < 40; k++) {
+        unsigned enable = part < 2 ? 0 : random_below(8);
+        size_t n = disturbed(part, enable, k % 4 == 0 ? 1000000 : 1u << (k % 12));
+        fresh(part);
+        run_plain(part, enable, n);
+        n = draw(n);
+        for (unsigned j = random_below(40); k % 3 && j > 0; j--) wires[random_below((unsigned)n)] = (uint8_t)random_below(4);
+        if (!same_seen(part, enable, 1, n) || !same_seen(part, enable, 0, n)) return 0;
+        compared += 2 * n;
+    }
+    return compared;
+}
+
+static void seen_plain(unsigned part, unsigned enable, size_t n) {
+    plain.cycles = capture_run(part, enable, &plain.chip, plain.array, plain.id, 1, wires, n).cycles;
+}
+
+static void seen_product(unsigned part, unsigned enable, size_t n) {
+    uint8_t state[SAPWOODLE_STATE_LENGTH];
+    product.cycles = product_capture((uint8_t)part, (uint8_t)enable, state, product.array, product.id, 1, wires, n).cycles;
+}
+
+static void tally_plain(unsigned part, unsigned enable, size_t n) {
+    unsigned counts[4] = {part, enable, 0, 0};
+    capture_tally(1, wires, n, counts);
+    plain.cycles = counts[2];
+}
+
+static void tally_product(unsigned part, unsigned enable, size_t n) {
+    unsigned counts[4] = {part, enable, 0, 0};
+    product_tally(1, wires, n, counts);
+    product.cycles = counts[2];
+}
+
 // ---- times
 
 typedef void (*runner)(unsigned, unsigned, size_t);
@@ -303,6 +392,13 @@ int main(int argc, char **argv) {
         texts += n;
     }
     printf("compared hex_bytes=%zu parts=6 same=yes\n", texts);
+    size_t samples = 0;
+    for (unsigned p = 0; p < 6; p++) {
+        size_t n = same_captures(p);
+        if (n == 0) return 1;
+        samples += n;
+    }
+    printf("compared samples=%zu parts=6 same=yes\n", samples);
     if (part > 5) return 1;
     for (int w = 0; w < 3; w++) {
         size_t n = make[w](part);
@@ -312,5 +408,16 @@ int main(int argc, char **argv) {
     size_t n = same_written(part);
     measure("hex_read", "bytes", part, n, read_plain, read_product);
     measure("hex_write", "bytes", part, n, write_plain, write_product);
+    static const char *const seen[3] = {"capture_writes", "capture_read", "capture_polls"};
+    static const char *const tallied[3] = {"tally_writes", "tally_read", "tally_polls"};
+    for (int w = 0; w < 3; w++) {
+        size_t k = make[w](part);
+        fresh(part);
+        run_plain(part, 0, k);
+        k = draw(k);
+        fresh(part);
+        measure(seen[w], "samples", part, k, seen_plain, seen_product);
+        measure(tallied[w], "samples", part, k, tally_plain, tally_product);
+    }
     return 0;
 }

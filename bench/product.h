@@ -2,6 +2,7 @@
 #ifndef PRODUCT_H
 #define PRODUCT_H
 #include "../include/sapwoodle.h"
+#include "capture.h"
 #include "hex.h"
 #include "model.h"
 
@@ -36,6 +37,24 @@ static size_t product_hex_write(uint8_t part, const uint8_t *array, uint8_t *out
     size_t written = 0;
     sapwoodle_hex_write(part, array, model_size(part), out, room, &written);
     return written;
+}
+
+// A capture on a state as delivered.
+static struct seen product_capture(uint8_t part, uint8_t enable, uint8_t *state, uint8_t *array, uint8_t *id, uint8_t bus, const uint8_t *samples,
+                                   size_t n) {
+    struct seen s = {0, 0, 0, 0, 0, 0, 0};
+    uint8_t level = 0;
+    size_t place = 0;
+    memcpy(state, delivered, sizeof delivered);
+    sapwoodle_capture_run(part, enable, state, sizeof delivered, array, model_size(part), id, model_id_size(part), bus, samples, n, &s.events,
+                          &s.clocks, &s.ends, &s.cycles, &level, &s.sample, &s.clock, &place);
+    s.level = level;
+    return s;
+}
+
+static void product_tally(uint8_t bus, const uint8_t *samples, size_t n, unsigned counts[4]) {
+    size_t place = 0;
+    sapwoodle_capture_tally(bus, samples, n, &counts[0], &counts[1], &counts[2], &counts[3], &place);
 }
 
 #endif

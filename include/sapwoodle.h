@@ -19,12 +19,13 @@
  *         page; no such page                            17  HEX: wrong sum
  *                                                       18  HEX: overlap, or beyond the array
  *                                                       19  HEX: no end record, or text after it
+ *                                                       20  capture: a sample above 3
  *
- * Where several of 1 to 8, 12 and 13 apply, the first of 1 2 3 4 13 5 6 7 8 12 is answered; of 16 to 19, which come after these, the one of the
+ * Where several of 1 to 8, 12, 13 and 20 apply, the first of 1 2 3 4 20 13 5 6 7 8 12 is answered; of 16 to 19, which come after these, the one of the
  * earliest record, and within it the lowest. A call refused with one of these changes no lent byte; its results are the ones said below for
  * a refused call.
  *
- * unsigned char has 8 bits here, unsigned long 64: uint8_t, size_t and uint64_t fit. */
+ * unsigned char has 8 bits here, unsigned int 32, unsigned long 64: uint8_t, uint32_t, size_t and uint64_t fit. */
 #ifndef SAPWOODLE_H
 #define SAPWOODLE_H
 
@@ -156,6 +157,42 @@ unsigned char sapwoodle_hex_write(unsigned char part,
     const unsigned char *array, unsigned long array_length,
     unsigned char *out, unsigned long out_length,
     unsigned long *written);
+
+/* ---- what a logic analyser saw: captures of SCL and SDA, one byte a sample, bit 0 clock and bit 1 data */
+enum {
+    SAPWOODLE_LETTER = 0, /* every rise of the clock is a clock */
+    SAPWOODLE_BUS = 1 /* a rise is a clock where data then stay still until the clock falls: not the one that makes way for a Start or Stop. What
+                         a master on two wires makes; by the letter each of its Stops comes one clock late */
+};
+
+/* The model over a capture, on a state as above, in any number of samples. Where a cycle runs it ends before the first Start whose first byte the capture
+ * shows acknowledged. `events` and `clocks` get how many the capture has, `ends` how many ends of cycles were put in, `cycles` the cycles begun. `level`
+ * gets the line's level at the first clock that differs from the model's, among data bits that the model sends and ninth clocks of other bytes, or 2
+ * where none does; `sample` then where that clock rises and `clock` its number, both counted from 0. A long capture may be cut behind a Stop: the next
+ * piece begins with the sample that the last one ended with, and events, clocks and cycles add up. A sample that repeats the one before it may be left out.
+ * `at` gets the first sample above 3, where the call is refused with 20. Refused with 1 to 4, 20; all else is 0 then, and `level` 2. */
+unsigned char sapwoodle_capture_run(unsigned char part, unsigned char enable,
+    unsigned char *state, unsigned long state_length,
+    unsigned char *array, unsigned long array_length,
+    unsigned char *id, unsigned long id_length,
+    unsigned char bus,
+    const unsigned char *samples, unsigned long samples_length,
+    unsigned long *events, unsigned long *clocks, unsigned long *ends, unsigned long *cycles,
+    unsigned char *level, unsigned long *sample, unsigned long *clock, unsigned long *at);
+
+/* The events of a capture, by their codes 0 to 3. `length` gets how many, of a refused call 0; further bytes of `out` keep their values. There are at
+ * most as many as samples. Refused with 20, 6. */
+unsigned char sapwoodle_capture_events(unsigned char bus,
+    const unsigned char *samples, unsigned long samples_length,
+    unsigned char *out, unsigned long out_length,
+    unsigned long *length, unsigned long *at);
+
+/* The four counts go on by the Starts, Stops, bytes and unacknowledged bytes that a capture shows; a byte is nine clocks, unacknowledged if the ninth is 1.
+ * Each stays at 4,294,967,295. Refused with 20, and nothing is counted. */
+unsigned char sapwoodle_capture_tally(unsigned char bus,
+    const unsigned char *samples, unsigned long samples_length,
+    unsigned int *starts, unsigned int *stops, unsigned int *bytes, unsigned int *unacknowledged,
+    unsigned long *at);
 
 /* ---- the driver: it is asked for one event at a time, and told the level of the last clock */
 enum {

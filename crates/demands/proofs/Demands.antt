@@ -29,6 +29,7 @@ use Rattle.sapwoodle.specs.Promises.{BytesKept}
 use Rattle.sapwoodle.proofs.chips.Kept.{step-keeps, run-keeps, deliver-keeps}
 use Rattle.sapwoodle.proofs.images.Kept.{save-keeps, load-keeps}
 use Rattle.sapwoodle.proofs.hexes.Kept.{hex-read-keeps, hex-write-keeps}
+use Rattle.sapwoodle.proofs.captures.Kept.{capture-keeps, events-keep, tally-keeps}
 use Rattle.sapwoodle.proofs.drivers.Kept.{begin-keeps, next-keeps}
 use Rattle.sapwoodle.proofs.runs.Kept.{bench-keeps}
 use Rattle.determined.proofs.Functions.{every-answer}
@@ -36,7 +37,7 @@ use Rattle.determined.proofs.Machines.{every-machine}
 use Rattle.demands.specs.Demands.{Demand1, now, says, Demand2, Demand3, Demands}
 
 bytes-kept : BytesKept
-bytes-kept = record { deliver = deliver-keeps; step = step-keeps; run = run-keeps; save = save-keeps; load = load-keeps; hex-read = hex-read-keeps; hex-write = hex-write-keeps; begin = begin-keeps; next = next-keeps; bench = bench-keeps }
+bytes-kept = record { deliver = deliver-keeps; step = step-keeps; run = run-keeps; save = save-keeps; load = load-keeps; hex-read = hex-read-keeps; hex-write = hex-write-keeps; capture = capture-keeps; events = events-keep; tally = tally-keeps; begin = begin-keeps; next = next-keeps; bench = bench-keeps }
 
 demand-1 : Demand1
 demand-1 =

@@ -11,6 +11,16 @@ use Rattle.hexfile_promises.proofs.Pinned.{hex-reader, hex-pinned}
 use Rattle.hexfile_promises.proofs.Written.{hex-writer, hex-writer-pinned}
 use Rattle.hexfile_promises.proofs.Worked.{worked-lines}
 use Rattle.hexfile_promises.proofs.Idle.{wrong-hex}
+use Rattle.capture_promises.proofs.Reading.{letter-pairs, letter-joins, bus-drops, drawn-back, letter-late, repeats, list-numbers, reader, reader-pinned}
+use Rattle.capture_promises.proofs.Ends.{ends-one-way}
+use Rattle.capture_promises.proofs.Running.{ends-right, mark-first, see-numbers, viewer, viewer-pinned}
+use Rattle.capture_promises.proofs.Good.{line-levels, good-unmarked}
+use Rattle.capture_promises.proofs.Pieces.{pieces-join, repeats-left-out}
+use Rattle.capture_promises.proofs.Tallied.{tally-counts, count-numbers, counter, counter-pinned, tally-joins}
+use Rattle.capture_promises.proofs.Wrong.{wrong-readers, wrong-tallies}
+use Rattle.capture_promises.proofs.WrongRuns.{wrong-runs}
+use Rattle.capture_promises.proofs.Worked.{worked}
+use Rattle.sapwoodle.proofs.captures.Kept.{capture-is-chips, capture-refuses-4}
 use Rattle.sapwoodle.proofs.drivers.Kept.{next-is-drivers}
 use Rattle.sapwoodle.proofs.runs.Kept.{bench-is-benchs}
 use Rattle.demands.specs.Requests.{Requests}
@@ -45,5 +55,27 @@ requests =
             pinned = (hex-pinned, hex-writer-pinned);
             wrong = wrong-hex;
             worked = worked-lines;
+          };
+      third =
+          record {
+            pairs = letter-pairs;
+            joins = letter-joins;
+            late = letter-late;
+            drops = bus-drops;
+            back = drawn-back;
+            ends = ends-right;
+            one-way = ends-one-way;
+            marks = mark-first;
+            good = good-unmarked;
+            line = line-levels;
+            counts = tally-counts;
+            numbers = (see-numbers, list-numbers, count-numbers);
+            pieces = (pieces-join, tally-joins);
+            repeats = (repeats, repeats-left-out);
+            ours = (reader, viewer, counter);
+            pinned = (reader-pinned, viewer-pinned, counter-pinned);
+            wrong = (wrong-readers, wrong-runs, wrong-tallies);
+            worked = worked;
+            bytes = (capture-is-chips, capture-refuses-4);
           };
     }

@@ -13,9 +13,20 @@ use Rattle.hexfile_promises.specs.Numbers.{HexReadNumbers, HexWriteNumbers}
 use Rattle.hexfile_promises.specs.Pinned.{HexReader, HexPinned, HexWriter, HexWriterPinned}
 use Rattle.hexfile_promises.specs.Worked.{WorkedLines}
 use Rattle.hexfile_promises.specs.Idle.{WrongHex}
-use Rattle.sapwoodle.specs.Promises.{NextIsDrivers, BenchIsBenchs}
+use Rattle.capture.specs.Calls.{seeingOf, listingOf}
+use Rattle.capture_promises.specs.Machines.{countingOf}
+use Rattle.capture_promises.specs.Reading.{LetterPairs, LetterJoins, BusDrops, DrawnBack, LetterLate, RepeatsMakeNone, ListNumbers, Reader, ReaderPinned}
+use Rattle.capture_promises.specs.Running.{EndsRight, EndsOneWay, MarkFirst, SeeNumbers, Viewer, ViewerPinned}
+use Rattle.capture_promises.specs.Good.{LineLevels, GoodUnmarked}
+use Rattle.capture_promises.specs.Pieces.{PiecesJoin, TallyJoins, RepeatsLeftOut}
+use Rattle.capture_promises.specs.Tallied.{TallyCounts, CountNumbers, Counter, CounterPinned}
+use Rattle.capture_promises.specs.Wrong.{WrongReaders, WrongTallies}
+use Rattle.capture_promises.specs.WrongRuns.{WrongRuns}
+use Rattle.capture_promises.specs.Worked.{WorkedCaptures}
+use Rattle.sapwoodle.specs.Promises.{NextIsDrivers, BenchIsBenchs, CaptureIsChips, CaptureRefuses4}
 use Rattle.sapwoodle.specs.Drivers.{asking}
 use Rattle.sapwoodle.specs.Runs.{benching}
+use Rattle.sapwoodle.specs.Captures.{capturing}
 
 -- §1, "Tell me which byte went unanswered."
 pub record Request1 : Type 0 where
@@ -64,6 +75,45 @@ pub record Request2 : Type 0 where
   pub wrong : WrongHex
   pub worked : WorkedLines
 
+-- §3, "Run what the logic analyser saw.": of `listingOf`, `seeingOf` and `countingOf`, which `code` of specs/Demands.antt says `capture::events`,
+-- `capture::run` and `capture::count` are
+pub record Request3 : Type 0 where
+  -- "Turn them into events: data falling with the clock high in both samples is a Start, rising a Stop, a rising clock a clock with the new data level,
+  -- and the first sample makes none", "Where both lines change at once the clock rule alone holds": by the letter, each pair of samples, and no more
+  -- than pairs
+  pub pairs : LetterPairs listingOf
+  pub joins : LetterJoins listingOf
+  -- a bus lets the clock rise once more before each Stop, and before a Start in a transfer: by the letter that is a clock, so every Stop comes late;
+  -- read as on a bus it is none, and whatever a bus carries is read back
+  pub late : LetterLate listingOf
+  pub drops : BusDrops listingOf
+  pub back : DrawnBack listingOf
+  -- "Run the model over them", "A capture doesn't show a cycle's end: put `E` before the first later Start whose first byte the capture shows
+  -- acknowledged": there is one way to put them, and what is run is that
+  pub ends : EndsRight seeingOf
+  pub one-way : EndsOneWay
+  -- "and mark the first clock where the level differs from the model's, among data bits the model sends and ninth clocks of other bytes"
+  pub marks : MarkFirst seeingOf
+  -- a board that is as the model says is not marked
+  pub good : GoodUnmarked seeingOf
+  pub line : LineLevels
+  -- "The tally that the caller lends and each event updates counts Starts, Stops, bytes and unacknowledged bytes in 32 bits, staying at the top.
+  -- A byte is nine clocks, unacknowledged if the ninth is 1."
+  pub counts : TallyCounts countingOf
+  -- "Refusals: 20 a sample above 3, at its place, after 4"; a refused call changes nothing
+  pub numbers : SeeNumbers seeingOf × ListNumbers listingOf × CountNumbers countingOf
+  -- any number of samples: in pieces that are cut behind a Stop, and with samples left out that repeat the one before
+  pub pieces : PiecesJoin seeingOf × TallyJoins countingOf
+  pub repeats : RepeatsMakeNone listingOf × RepeatsLeftOut seeingOf
+  -- these leave nothing open: ours keep them, and whoever else does is ours; wrong ones break them, and captures written out are what they should be
+  pub ours : Reader listingOf × Viewer seeingOf × Counter countingOf
+  pub pinned : ReaderPinned × ViewerPinned × CounterPinned
+  pub wrong : WrongReaders × WrongRuns × WrongTallies
+  pub worked : WorkedCaptures
+  -- callers that hold bytes are told the same
+  pub bytes : CaptureIsChips capturing × CaptureRefuses4 capturing
+
 pub record Requests : Type 0 where
   pub first : Request1
   pub second : Request2
+  pub third : Request3

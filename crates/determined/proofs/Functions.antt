@@ -18,6 +18,9 @@ use Rattle.determined.specs.Functions.{
   SapwoodleLoadDetermined,
   SapwoodleHexReadDetermined,
   SapwoodleHexWriteDetermined,
+  SapwoodleCaptureRunDetermined,
+  SapwoodleCaptureEventsDetermined,
+  SapwoodleCaptureTallyDetermined,
   SapwoodleDriverBeginDetermined,
   SapwoodleDriverNextDetermined,
   SapwoodleBenchRunDetermined,
@@ -60,6 +63,15 @@ use Rattle.determined.specs.Functions.{
   LoadDetermined,
   HexReadDetermined,
   HexWriteDetermined,
+  ChipSeenDetermined,
+  ChipTakeDetermined,
+  CaptureJudgeDetermined,
+  CaptureRunDetermined,
+  CaptureEventsDetermined,
+  TalliedByDetermined,
+  CountDetermined,
+  LinedDetermined,
+  DrawDetermined,
   LettersDetermined,
   CodeOfDetermined,
   TraceJudgeDetermined,
@@ -77,7 +89,7 @@ use Rattle.determined.specs.Functions.{
   DriverUnpackDetermined,
 }
 use Rattle.determined.proofs.Answers.{agree, same, plainly, of-machine}
-use Rattle.determined.proofs.Machines.{deliver-is, step-is, run-is, save-is, load-is, hex-read-is, hex-write-is, trace-is, begin-is, next-is-our-driver, bench-record-is-our-bench, bench-run-is-our-bench, sapwoodle-deliver-is, sapwoodle-step-is, sapwoodle-run-is, sapwoodle-save-is, sapwoodle-load-is, sapwoodle-hex-read-is, sapwoodle-hex-write-is, sapwoodle-driver-begin-is, sapwoodle-driver-next-is, sapwoodle-bench-run-is, sapwoodle-trace-is}
+use Rattle.determined.proofs.Machines.{deliver-is, step-is, run-is, save-is, load-is, hex-read-is, hex-write-is, capture-run-is, capture-events-is, count-is, trace-is, begin-is, next-is-our-driver, bench-record-is-our-bench, bench-run-is-our-bench, sapwoodle-deliver-is, sapwoodle-step-is, sapwoodle-run-is, sapwoodle-save-is, sapwoodle-load-is, sapwoodle-hex-read-is, sapwoodle-hex-write-is, sapwoodle-capture-run-is, sapwoodle-capture-events-is, sapwoodle-capture-tally-is, sapwoodle-driver-begin-is, sapwoodle-driver-next-is, sapwoodle-bench-run-is, sapwoodle-trace-is}
 
 pub facts-of-determined : FactsOfDetermined
 facts-of-determined = record { taken = λ κs a. tt; equal = λ κs a x y p q. same (agree (p .0) (q .0)) refl }
@@ -175,6 +187,12 @@ step-determined = of-machine (λ κs a. tt) step-is
 pub chip-run-determined : ChipRunDetermined
 chip-run-determined = of-machine (λ κs a. tt) run-is
 
+pub chip-seen-determined : ChipSeenDetermined
+chip-seen-determined = plainly (λ κs a u v. refl)
+
+pub chip-take-determined : ChipTakeDetermined
+chip-take-determined = record { taken = λ κs a. tt; equal = λ κs a x y p q. same (agree (p .0) (q .0)) (λ i. (tt, (tt, (tt, (agree (p .1 .0) (q .1 .0) i, (agree (p .1 .1) (q .1 .1) i, (tt, tt))))))) }
+
 pub look-refusal-determined : LookRefusalDetermined
 look-refusal-determined = plainly (λ κs a u v. refl)
 
@@ -195,6 +213,27 @@ hex-read-determined = of-machine (λ κs a. tt) hex-read-is
 
 pub hex-write-determined : HexWriteDetermined
 hex-write-determined = of-machine (λ κs a. tt) hex-write-is
+
+pub capture-judge-determined : CaptureJudgeDetermined
+capture-judge-determined = plainly (λ κs a u v. refl)
+
+pub capture-run-determined : CaptureRunDetermined
+capture-run-determined = of-machine (λ κs a. tt) capture-run-is
+
+pub capture-events-determined : CaptureEventsDetermined
+capture-events-determined = of-machine (λ κs a. tt) capture-events-is
+
+pub tallied-by-determined : TalliedByDetermined
+tallied-by-determined = plainly (λ κs a u v. refl)
+
+pub count-determined : CountDetermined
+count-determined = of-machine (λ κs a. tt) count-is
+
+pub lined-determined : LinedDetermined
+lined-determined = plainly (λ κs a u v. refl)
+
+pub draw-determined : DrawDetermined
+draw-determined = plainly (λ κs a u v. refl)
 
 pub letters-determined : LettersDetermined
 letters-determined = record {
@@ -302,6 +341,15 @@ sapwoodle-hex-read-determined = of-machine (λ κs a. tt) sapwoodle-hex-read-is
 pub sapwoodle-hex-write-determined : SapwoodleHexWriteDetermined
 sapwoodle-hex-write-determined = of-machine (λ κs a. tt) sapwoodle-hex-write-is
 
+pub sapwoodle-capture-run-determined : SapwoodleCaptureRunDetermined
+sapwoodle-capture-run-determined = of-machine (λ κs a. tt) sapwoodle-capture-run-is
+
+pub sapwoodle-capture-events-determined : SapwoodleCaptureEventsDetermined
+sapwoodle-capture-events-determined = of-machine (λ κs a. tt) sapwoodle-capture-events-is
+
+pub sapwoodle-capture-tally-determined : SapwoodleCaptureTallyDetermined
+sapwoodle-capture-tally-determined = of-machine (λ κs a. tt) sapwoodle-capture-tally-is
+
 pub sapwoodle-driver-begin-determined : SapwoodleDriverBeginDetermined
 sapwoodle-driver-begin-determined = of-machine (λ κs a. tt) sapwoodle-driver-begin-is
 
@@ -325,6 +373,9 @@ every-answer =
       load = load-determined;
       hex-read = hex-read-determined;
       hex-write = hex-write-determined;
+      capture-run = capture-run-determined;
+      capture-events = capture-events-determined;
+      capture-count = count-determined;
       trace = trace-determined;
       begin = begin-determined;
       next = next-determined;
@@ -337,6 +388,9 @@ every-answer =
       sapwoodle-load = sapwoodle-load-determined;
       sapwoodle-hex-read = sapwoodle-hex-read-determined;
       sapwoodle-hex-write = sapwoodle-hex-write-determined;
+      sapwoodle-capture-run = sapwoodle-capture-run-determined;
+      sapwoodle-capture-events = sapwoodle-capture-events-determined;
+      sapwoodle-capture-tally = sapwoodle-capture-tally-determined;
       sapwoodle-driver-begin = sapwoodle-driver-begin-determined;
       sapwoodle-driver-next = sapwoodle-driver-next-determined;
       sapwoodle-bench-run = sapwoodle-bench-run-determined;

@@ -1,3 +1,4 @@
 pub mod Answers
+pub mod Walked
 pub mod Machines
 pub mod Functions

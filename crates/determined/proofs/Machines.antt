@@ -2,7 +2,7 @@
 -- order; what is left is a row of the parameters.
 -- Assumes nothing.
 use mathlib.Core.Path.{refl}
-use Rattle.determined.specs.Machines.{EveryMachine, DeliverIs, StepIs, RunIs, SaveIs, LoadIs, HexReadIs, HexWriteIs, TraceIs, BeginIs, NextIsOurDriver, BenchRecordIsOurBench, BenchRunIsOurBench, SapwoodleDeliverIs, SapwoodleStepIs, SapwoodleRunIs, SapwoodleSaveIs, SapwoodleLoadIs, SapwoodleHexReadIs, SapwoodleHexWriteIs, SapwoodleDriverBeginIs, SapwoodleDriverNextIs, SapwoodleBenchRunIs, SapwoodleTraceIs}
+use Rattle.determined.specs.Machines.{EveryMachine, DeliverIs, StepIs, RunIs, SaveIs, LoadIs, HexReadIs, HexWriteIs, CaptureRunIs, CaptureEventsIs, CountIs, TraceIs, BeginIs, NextIsOurDriver, BenchRecordIsOurBench, BenchRunIsOurBench, SapwoodleDeliverIs, SapwoodleStepIs, SapwoodleRunIs, SapwoodleSaveIs, SapwoodleLoadIs, SapwoodleHexReadIs, SapwoodleHexWriteIs, SapwoodleCaptureRunIs, SapwoodleCaptureEventsIs, SapwoodleCaptureTallyIs, SapwoodleDriverBeginIs, SapwoodleDriverNextIs, SapwoodleBenchRunIs, SapwoodleTraceIs}
 use Rattle.determined.proofs.Answers.{same}
 
 pub deliver-is : DeliverIs
@@ -25,6 +25,15 @@ hex-read-is = λ κs a x p. same (p .0) (λ i. (tt, (tt, (p .1 i, tt))))
 
 pub hex-write-is : HexWriteIs
 hex-write-is = λ κs a x p. same (p .0) (λ i. (tt, (tt, (p .1 i, tt))))
+
+pub capture-run-is : CaptureRunIs
+capture-run-is = λ κs a x p. same (p .0) (λ i. (tt, (tt, (tt, (p .1 i .cells, (p .1 i .ident, (tt, (tt, tt))))))))
+
+pub capture-events-is : CaptureEventsIs
+capture-events-is = λ κs a x p. same (p .0) (λ i. (tt, (tt, (p .1 i, tt))))
+
+pub count-is : CountIs
+count-is = λ κs a x p. same (p .0) (λ i. (p .1 i, (tt, (tt, tt))))
 
 pub trace-is : TraceIs
 trace-is = λ κs a x p. same (p .0) (λ i. (tt, (p .1 i, tt)))
@@ -62,6 +71,15 @@ sapwoodle-hex-read-is = λ κs a x p. same (p .0) (λ i. (tt, (tt, (p .1 .0 i, (
 pub sapwoodle-hex-write-is : SapwoodleHexWriteIs
 sapwoodle-hex-write-is = λ κs a x p. same (p .0) (λ i. (tt, (tt, (p .1 .0 i, (p .1 .1 i, tt)))))
 
+pub sapwoodle-capture-run-is : SapwoodleCaptureRunIs
+sapwoodle-capture-run-is = λ κs a x p. same (p .0) (λ i. (tt, (tt, (p .1 .0 i, (p .1 .1 .0 i .cells, (p .1 .1 .0 i .ident, (tt, (tt, (p .1 .1 .1 .0 i, (p .1 .1 .1 .1 .0 i, (p .1 .1 .1 .1 .1 .0 i, (p .1 .1 .1 .1 .1 .1 .0 i, (p .1 .1 .1 .1 .1 .1 .1 .0 i, (p .1 .1 .1 .1 .1 .1 .1 .1 .0 i, (p .1 .1 .1 .1 .1 .1 .1 .1 .1 .0 i, (p .1 .1 .1 .1 .1 .1 .1 .1 .1 .1 i, tt))))))))))))))))
+
+pub sapwoodle-capture-events-is : SapwoodleCaptureEventsIs
+sapwoodle-capture-events-is = λ κs a x p. same (p .0) (λ i. (tt, (tt, (p .1 .0 i, (p .1 .1 .0 i, (p .1 .1 .1 i, tt))))))
+
+pub sapwoodle-capture-tally-is : SapwoodleCaptureTallyIs
+sapwoodle-capture-tally-is = λ κs a x p. same (p .0) (λ i. (tt, (tt, (p .1 .0 i, (p .1 .1 .0 i, (p .1 .1 .1 .0 i, (p .1 .1 .1 .1 .0 i, (p .1 .1 .1 .1 .1 i, tt))))))))
+
 pub sapwoodle-driver-begin-is : SapwoodleDriverBeginIs
 sapwoodle-driver-begin-is = λ κs a x p. same (p .0) (λ i. (tt, (tt, (tt, (tt, (tt, (tt, (p .1 i, tt))))))))
 
@@ -84,6 +102,9 @@ every-machine =
       load = load-is;
       hex-read = hex-read-is;
       hex-write = hex-write-is;
+      capture-run = capture-run-is;
+      capture-events = capture-events-is;
+      capture-count = count-is;
       trace = trace-is;
       begin = begin-is;
       next = next-is-our-driver;
@@ -96,6 +117,9 @@ every-machine =
       sapwoodle-load = sapwoodle-load-is;
       sapwoodle-hex-read = sapwoodle-hex-read-is;
       sapwoodle-hex-write = sapwoodle-hex-write-is;
+      sapwoodle-capture-run = sapwoodle-capture-run-is;
+      sapwoodle-capture-events = sapwoodle-capture-events-is;
+      sapwoodle-capture-tally = sapwoodle-capture-tally-is;
       sapwoodle-driver-begin = sapwoodle-driver-begin-is;
       sapwoodle-driver-next = sapwoodle-driver-next-is;
       sapwoodle-bench-run = sapwoodle-bench-run-is;

@@ -33,12 +33,21 @@ use Rattle.chip.proofs.standby as standby
 use Rattle.chip.proofs.deliver as deliver
 use Rattle.chip.proofs.step as step
 use Rattle.chip.proofs.run as chip-run
+use Rattle.chip.proofs.seen as chip-seen
+use Rattle.chip.proofs.take as chip-take
 use Rattle.page.proofs.look_refusal as look-refusal
 use Rattle.page.proofs.look as look
 use Rattle.image.proofs.save as save
 use Rattle.image.proofs.load as load
 use Rattle.hexfile.proofs.read as hex-read
 use Rattle.hexfile.proofs.write as hex-write
+use Rattle.capture.proofs.judge as capture-judge
+use Rattle.capture.proofs.run as capture-run
+use Rattle.capture.proofs.events as capture-events
+use Rattle.capture.proofs.tallied_by as tallied-by
+use Rattle.capture.proofs.count as count
+use Rattle.capture.proofs.lined as lined
+use Rattle.capture.proofs.draw as draw
 use Rattle.trace.proofs.letters as letters
 use Rattle.trace.proofs.code_of as code-of
 use Rattle.trace.proofs.judge as trace-judge
@@ -68,10 +77,14 @@ use Rattle.sapwoodle.proofs.images.sapwoodle_save as sapwoodle-save
 use Rattle.sapwoodle.proofs.images.sapwoodle_load as sapwoodle-load
 use Rattle.sapwoodle.proofs.hexes.sapwoodle_hex_read as sapwoodle-hex-read
 use Rattle.sapwoodle.proofs.hexes.sapwoodle_hex_write as sapwoodle-hex-write
+use Rattle.sapwoodle.proofs.captures.sapwoodle_capture_run as sapwoodle-capture-run
+use Rattle.sapwoodle.proofs.captures.sapwoodle_capture_events as sapwoodle-capture-events
+use Rattle.sapwoodle.proofs.captures.sapwoodle_capture_tally as sapwoodle-capture-tally
 use Rattle.sapwoodle.proofs.drivers.sapwoodle_driver_begin as sapwoodle-driver-begin
 use Rattle.sapwoodle.proofs.drivers.sapwoodle_driver_next as sapwoodle-driver-next
 use Rattle.sapwoodle.proofs.runs.sapwoodle_bench_run as sapwoodle-bench-run
 use Rattle.sapwoodle.proofs.sapwoodle_trace as sapwoodle-trace
+use Rattle.determined.specs.Walked.{CountAsked, CountLearnt}
 use Rattle.determined.specs.Determined.{Determined, DeterminedAs, part}
 
 -- ---- parts
@@ -180,6 +193,12 @@ StepDetermined = Determined step.ended step.Reads.Asked step.Reads.Learnt
 abbrev pub ChipRunDetermined : Type 0
 ChipRunDetermined = Determined chip-run.ended chip-run.Reads.Asked chip-run.Reads.Learnt
 
+abbrev pub ChipSeenDetermined : Type 0
+ChipSeenDetermined = Determined chip-seen.ended chip-seen.Reads.Asked chip-seen.Reads.Learnt
+
+abbrev pub ChipTakeDetermined : Type 0
+ChipTakeDetermined = Determined chip-take.ended chip-take.Reads.Asked chip-take.Reads.Learnt
+
 -- ---- page
 
 abbrev pub LookRefusalDetermined : Type 0
@@ -204,6 +223,30 @@ HexReadDetermined = Determined hex-read.ended hex-read.Reads.Asked hex-read.Read
 
 abbrev pub HexWriteDetermined : Type 0
 HexWriteDetermined = Determined hex-write.ended hex-write.Reads.Asked hex-write.Reads.Learnt
+
+-- ---- capture
+
+abbrev pub CaptureJudgeDetermined : Type 0
+CaptureJudgeDetermined = Determined capture-judge.ended capture-judge.Reads.Asked capture-judge.Reads.Learnt
+
+abbrev pub CaptureRunDetermined : Type 0
+CaptureRunDetermined = Determined capture-run.ended capture-run.Reads.Asked capture-run.Reads.Learnt
+
+abbrev pub CaptureEventsDetermined : Type 0
+CaptureEventsDetermined = Determined capture-events.ended capture-events.Reads.Asked capture-events.Reads.Learnt
+
+abbrev pub TalliedByDetermined : Type 0
+TalliedByDetermined = Determined tallied-by.ended tallied-by.Reads.Asked tallied-by.Reads.Learnt
+
+-- by the walked contract (specs/Walked.antt); the tally that is lent, too
+abbrev pub CountDetermined : Type 0
+CountDetermined = Determined count.ended CountAsked CountLearnt
+
+abbrev pub LinedDetermined : Type 0
+LinedDetermined = Determined lined.ended lined.Reads.Asked lined.Reads.Learnt
+
+abbrev pub DrawDetermined : Type 0
+DrawDetermined = Determined draw.ended draw.Reads.Asked draw.Reads.Learnt
 
 -- ---- trace
 
@@ -306,6 +349,15 @@ SapwoodleHexReadDetermined = Determined sapwoodle-hex-read.ended sapwoodle-hex-r
 abbrev pub SapwoodleHexWriteDetermined : Type 0
 SapwoodleHexWriteDetermined = Determined sapwoodle-hex-write.ended sapwoodle-hex-write.Reads.Asked sapwoodle-hex-write.Reads.Learnt
 
+abbrev pub SapwoodleCaptureRunDetermined : Type 0
+SapwoodleCaptureRunDetermined = Determined sapwoodle-capture-run.ended sapwoodle-capture-run.Reads.Asked sapwoodle-capture-run.Reads.Learnt
+
+abbrev pub SapwoodleCaptureEventsDetermined : Type 0
+SapwoodleCaptureEventsDetermined = Determined sapwoodle-capture-events.ended sapwoodle-capture-events.Reads.Asked sapwoodle-capture-events.Reads.Learnt
+
+abbrev pub SapwoodleCaptureTallyDetermined : Type 0
+SapwoodleCaptureTallyDetermined = Determined sapwoodle-capture-tally.ended sapwoodle-capture-tally.Reads.Asked sapwoodle-capture-tally.Reads.Learnt
+
 abbrev pub SapwoodleDriverBeginDetermined : Type 0
 SapwoodleDriverBeginDetermined = Determined sapwoodle-driver-begin.ended sapwoodle-driver-begin.Reads.Asked sapwoodle-driver-begin.Reads.Learnt
 
@@ -329,6 +381,9 @@ pub record EveryAnswer : Type 0 where
   pub load : LoadDetermined
   pub hex-read : HexReadDetermined
   pub hex-write : HexWriteDetermined
+  pub capture-run : CaptureRunDetermined
+  pub capture-events : CaptureEventsDetermined
+  pub capture-count : CountDetermined
   pub trace : TraceDetermined
   pub begin : BeginDetermined
   pub next : NextDetermined
@@ -341,6 +396,9 @@ pub record EveryAnswer : Type 0 where
   pub sapwoodle-load : SapwoodleLoadDetermined
   pub sapwoodle-hex-read : SapwoodleHexReadDetermined
   pub sapwoodle-hex-write : SapwoodleHexWriteDetermined
+  pub sapwoodle-capture-run : SapwoodleCaptureRunDetermined
+  pub sapwoodle-capture-events : SapwoodleCaptureEventsDetermined
+  pub sapwoodle-capture-tally : SapwoodleCaptureTallyDetermined
   pub sapwoodle-driver-begin : SapwoodleDriverBeginDetermined
   pub sapwoodle-driver-next : SapwoodleDriverNextDetermined
   pub sapwoodle-bench-run : SapwoodleBenchRunDetermined

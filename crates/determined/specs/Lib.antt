@@ -1,3 +1,4 @@
 pub mod Determined
+pub mod Walked
 pub mod Functions
 pub mod Machines

@@ -11,6 +11,8 @@ use Rattle.chip.specs.Memory.{mem}
 use Rattle.chip.specs.Calls.{deliverOf, stepOf, runOf}
 use Rattle.image.specs.Calls.{saving, loading}
 use Rattle.hexfile.specs.Calls.{readingOf, writingOf}
+use Rattle.capture.specs.Calls.{seeingOf, listingOf}
+use Rattle.capture_promises.specs.Machines.{countingOf}
 use Rattle.trace.specs.Trace.{traceOf, layingOf}
 use Rattle.driver.specs.Step.{beginOf}
 use Rattle.driver.specs.Machine.{ourDriver}
@@ -20,6 +22,7 @@ use lib.ListN.{length}
 use Rattle.sapwoodle.specs.Chips.{stepping, running, delivering}
 use Rattle.sapwoodle.specs.Images.{savingBytes, loadingBytes}
 use Rattle.sapwoodle.specs.Hexes.{hexReading, hexWriting}
+use Rattle.sapwoodle.specs.Captures.{busOf, capturing, listing, tallying}
 use Rattle.sapwoodle.specs.Drivers.{requestOf, beginning, asking}
 use Rattle.sapwoodle.specs.Runs.{benching}
 use Rattle.chip.proofs.deliver as deliver
@@ -29,6 +32,9 @@ use Rattle.image.proofs.save as save
 use Rattle.image.proofs.load as load
 use Rattle.hexfile.proofs.read as hex-read
 use Rattle.hexfile.proofs.write as hex-write
+use Rattle.capture.proofs.run as capture-run
+use Rattle.capture.proofs.events as capture-events
+use Rattle.capture.proofs.count as count
 use Rattle.trace.proofs.trace as trace
 use Rattle.driver.proofs.begin as begin
 use Rattle.driver.proofs.next as next
@@ -41,10 +47,14 @@ use Rattle.sapwoodle.proofs.images.sapwoodle_save as sapwoodle-save
 use Rattle.sapwoodle.proofs.images.sapwoodle_load as sapwoodle-load
 use Rattle.sapwoodle.proofs.hexes.sapwoodle_hex_read as sapwoodle-hex-read
 use Rattle.sapwoodle.proofs.hexes.sapwoodle_hex_write as sapwoodle-hex-write
+use Rattle.sapwoodle.proofs.captures.sapwoodle_capture_run as sapwoodle-capture-run
+use Rattle.sapwoodle.proofs.captures.sapwoodle_capture_events as sapwoodle-capture-events
+use Rattle.sapwoodle.proofs.captures.sapwoodle_capture_tally as sapwoodle-capture-tally
 use Rattle.sapwoodle.proofs.drivers.sapwoodle_driver_begin as sapwoodle-driver-begin
 use Rattle.sapwoodle.proofs.drivers.sapwoodle_driver_next as sapwoodle-driver-next
 use Rattle.sapwoodle.proofs.runs.sapwoodle_bench_run as sapwoodle-bench-run
 use Rattle.sapwoodle.proofs.sapwoodle_trace as sapwoodle-trace
+use Rattle.determined.specs.Walked.{CountLearnt}
 use Rattle.determined.specs.Determined.{Learnt, AnswerTo, Allows}
 
 -- every answer that a contract allows is the one of f
@@ -74,7 +84,7 @@ RunIs =
     let m = runOf (a .0) (a .1 .0) (a .1 .1 .0) (mem (a .1 .1 .1 .0 .now) (a .1 .1 .1 .1 .0 .now)) (a .1 .1 .1 .1 .1 .0 .now) (a .1 .1 .1 .1 .1 .1 .0 .now) in
     record { result = m .answer; left = (tt, (tt, (tt, (m .mem .cells, (m .mem .ident, (tt, (m .answers, tt))))))) })
 
--- ---- image, Intel HEX and trace
+-- ---- image, Intel HEX, captures and trace
 
 abbrev pub SaveIs : Type 0
 SaveIs =
@@ -103,6 +113,28 @@ HexWriteIs =
     (λ κs a.
     let m = writingOf (a .0) (a .1 .0 .now) (a .1 .1 .0 .now) in
     record { result = m .answer; left = (tt, (tt, (m .out, tt))) })
+
+abbrev pub CaptureRunIs : Type 0
+CaptureRunIs =
+    Is capture-run.ended capture-run.Reads.Learnt
+    (λ κs a.
+    let m = seeingOf (a .0) (a .1 .0) (a .1 .1 .0) (mem (a .1 .1 .1 .0 .now) (a .1 .1 .1 .1 .0 .now)) (a .1 .1 .1 .1 .1 .0) (a .1 .1 .1 .1 .1 .1 .0 .now) in
+    record { result = m .answer; left = (tt, (tt, (tt, (m .mem .cells, (m .mem .ident, (tt, (tt, tt))))))) })
+
+abbrev pub CaptureEventsIs : Type 0
+CaptureEventsIs =
+    Is capture-events.ended capture-events.Reads.Learnt
+    (λ κs a.
+    let m = listingOf (a .0) (a .1 .0 .now) (a .1 .1 .0 .now) in
+    record { result = m .answer; left = (tt, (tt, (m .out, tt))) })
+
+-- the verdict, and the tally that is lent
+abbrev pub CountIs : Type 0
+CountIs =
+    Is count.ended CountLearnt
+    (λ κs a.
+    let m = countingOf (a .0 .now) (a .1 .0) (a .1 .1 .0 .now) in
+    record { result = m .verdict; left = (m .tally, (tt, (tt, tt))) })
 
 abbrev pub TraceIs : Type 0
 TraceIs =
@@ -196,6 +228,32 @@ SapwoodleHexWriteIs =
     let m = hexWriting (a .0) (a .1 .0 .now) (a .1 .1 .0 .now) in
     record { result = m .number; left = (tt, (tt, (m .out, (m .written, tt)))) })
 
+abbrev pub SapwoodleCaptureRunIs : Type 0
+SapwoodleCaptureRunIs =
+    Is sapwoodle-capture-run.ended sapwoodle-capture-run.Reads.Learnt
+    (λ κs a.
+    let stored = mem (a .1 .1 .1 .0 .now) (a .1 .1 .1 .1 .0 .now) in
+    let m = capturing (a .0) (a .1 .0) (a .1 .1 .0 .now) stored (busOf (a .1 .1 .1 .1 .1 .0)) (a .1 .1 .1 .1 .1 .1 .0 .now) in
+    record {
+      result = m .number;
+      left = (tt, (tt, (m .state, (m .stored .cells, (m .stored .ident, (tt, (tt, (m .events, (m .clocks, (m .ends, (m .cycles, (m .level, (m .sample, (m .clock, (m .place, tt)))))))))))))));
+    })
+
+abbrev pub SapwoodleCaptureEventsIs : Type 0
+SapwoodleCaptureEventsIs =
+    Is sapwoodle-capture-events.ended sapwoodle-capture-events.Reads.Learnt
+    (λ κs a.
+    let m = listing (busOf (a .0)) (a .1 .0 .now) (a .1 .1 .0 .now) in
+    record { result = m .number; left = (tt, (tt, (m .out, (m .length, (m .place, tt))))) })
+
+abbrev pub SapwoodleCaptureTallyIs : Type 0
+SapwoodleCaptureTallyIs =
+    Is sapwoodle-capture-tally.ended sapwoodle-capture-tally.Reads.Learnt
+    (λ κs a.
+    let m = tallying (busOf (a .0)) (a .1 .0 .now) (a .1 .1 .0 .now) (a .1 .1 .1 .0 .now) (a .1 .1 .1 .1 .0 .now) (a .1 .1 .1 .1 .1 .0 .now) in
+    let t = m .tally in
+    record { result = m .number; left = (tt, (tt, (t .starts, (t .stops, (t .bytes, (t .unacknowledged, (m .place, tt))))))) })
+
 abbrev pub SapwoodleDriverBeginIs : Type 0
 SapwoodleDriverBeginIs =
     Is sapwoodle-driver-begin.ended sapwoodle-driver-begin.Reads.Learnt
@@ -234,6 +292,9 @@ pub record EveryMachine : Type 0 where
   pub load : LoadIs
   pub hex-read : HexReadIs
   pub hex-write : HexWriteIs
+  pub capture-run : CaptureRunIs
+  pub capture-events : CaptureEventsIs
+  pub capture-count : CountIs
   pub trace : TraceIs
   pub begin : BeginIs
   pub next : NextIsOurDriver
@@ -246,6 +307,9 @@ pub record EveryMachine : Type 0 where
   pub sapwoodle-load : SapwoodleLoadIs
   pub sapwoodle-hex-read : SapwoodleHexReadIs
   pub sapwoodle-hex-write : SapwoodleHexWriteIs
+  pub sapwoodle-capture-run : SapwoodleCaptureRunIs
+  pub sapwoodle-capture-events : SapwoodleCaptureEventsIs
+  pub sapwoodle-capture-tally : SapwoodleCaptureTallyIs
   pub sapwoodle-driver-begin : SapwoodleDriverBeginIs
   pub sapwoodle-driver-next : SapwoodleDriverNextIs
   pub sapwoodle-bench-run : SapwoodleBenchRunIs

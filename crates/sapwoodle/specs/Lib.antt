@@ -3,6 +3,7 @@ pub mod Answers
 pub mod Chips
 pub mod Images
 pub mod Hexes
+pub mod Captures
 pub mod Drivers
 pub mod Runs
 pub mod Promises

@@ -4,7 +4,7 @@
 -- Assumes nothing.
 use Prim.Native.Nat.{ℕ, _<_}
 use mathlib.Core.Path.{_≡_}
-use mathlib.Core.Bool.{true, false}
+use mathlib.Core.Bool.{Bool, true, false}
 use mathlib.Core.List.{List}
 use lib.ListN.{length}
 use Rattle.parts.specs.declared.Refusal.{Refusal}
@@ -17,6 +17,8 @@ use Rattle.state.specs.declared.Chip.{Chip}
 use Rattle.chip.specs.Memory.{Mem}
 use Rattle.chip.specs.Delivery.{standbyOf}
 use Rattle.chip.specs.Calls.{stepOf, runOf}
+use Rattle.capture.specs.Calls.{seeingOf}
+use Rattle.capture.specs.Tallies.{tally}
 use Rattle.image.specs.Layout.{partIn, lockIn}
 use Rattle.image.specs.Calls.{saving}
 use Rattle.driver.specs.declared.Request.{Request}
@@ -29,6 +31,7 @@ use Rattle.pack_driver.specs.Layout.{driverLength, holdsDriverOf, unpackedDrive
 use Rattle.sapwoodle.specs.Chips.{BytesAfterStep, BytesAfterRun, BytesAfterDeliver, stepping, running, delivering}
 use Rattle.sapwoodle.specs.Images.{BytesAfterSave, BytesAfterLoad, savingBytes, loadingBytes}
 use Rattle.sapwoodle.specs.Hexes.{BytesAfterHexRead, BytesAfterHexWrite, hexReading, hexWriting}
+use Rattle.sapwoodle.specs.Captures.{BytesAfterCapture, BytesAfterEvents, BytesAfterTally, capturedBytes, capturing, listing, tallying}
 use Rattle.sapwoodle.specs.Drivers.{requestOf, BytesAfterBegin, beginning, toldOf, BytesAfterNext, asking}
 use Rattle.sapwoodle.specs.Runs.{BytesAfterBench, benching}
 
@@ -151,6 +154,44 @@ HexReadKeeps read =
 abbrev pub HexWriteKeeps : (ℕ → List ℕ → List ℕ → BytesAfterHexWrite) → Type 0
 HexWriteKeeps write =
     (part : ℕ) (array out : List ℕ) → (write part array out .number ≡ 0 → ⊥) → (write part array out .written ≡ 0) × (write part array out .out ≡ out)
+
+-- ---- captures: of the part, the enable, the state's bytes, what is stored, the reading and the samples; of the reading, the samples and the
+-- output buffer; of the reading, the samples and the four counts
+
+abbrev pub Capturing : Type 0
+Capturing = ℕ → ℕ → List ℕ → Mem → Bool → List ℕ → BytesAfterCapture
+
+abbrev pub CaptureKeeps : Capturing → Type 0
+CaptureKeeps run =
+    (part enable : ℕ) (s : List ℕ) (m : Mem) (bus : Bool) (ss : List ℕ) → (run part enable s m bus ss .number ≡ 0 → ⊥)
+    → (run part enable s m bus ss .state ≡ s) × (run part enable s m bus ss .stored ≡ m)
+    × (run part enable s m bus ss .cycles ≡ 0) × (run part enable s m bus ss .level ≡ 2)
+
+abbrev pub EventsKeep : (Bool → List ℕ → List ℕ → BytesAfterEvents) → Type 0
+EventsKeep list = (bus : Bool) (ss out : List ℕ) → (list bus ss out .number ≡ 0 → ⊥) → (list bus ss out .length ≡ 0) × (list bus ss out .out ≡ out)
+
+abbrev pub TallyKeeps : (Bool → List ℕ → ℕ → ℕ → ℕ → ℕ → BytesAfterTally) → Type 0
+TallyKeeps count =
+    (bus : Bool) (ss : List ℕ) (starts stops bytes unacknowledged : ℕ) → (count bus ss starts stops bytes unacknowledged .number ≡ 0 → ⊥)
+    → count bus ss starts stops bytes unacknowledged .tally ≡ tally starts stops bytes unacknowledged
+
+-- on the bytes of a state a run over a capture is the chip's own
+abbrev pub CaptureIsChips : Capturing → Type 0
+CaptureIsChips run =
+    (part enable : ℕ) (c : Chip) (m : Mem) (bus : Bool) (ss : List ℕ) → ChipFits c
+    → (run part enable (packedChipOf c) m bus ss ≡ capturedBytes (packedChipOf c) (seeingOf part enable c m bus ss))
+    × (run part enable (packedChipOf c) m bus ss .state ≡ packedChipOf (seeingOf part enable c m bus ss .answer .chip))
+
+-- bytes that hold no state are refused with 4, unless 1, 2 or 3 is given
+abbrev pub CaptureRefuses4 : Capturing → Type 0
+CaptureRefuses4 run =
+    (part enable : ℕ) (s : List ℕ) (m : Mem) (bus : Bool) (ss : List ℕ)
+    → factsOf part .known ≡ true
+    → enableRightOf (factsOf part) enable ≡ true
+    → length (m .cells) ≡ factsOf part .size
+    → length (m .ident) ≡ idSizeOf (factsOf part)
+    → holdsChipOf s ≡ false
+    → run part enable s m bus ss .number ≡ numberOf BadState
 
 -- ---- on the bytes of a state, what is saved is the chip's image
 
@@ -279,6 +320,9 @@ pub record BytesKept : Type 0 where
   pub load : LoadKeeps loadingBytes
   pub hex-read : HexReadKeeps hexReading
   pub hex-write : HexWriteKeeps hexWriting
+  pub capture : CaptureKeeps capturing
+  pub events : EventsKeep listing
+  pub tally : TallyKeeps tallying
   pub begin : BeginKeeps beginning
   pub next : NextKeeps asking
   pub bench : BenchKeeps benching

@@ -1,5 +1,6 @@
 // The functions that a C program links: numbers and lent bytes only. include/sapwoodle.h says what each does.
 mod answers;
+pub mod captures;
 pub mod chips;
 pub mod drivers;
 pub mod hexes;

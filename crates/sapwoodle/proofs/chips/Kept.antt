@@ -84,7 +84,7 @@ deliver-keeps part s m h = delivers-nothing part _ s m (deliverVerdictIn part s 
 -- ---- on the bytes of a state
 
 -- packed over a state's bytes
-over : (c n : Chip) → ChipFits c → packChipInto (packedChipOf c) n ≡ packedChipOf n
+pub over : (c n : Chip) → ChipFits c → packChipInto (packedChipOf c) n ≡ packedChipOf n
 unfolding packChipInto
 over c n f = rw (eq-eqb (length (packedChipOf c)) chipLength (holds-long (packedChipOf c) (chip-packs-back c f .1))) refl
 
@@ -124,7 +124,7 @@ deliver-holds part s m h =
 
 module _ (part enable : ℕ) (s : List ℕ) (m : Mem) (k : factsOf part .known ≡ true) (n : enableRightOf (factsOf part) enable ≡ true)
     (a : length (m .cells) ≡ factsOf part .size) (d : length (m .ident) ≡ idSizeOf (factsOf part)) (h : holdsChipOf s ≡ false) where
-  out : heldVerdictOf part enable (unpackedChipOf s) (length (m .cells)) (length (m .ident)) ≡ Refused BadState
+  pub out : heldVerdictOf part enable (unpackedChipOf s) (length (m .cells)) (length (m .ident)) ≡ Refused BadState
   out = held-out part enable (unpackedChipOf s) (length (m .cells)) (length (m .ident)) k n (buffers-right (factsOf part) (length (m .cells)) (length (m .ident)) a d) (chip-refuses-others s h part)
 
   step-4 : (e : ℕ) → stepVerdict part enable (unpackedChipOf s) m e ≡ Refused BadState
