@@ -9,6 +9,7 @@ use libc::STDERR_FILENO;
 use libc::STDIN_FILENO;
 use parts::Refusal;
 use parts::Verdict;
+use words::Job;
 use words::Number;
 
 // What became of a chip before its run: it was judged, or standard error has the reason.
@@ -35,40 +36,58 @@ pub fn room() -> [u8; 1048577]
     [0; 1048577]
 }
 
-fn complain(name: &[u8], what: &[u8]) {
-    io::write_all(STDERR_FILENO, b"sapwoodle: ");
-    io::write_all(STDERR_FILENO, name);
+fn warn(what: &[u8]) {
     io::write_all(STDERR_FILENO, what);
 }
 
-fn read_from(fd: i32, name: &[u8], to: &mut [u8]) -> Number {
-    let got = words::read_all(fd, to);
-    if !got.ok {
-        complain(name, b" cannot be read\n");
-    }
-    got
+// What is wrong with a file that is read.
+pub fn complain(word: usize, what: &[u8]) {
+    warn(b"sapwoodle: ");
+    why::name(word);
+    warn(what);
 }
 
-fn read_named(name: &[u8], to: &mut [u8]) -> Number {
+pub fn unread(word: usize) {
+    complain(word, b" cannot be read\n");
+}
+
+fn open_named(name: &[u8]) -> i32 {
     let fd = os::open_read(name);
     if fd < 0 {
-        io::write_all(STDERR_FILENO, b"sapwoodle: ");
+        warn(b"sapwoodle: ");
         os::fail(name);
-        return Number { ok: false, n: 0 };
     }
-    let got = read_from(fd, name, to);
-    libc::close(fd);
-    got
+    fd
+}
+
+// The file that a word names, opened; below 0 where it cannot be, and standard error has the reason.
+pub fn open(word: usize) -> i32 {
+    if words::is_input(word) {
+        return STDIN_FILENO;
+    }
+    let mut name = io::buffer();
+    let n = os::arg(word, &mut name);
+    open_named(&name[..n])
+}
+
+pub fn close(word: usize, fd: i32) {
+    if !words::is_input(word) {
+        libc::close(fd);
+    }
 }
 
 // All that the file has which a word names, into a buffer that `room` made; of a longer one as much as there is room for.
 pub fn contents(word: usize, to: &mut [u8]) -> Number {
-    if words::is_input(word) {
-        return read_from(STDIN_FILENO, b"standard input", to);
+    let fd = open(word);
+    if fd < 0 {
+        return Number { ok: false, n: 0 };
     }
-    let mut name = io::buffer();
-    let n = os::arg(word, &mut name);
-    read_named(&name[..n], to)
+    let got = words::read_all(fd, to);
+    if !got.ok {
+        unread(word);
+    }
+    close(word, fd);
+    got
 }
 
 // ---- reading a HEX file
@@ -88,9 +107,7 @@ fn too_long(word: usize, n: usize) -> bool {
     if n <= MOST {
         return false;
     }
-    io::write_all(STDERR_FILENO, b"sapwoodle: ");
-    why::name(word);
-    io::write_all(STDERR_FILENO, b" is longer than 1048576 bytes\n");
+    complain(word, b" is longer than 1048576 bytes\n");
     true
 }
 
@@ -170,10 +187,7 @@ fn is_image(part: u8, bytes: &[u8]) -> bool {
 // An image of another part is not what was meant; anything else is no image.
 fn other(part: u8, bytes: &[u8]) -> Ready {
     if is_image(part, bytes) {
-        io::write_all(
-            STDERR_FILENO,
-            b"sapwoodle: the image is of another part than the one named\n",
-        );
+        warn(b"sapwoodle: the image is of another part than the one named\n");
         return Ready::Told;
     }
     Ready::Judged(Verdict::Refused(Refusal::BadImage))
@@ -248,10 +262,61 @@ pub fn fetched(
     chip_from(word, part, enable, &mut bytes, held, array, id)
 }
 
+// ---- the chip that a command asks for
+
+// Refusals 1 and 2, which are given before a file is looked at.
+pub fn judged(job: Job) -> Verdict {
+    let f = parts::facts_of(job.part);
+    let asked = parts::enable_right(f, job.enable);
+    let own = parts::enable_right(f, job.own);
+    let unknown = parts::claim(!f.known, Refusal::NoPart);
+    parts::sooner(unknown, parts::claim(!(asked & own), Refusal::WrongEnable))
+}
+
+// As delivered, or from the image.
+pub fn at_first(job: Job, held: &mut [u8], array: &mut [u8], id: &mut [u8]) -> Ready {
+    if job.image == 0 {
+        return Ready::Judged(delivered(job.part, held, array, id));
+    }
+    fetched(job.image, job.part, job.own, held, array, id)
+}
+
+fn pinned(
+    part: u8,
+    enable: u8,
+    pin: u8,
+    held: &mut [u8],
+    array: &mut [u8],
+    id: &mut [u8],
+) -> Verdict {
+    let s = chip::step(part, enable, pack_chip::unpack(held), array, id, pin);
+    pack_chip::pack(s.chip, held);
+    s.verdict
+}
+
+// With its pin as it was asked for.
+pub fn prepared(
+    verdict: Verdict,
+    job: Job,
+    held: &mut [u8],
+    array: &mut [u8],
+    id: &mut [u8],
+) -> Verdict {
+    match verdict {
+        Verdict::Fine => {
+            if job.pin == 0 {
+                return verdict;
+            }
+            pinned(job.part, job.own, job.pin, held, array, id)
+        }
+        Verdict::Refused(_) => verdict,
+    }
+}
+
 // ---- writing
 
 // As much of `from` as there is room for, behind the first n bytes.
-fn extend(to: &mut [u8], n: usize, from: &[u8]) -> usize {
+pub fn extend(to: &mut [u8], n: usize, from: &[u8]) -> usize {
     let mut at = n;
     let mut i = 0;
     while i < from.len() {
@@ -265,8 +330,9 @@ fn extend(to: &mut [u8], n: usize, from: &[u8]) -> usize {
     at
 }
 
-fn fails(name: &[u8]) -> bool {
-    os::fail(b"sapwoodle: the file of --save");
+fn fails(option: &[u8], name: &[u8]) -> bool {
+    warn(b"sapwoodle: the file of ");
+    os::fail(option);
     os::unlink(name);
     false
 }
@@ -287,53 +353,55 @@ fn filled(fd: i32, bytes: &[u8]) -> bool {
 }
 
 // A failure leaves the old file as it was. The new one is made, so that no file of that name is overwritten.
-fn replace(name: &[u8], beside: &[u8], bytes: &[u8]) -> bool {
+fn replace(option: &[u8], name: &[u8], beside: &[u8], bytes: &[u8]) -> bool {
     let fd = os::create(beside);
     if fd < 0 {
-        os::fail(b"sapwoodle: the file of --save with .new behind its name");
+        warn(b"sapwoodle: the file of ");
+        warn(option);
+        os::fail(b" with .new behind its name");
         return false;
     }
     if !filled(fd, bytes) {
-        return fails(beside);
+        return fails(option, beside);
     }
     if os::rename(beside, name) < 0 {
-        return fails(beside);
+        return fails(option, beside);
     }
     true
 }
 
-fn named(name: &[u8], beside: &mut [u8], bytes: &[u8]) -> bool {
+fn named(option: &[u8], name: &[u8], beside: &mut [u8], bytes: &[u8]) -> bool {
     let n = extend(beside, 0, name);
     let k = extend(beside, n, b".new");
     if k <= beside.len() {
-        return replace(name, &beside[0..k], bytes);
+        return replace(option, name, &beside[0..k], bytes);
     }
     false
 }
 
-fn store_as(name: &[u8], bytes: &[u8]) -> bool {
+fn store_as(option: &[u8], name: &[u8], bytes: &[u8]) -> bool {
     if name.len() == 0 {
-        io::write_all(
-            STDERR_FILENO,
-            b"sapwoodle: the file of --save has no name, or too long a one\n",
-        );
+        warn(b"sapwoodle: the file of ");
+        warn(option);
+        warn(b" has no name, or too long a one\n");
         return false;
     }
     let mut beside = io::buffer();
-    named(name, &mut beside, bytes)
+    named(option, name, &mut beside, bytes)
 }
 
-fn store(word: usize, bytes: &[u8]) -> bool {
+// Whether the file stands that a word behind an option names: whole or not at all.
+pub fn store(option: &[u8], word: usize, bytes: &[u8]) -> bool {
     let mut name = io::buffer();
     let n = os::arg(word, &mut name);
-    store_as(&name[..n], bytes)
+    store_as(option, &name[..n], bytes)
 }
 
 fn save_in(word: usize, part: u8, held: &[u8], array: &[u8], id: &[u8], out: &mut [u8]) -> bool {
     let saved = image::save(part, pack_chip::unpack(held), array, id, out);
     let n = saved.length;
     if n <= out.len() {
-        return store(word, &out[0..n]);
+        return store(b"--save", word, &out[0..n]);
     }
     false
 }

@@ -153,11 +153,15 @@ fn run(bytes: bool) {
 fn usage(fd: i32) {
     io::write_all(
         fd,
-        b"usage: sapwoodle [trace]        runs the trace on standard input\n       sapwoodle trace --bytes  tells it byte by byte first\n       sapwoodle write PART ENABLE ADDRESS HEXBYTES  the driver against the model\n       sapwoodle read PART ENABLE ADDRESS LENGTH     refused, each says which byte went unanswered: 9 a select, 14 and 15 an\n                                                     address byte, 10 a data byte; 11 that the chip stayed busy\n       sapwoodle bench [PART [--enable N]]           what a board cannot try, as tables\n",
+        b"usage: sapwoodle [trace]        runs the trace on standard input\n       sapwoodle trace --bytes  tells it byte by byte first\n       sapwoodle write PART ENABLE ADDRESS HEXBYTES  the driver against the model\n       sapwoodle read PART ENABLE ADDRESS LENGTH     refused, each says which byte went unanswered: 9 a select, 14 and 15 an\n                                                     address byte, 10 a data byte; 11 that the chip stayed busy\n       sapwoodle bench [PART [--enable N]]           what a board cannot try, as tables\n       sapwoodle capture PART ENABLE FILE..          the model over what a logic analyser saw: same, or the first level that differs.\n                                                     Refused: 20 a sample above 3, with its number\n",
     );
     io::write_all(
         fd,
-        b"       sapwoodle hex check PART FILE                 an Intel HEX file, looked at. Refused, each says the line: 16 no record, 17 a wrong\n                                                     sum, 18 overlap or beyond the array, 19 no end record or text behind it\n       sapwoodle hex image PART FILE --save FILE     a chip as delivered with its array, saved as an EPR image\n       sapwoodle hex text IMAGE                      the array of an EPR image, as Intel HEX\n       sapwoodle help           prints this\n       sapwoodle version        prints the version\n--image FILE of write and read takes an EPR image or an Intel HEX file; a file that is read can be - : standard input.\n",
+        b"       sapwoodle hex check PART FILE                 an Intel HEX file, looked at. Refused, each says the line: 16 no record, 17 a wrong\n                                                     sum, 18 overlap or beyond the array, 19 no end record or text behind it\n       sapwoodle hex image PART FILE --save FILE     a chip as delivered with its array, saved as an EPR image\n       sapwoodle hex text IMAGE                      the array of an EPR image, as Intel HEX\n       sapwoodle help           prints this\n       sapwoodle version        prints the version\n--image FILE of write, read and capture takes an EPR image or an Intel HEX file; a file that is read can be - : standard input.\n--capture FILE of write and read draws the wires of the run, for capture or for sigrok.\n",
+    );
+    io::write_all(
+        fd,
+        b"A capture is a byte a sample, bit 0 the clock and bit 1 data, as sigrok-cli -i FILE.sr -O binary writes it; --scl BIT --sda BIT choose two\nbits of more channels. It is read as on a bus, where a rise is a clock if data then stay until the clock falls; with --letter every rise is\na clock. Another chip on the wires is marked too. What begins inside a transfer counts its bytes from the first sample until the first\nStart. A capture of any length goes through, in pieces that end with a Stop: 1048575 changes without a Stop are the most.\n",
     );
     io::write_all(
         fd,
@@ -209,6 +213,11 @@ fn choose_station(word: &[u8]) {
         tables::bench_command(2, count);
         return;
     }
+    let captured = check::same(word, b"capture");
+    if captured {
+        capture_station::capture_command(2, count);
+        return;
+    }
     let hexed = check::same(word, b"hex");
     if hexed {
         hex_station::hex_command(2, count);
@@ -224,7 +233,7 @@ fn choose(word: &[u8]) {
     }
     let version = check::same(word, b"version");
     if version {
-        return put(b"sapwoodle 0.9.0\n");
+        return put(b"sapwoodle 0.10.0\n");
     }
     let help = check::same(word, b"help");
     if help {

@@ -1,6 +1,7 @@
 // One write or read at a bench, as the words of a command line ask for it: driver and model together, on a chip as delivered or
 // on a stored one.
 mod show;
+mod wires;
 
 ghost use mathlib.Core.Path.{_≡_};
 ghost use lib.ListN.{length};
@@ -9,10 +10,10 @@ use driver::Request;
 use files::Ready;
 use parts::ArrayAddress;
 use parts::IdLocation;
-use parts::Refusal;
 use parts::Verdict;
 use show::Ground;
 use words::Job;
+use words::answer;
 
 // The events of a run that are kept: more than writing or reading the whole of the largest array takes, where no page is polled
 // more than a dozen times.
@@ -26,47 +27,6 @@ struct Ended {
     cycles: usize,
     clocks: usize,
     sent: usize,
-}
-
-// ---- the chip before the run, held as its bytes
-
-fn at_first(job: Job, held: &mut [u8], array: &mut [u8], id: &mut [u8]) -> Ready {
-    if job.image == 0 {
-        return Ready::Judged(files::delivered(job.part, held, array, id));
-    }
-    files::fetched(job.image, job.part, job.own, held, array, id)
-}
-
-fn pinned(
-    part: u8,
-    enable: u8,
-    pin: u8,
-    held: &mut [u8],
-    array: &mut [u8],
-    id: &mut [u8],
-) -> Verdict {
-    let s = chip::step(part, enable, pack_chip::unpack(held), array, id, pin);
-    pack_chip::pack(s.chip, held);
-    s.verdict
-}
-
-// The chip, with its pin as it was asked for.
-fn prepared(
-    verdict: Verdict,
-    job: Job,
-    held: &mut [u8],
-    array: &mut [u8],
-    id: &mut [u8],
-) -> Verdict {
-    match verdict {
-        Verdict::Fine => {
-            if job.pin == 0 {
-                return verdict;
-            }
-            pinned(job.part, job.own, job.pin, held, array, id)
-        }
-        Verdict::Refused(_) => verdict,
-    }
 }
 
 // ---- the run
@@ -108,8 +68,8 @@ fn tell_tape(ok: bool, shown: bool, sent: usize, events: &mut [u8], levels: &mut
         return ok;
     }
     tell_cut(sent);
-    let told = show::tape(ok, false, sent, events);
-    show::tape(told, true, sent, levels)
+    let told = answer::tape(ok, false, sent, events);
+    answer::tape(told, true, sent, levels)
 }
 
 fn dump(ok: bool, job: Job, data: &[u8]) -> bool {
@@ -120,6 +80,35 @@ fn dump(ok: bool, job: Job, data: &[u8]) -> bool {
         }
     }
     ok
+}
+
+// The tape's first events, all that there are.
+fn draw(word: usize, sent: usize, events: &[u8], levels: &[u8]) -> bool {
+    if sent <= events.len() {
+        if sent <= levels.len() {
+            return wires::store(word, &events[0..sent], &levels[0..sent]);
+        }
+    }
+    io::write_all(
+        libc::STDERR_FILENO,
+        b"sapwoodle: more than 393216 events, too many for --capture\n",
+    );
+    false
+}
+
+fn is_fine(verdict: Verdict) -> bool {
+    parts::verdict_number(verdict) == 0
+}
+
+// The wires of a run, done or not; of one that was refused before its first event there are none.
+fn drawn(job: Job, verdict: Verdict, sent: usize, events: &[u8], levels: &[u8]) -> bool {
+    if job.drawn == 0 {
+        return true;
+    }
+    if (sent == 0) & !is_fine(verdict) {
+        return true;
+    }
+    draw(job.drawn, sent, events, levels)
 }
 
 // A run that is not done leaves no file.
@@ -198,12 +187,15 @@ fn recorded(
     }
 }
 
-// The file stands before the report is told.
+// The files stand before the report is told.
 fn run(job: Job, held: &mut [u8], array: &mut [u8], id: &mut [u8], data: &mut [u8]) -> bool {
     let mut events = blank();
     let mut levels = blank();
     let e = recorded(job, held, array, id, data, &mut events, &mut levels);
     let verdict = e.verdict;
+    if !drawn(job, verdict, e.sent, &events, &levels) {
+        return false;
+    }
     if !saved(job, verdict, held, array, id) {
         return false;
     }
@@ -220,7 +212,7 @@ fn run_prepared(
     id: &mut [u8],
     data: &mut [u8],
 ) -> bool {
-    let ready = prepared(verdict, job, held, array, id);
+    let ready = files::prepared(verdict, job, held, array, id);
     match ready {
         Verdict::Fine => run(job, held, array, id, data),
         Verdict::Refused(r) => show::refused(ground(job), r),
@@ -228,7 +220,7 @@ fn run_prepared(
 }
 
 fn begin(job: Job, held: &mut [u8], array: &mut [u8], id: &mut [u8], data: &mut [u8]) -> bool {
-    let first = at_first(job, held, array, id);
+    let first = files::at_first(job, held, array, id);
     match first {
         Ready::Told => false,
         Ready::Judged(verdict) => run_prepared(verdict, job, held, array, id, data),
@@ -248,17 +240,9 @@ fn lend(job: Job, data: &mut [u8]) -> bool {
     )
 }
 
-fn judged(job: Job) -> Verdict {
-    let f = parts::facts_of(job.part);
-    let asked = parts::enable_right(f, job.enable);
-    let own = parts::enable_right(f, job.own);
-    let unknown = parts::claim(!f.known, Refusal::NoPart);
-    parts::sooner(unknown, parts::claim(!(asked & own), Refusal::WrongEnable))
-}
-
 // 1 and 2 are given before a file is looked at. False where nothing, or not all, could be answered: standard error has the reason.
 fn answer(job: Job, data: &mut [u8]) -> bool {
-    let verdict = judged(job);
+    let verdict = files::judged(job);
     match verdict {
         Verdict::Fine => lend(job, data),
         Verdict::Refused(r) => show::refused(ground(job), r),

@@ -100,8 +100,8 @@ fn reason(g: Ground, r: Refusal) -> bool {
     let k = parts::verdict_place(Verdict::Refused(r));
     match r {
         Refusal::NoPart => answer::no_part(true),
-        Refusal::WrongEnable => say(true, b"this part is never at this enable\n"),
-        Refusal::BadEvent(_) => say(true, b"this part has no Write Control pin\n"),
+        Refusal::WrongEnable => answer::wrong_enable(true),
+        Refusal::BadEvent(_) => answer::no_pin(true),
         Refusal::Beyond => say(
             true,
             b"the bytes do not all lie in the array or the page, or there is no such page\n",
@@ -156,53 +156,6 @@ pub fn figures(
     let two = count(one, b"polls ", polls);
     let three = count(two, b"cycles ", cycles);
     count(three, b"clocks ", clocks)
-}
-
-// ---- the tape
-
-fn letter(code: u8) -> u8 {
-    match code {
-        0 => b'0',
-        1 => b'1',
-        2 => b'S',
-        3 => b'P',
-        _ => b'E',
-    }
-}
-
-fn mark(level: u8) -> u8 {
-    match level {
-        0 => b'0',
-        1 => b'1',
-        _ => b'-',
-    }
-}
-
-fn sign(levels: bool, x: u8) -> u8 {
-    if levels {
-        return mark(x);
-    }
-    letter(x)
-}
-
-// Codes become letters, or levels their marks.
-fn spell(levels: bool, tape: &mut [u8]) {
-    let mut i = 0;
-    while i < tape.len() {
-        tape[i] = sign(levels, tape[i]);
-        i += 1;
-    }
-}
-
-// As much of a tape of `sent` events as was kept, as one line.
-pub fn tape(ok: bool, levels: bool, sent: usize, kept: &mut [u8]) -> bool {
-    spell(levels, kept);
-    if sent < kept.len() {
-        let told = say(ok, &kept[0..sent]);
-        return say(told, b"\n");
-    }
-    let told = say(ok, kept);
-    say(told, b"\n")
 }
 
 // ---- bytes in hexadecimal

@@ -23,6 +23,10 @@ fn choose(word: &[u8], next: usize, end: usize) {
         tables::bench_command(next, end);
         return;
     }
+    if check::same(word, b"capture") {
+        capture_station::capture_command(next, end);
+        return;
+    }
     if check::same(word, b"hex") {
         hex_station::hex_command(next, end);
         return;

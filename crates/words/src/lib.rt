@@ -27,14 +27,25 @@ pub struct Job {
     pub image: usize,
     pub save: usize,
     pub bytes: usize,
+    // The file that a run's wires are drawn into.
+    pub drawn: usize,
+    // Of a capture: its files go from one word to before another; whether every rise is a clock; the bits of the two wires, where `picks`.
+    pub files: usize,
+    pub behind: usize,
+    pub letter: bool,
+    pub picks: bool,
+    pub scl: u8,
+    pub sda: u8,
 }
 
-// How far the words are read: the one that is looked at next, where they end, and what each kind of word said.
+// How far the words are read: the one that is looked at next, where they end, whether the command is `capture`, and what each kind of
+// word said.
 struct Read {
     ok: bool,
     next: usize,
     end: usize,
-    said: [usize; 16],
+    captures: bool,
+    said: [usize; 24],
 }
 
 pub struct Number {
@@ -42,7 +53,7 @@ pub struct Number {
     pub n: usize,
 }
 
-// What a word is taken for, by number: the words that are always there, then the options.
+// What a word is taken for, by number: the words that are always there, then the options with a number, with a file, with nothing.
 const PART: usize = 1;
 
 const ENABLE: usize = 2;
@@ -59,25 +70,37 @@ const OWN: usize = 7;
 
 const PIN: usize = 8;
 
-const IMAGE: usize = 9;
+const SCL: usize = 9;
 
-const SAVE: usize = 10;
+const SDA: usize = 10;
 
-const IDENT: usize = 11;
+const IMAGE: usize = 11;
 
-const EVENTS: usize = 12;
+const SAVE: usize = 12;
 
-// The name of an option, the bytes of a write, and two more that a word can be wrong as.
-const OPTION: usize = 13;
+const DRAWN: usize = 13;
 
-const BYTES: usize = 14;
+const IDENT: usize = 14;
 
-const LONG: usize = 15;
+const EVENTS: usize = 15;
 
-const MISSING: usize = 16;
+const LETTER: usize = 16;
 
-// The word behind `hex`.
-const HEX: usize = 17;
+// The name of an option, the bytes of a write, the first file of a capture and the word behind its last.
+const OPTION: usize = 17;
+
+const BYTES: usize = 18;
+
+const FILES: usize = 19;
+
+const BEHIND: usize = 20;
+
+// Two more that a word can be wrong as, and the word behind `hex`.
+const LONG: usize = 21;
+
+const MISSING: usize = 22;
+
+const HEX: usize = 23;
 
 const NONE: usize = 255;
 
@@ -89,7 +112,7 @@ fn tell(text: &[u8]) {
 
 fn usage() {
     tell(
-        b"usage: sapwoodle write PART ENABLE ADDRESS HEXBYTES [option ..]    HEXBYTES - : the bytes from standard input\n       sapwoodle read PART ENABLE ADDRESS LENGTH [option ..]\n       sapwoodle bench [PART [--enable N]]\n       sapwoodle hex check PART FILE\n       sapwoodle hex image PART FILE --save FILE\n       sapwoodle hex text IMAGE\noptions: --ident --events --budget N --ends-at D --pin high|low|floating --chip-enable N --image FILE --save FILE\n--image takes an EPR image or an Intel HEX file; a file that is read can be - : standard input\n",
+        b"usage: sapwoodle write PART ENABLE ADDRESS HEXBYTES [option ..]    HEXBYTES - : the bytes from standard input\n       sapwoodle read PART ENABLE ADDRESS LENGTH [option ..]\n       sapwoodle capture PART ENABLE FILE.. [capture's option ..]\n       sapwoodle bench [PART [--enable N]]\n       sapwoodle hex check PART FILE\n       sapwoodle hex image PART FILE --save FILE\n       sapwoodle hex text IMAGE\noptions: --ident --events --budget N --ends-at D --pin high|low|floating --chip-enable N --image FILE --save FILE --capture FILE\ncapture's options: --letter --events --scl BIT --sda BIT --pin high|low|floating --image FILE --save FILE\n--image takes an EPR image or an Intel HEX file; a file that is read can be - : standard input\n",
     );
 }
 
@@ -97,9 +120,12 @@ fn reason(kind: usize) {
     match kind {
         PART => tell(b"is no part: a digit, or a name such as M24C64-D\n"),
         PIN => tell(b"is none of high, low, floating, for --pin\n"),
+        SCL => tell(b"is no bit of a byte, 0 to 7\n"),
+        SDA => tell(b"is no bit of a byte, 0 to 7\n"),
         SAVE => tell(b"is not --save, and hex image wants --save FILE\n"),
         OPTION => tell(b"is no option, or one too many\n"),
         BYTES => tell(b"is no row of bytes: two hexadecimal digits a byte, or -\n"),
+        FILES => tell(b"is no file: capture wants one, or more, before its options\n"),
         LONG => tell(b"is too long\n"),
         MISSING => tell(b"is missing\n"),
         HEX => tell(b"is none of check, image, text, for hex\n"),
@@ -270,6 +296,22 @@ fn pin_of(word: &[u8]) -> usize {
     NONE
 }
 
+fn captured_of(word: &[u8]) -> usize {
+    if same(word, b"--capture") {
+        return DRAWN;
+    }
+    if same(word, b"--letter") {
+        return LETTER;
+    }
+    if same(word, b"--scl") {
+        return SCL;
+    }
+    if same(word, b"--sda") {
+        return SDA;
+    }
+    NONE
+}
+
 fn rarer_of(word: &[u8]) -> usize {
     if same(word, b"--image") {
         return IMAGE;
@@ -283,7 +325,7 @@ fn rarer_of(word: &[u8]) -> usize {
     if same(word, b"--enable") {
         return ENABLE;
     }
-    NONE
+    captured_of(word)
 }
 
 fn option_of(word: &[u8]) -> usize {
@@ -309,10 +351,20 @@ fn found(n: usize) -> Number {
     Number { ok: n != NONE, n }
 }
 
+fn bit_of(word: &[u8]) -> Number {
+    let bit = number_of(word);
+    Number {
+        ok: bit.ok & (bit.n < 8),
+        n: bit.n,
+    }
+}
+
 fn parsed(word: &[u8], kind: usize) -> Number {
     match kind {
         PART => found(part_of(word)),
         PIN => found(pin_of(word)),
+        SCL => bit_of(word),
+        SDA => bit_of(word),
         OPTION => found(option_of(word)),
         _ => number_of(word),
     }
@@ -341,13 +393,13 @@ pub fn is_input(i: usize) -> bool {
 
 // ---- reading the words
 
-// The limit is for the proof alone.
+// The limit is for the proof alone: no command line has so many words.
 pub fn after(i: usize) -> usize {
-    if i < 1000 { i + 1 } else { i }
+    if i < 16777216 { i + 1 } else { i }
 }
 
 fn put(mut read: Read, kind: usize, n: usize) -> Read {
-    if kind < 16 {
+    if kind < 24 {
         read.said[kind] = n;
     }
     read
@@ -398,7 +450,21 @@ fn take_value(read: Read, kind: usize) -> Read {
     set(read, kind, 1)
 }
 
-// `--enable` is an option of bench alone.
+// Whether an option is one of the command's; `--enable` is one of bench alone.
+fn fits(kind: usize, captures: bool) -> bool {
+    match kind {
+        ENABLE => false,
+        PIN => true,
+        IMAGE => true,
+        SAVE => true,
+        EVENTS => true,
+        SCL => captures,
+        SDA => captures,
+        LETTER => captures,
+        _ => !captures,
+    }
+}
+
 fn take_option(read: Read) -> Read {
     if !read.ok {
         return read;
@@ -408,7 +474,7 @@ fn take_option(read: Read) -> Read {
     }
     let kind = parsed_at(read.next, OPTION);
     if kind.ok {
-        if ENABLE < kind.n {
+        if fits(kind.n, read.captures) {
             return take_value(passed(read), kind.n);
         }
     }
@@ -432,9 +498,13 @@ fn ended(read: Read) -> Read {
     read
 }
 
-// There are eight options: more words than that repeat one.
+// There are nine options of a write: more words than that repeat one.
 fn take_options(read: Read) -> Read {
-    ended(take_some(take_some(read)))
+    ended(take_option(take_some(take_some(read))))
+}
+
+fn bitless(read: Read) -> Read {
+    put(put(read, SCL, NONE), SDA, NONE)
 }
 
 // Nothing is said yet; the words go from `next` to before `end`.
@@ -443,9 +513,10 @@ fn start(next: usize, end: usize) -> Read {
         ok: true,
         next,
         end,
-        said: [0; 16],
+        captures: false,
+        said: [0; 24],
     };
-    put(put(read, BUDGET, 100), ENDS, 1)
+    put(put(bitless(read), BUDGET, 100), ENDS, 1)
 }
 
 // The bytes of a write are taken later, where there is a buffer for them.
@@ -482,6 +553,13 @@ fn job_of(read: Read, reads: bool) -> Job {
         image: said[IMAGE],
         save: said[SAVE],
         bytes: said[BYTES],
+        drawn: said[DRAWN],
+        files: said[FILES],
+        behind: said[BEHIND],
+        letter: said[LETTER] == 1,
+        picks: said[SCL] != NONE,
+        scl: text::narrow(said[SCL]),
+        sda: text::narrow(said[SDA]),
     }
 }
 
@@ -506,6 +584,131 @@ pub fn asked(reads: bool, next: usize, end: usize) -> Job {
         return job_of(bad(start(end, end), MISSING), reads);
     }
     once(job_of(take_all(start(next, end), reads), reads))
+}
+
+// ---- the files of a capture
+
+fn dashed(word: &[u8]) -> bool {
+    if 1 < word.len() {
+        return (word[0] == b'-') & (word[1] == b'-');
+    }
+    false
+}
+
+fn dashed_at(i: usize) -> bool {
+    let mut word = io::buffer();
+    let n = os::arg(i, &mut word);
+    dashed(&word[..n])
+}
+
+// The first word from one on that begins with `--`, or the end.
+fn files_end(next: usize, end: usize) -> usize {
+    let mut i = next;
+    while i < end {
+        if dashed_at(i) {
+            return i;
+        }
+        i += 1;
+    }
+    i
+}
+
+fn counted(n: usize, i: usize) -> usize {
+    if is_input(i) { after(n) } else { n }
+}
+
+// How many words stand for standard input.
+fn inputs(next: usize, end: usize) -> usize {
+    let mut n = 0;
+    let mut i = next;
+    while i < end {
+        n = counted(n, i);
+        i += 1;
+    }
+    n
+}
+
+// The files, which go up to the first option.
+fn take_files(read: Read) -> Read {
+    if !read.ok {
+        return read;
+    }
+    let next = read.next;
+    let behind = files_end(next, read.end);
+    if behind <= next {
+        return bad(read, FILES);
+    }
+    put(
+        put(
+            Read {
+                next: behind,
+                ..read
+            },
+            FILES,
+            next,
+        ),
+        BEHIND,
+        behind,
+    )
+}
+
+fn mistaken(job: Job, what: &[u8]) -> Job {
+    if job.ok {
+        tell(what);
+    }
+    Job { ok: false, ..job }
+}
+
+fn alone(scl: u8, sda: u8) -> bool {
+    if scl < 8 {
+        return 7 < sda;
+    }
+    sda < 8
+}
+
+// Two bits that differ, or none.
+fn paired(job: Job) -> Job {
+    if alone(job.scl, job.sda) {
+        return mistaken(job, b"sapwoodle: --scl and --sda go together\n");
+    }
+    if job.picks {
+        if job.scl == job.sda {
+            return mistaken(job, b"sapwoodle: --scl and --sda are the same bit\n");
+        }
+    }
+    job
+}
+
+// Standard input is read once: for one of the files, or for the image.
+fn once_of_all(job: Job) -> Job {
+    let files = inputs(job.files, job.behind);
+    if 1 < files {
+        return mistaken(job, b"sapwoodle: only one FILE can be standard input\n");
+    }
+    if files == 1 {
+        if is_input(job.image) {
+            return mistaken(
+                job,
+                b"sapwoodle: only one of FILE and --image can be standard input\n",
+            );
+        }
+    }
+    job
+}
+
+// `PART ENABLE FILE..` of a capture, and options.
+pub fn capture_asked(next: usize, end: usize) -> Job {
+    let first = after(after(next));
+    if end <= first {
+        return job_of(bad(start(end, end), MISSING), true);
+    }
+    let blank = start(next, end);
+    let read = Read {
+        captures: true,
+        ..blank
+    };
+    let two = take(take(read, PART), ENABLE);
+    once_of_all(paired(job_of(take_options(take_files(two)), true)))
 }
 
 // The enable of `PART [--enable N]`, behind the part.

@@ -1,27 +1,24 @@
 use mathlib.Core.Path.{_≡_}
-use Prim.Native.Nat.{_≤_, _-_}
+use Prim.Native.Nat.{_-_}
 use lib.ListN.{length}
 use borrow.Author.Needs.{needs}
-use Rattle.station.proofs.show.spell.Statement.{statement}
-use Rattle.station.proofs.show.spell.Tie as tie
+use Rattle.capture_station.proofs.boards.remember.Statement.{statement}
+use Rattle.capture_station.proofs.boards.remember.Tie as tie
 
 abbrev Inv-loop : tie.InvT-loop
-Inv-loop levels tape₀ i₀ tape i = (i ≤ length tape₀) × (length tape ≡ length tape₀)
+Inv-loop boards₀ i₀ boards i = length boards ≡ length boards₀
 
 abbrev μ-loop : tie.MeasureT-loop
-μ-loop levels tape₀ i₀ tape i = length tape₀ - i
+μ-loop boards₀ i₀ boards i = 65938 - i
 
 loop-holds : tie.Need-loop-holds Inv-loop μ-loop
 loop-holds c = search needs
 
-slice-read-sign : tie.Need-slice-read-sign Inv-loop μ-loop
-slice-read-sign c = search needs
+at-requires : tie.Need-at-requires Inv-loop μ-loop
+at-requires c κs = search needs
 
-sign-requires : tie.Need-sign-requires Inv-loop μ-loop
-sign-requires c κs = tt
-
-slice-write-tape : tie.Need-slice-write-tape Inv-loop μ-loop
-slice-write-tape c = search needs
+copy-requires : tie.Need-copy-requires Inv-loop μ-loop
+copy-requires c κs = search needs
 
 add-i : tie.Need-add-i Inv-loop μ-loop
 add-i c = search needs
@@ -38,16 +35,15 @@ same-length c = search needs
 returns : tie.Need-returns Inv-loop μ-loop
 returns c = search needs
 
-pub spell-spec : {M : Type 1} → statement M
-spell-spec =
+pub remember-spec : {M : Type 1} → statement M
+remember-spec =
     tie.close
     (tie.spec
     Inv-loop
     μ-loop
     loop-holds
-    slice-read-sign
-    sign-requires
-    slice-write-tape
+    at-requires
+    copy-requires
     add-i
     loop-less
     loop-again

@@ -1,0 +1,96 @@
+use native.Mathlib.Omega.{arith}
+use mathlib.Core.Path.{_≡_}
+use Prim.Native.Nat.{_-_}
+use lib.ListN.{length}
+use borrow.Author.Needs.{needs}
+use Rattle.capture_station.proofs.run_all.Statement.{statement}
+use Rattle.capture_station.proofs.run_all.Tie as tie
+
+abbrev Inv-loop : tie.InvT-loop
+Inv-loop job next end boards₀ chunk₀ samples₀ counts₀ out₀ all₀ i₀ boards chunk samples counts out all i = (length boards ≡ length boards₀) × (length chunk ≡ length chunk₀) × (length samples ≡ length samples₀) × (length counts ≡ length counts₀) × (length out ≡ length out₀)
+
+abbrev μ-loop : tie.MeasureT-loop
+μ-loop job next end boards₀ chunk₀ samples₀ counts₀ out₀ all₀ i₀ boards chunk samples counts out all i = end - i
+
+nothing-yet-requires : tie.Need-nothing-yet-requires Inv-loop μ-loop
+nothing-yet-requires c κs = search needs
+
+loop-holds : tie.Need-loop-holds Inv-loop μ-loop
+loop-holds c = search needs
+
+file-requires : tie.Need-file-requires Inv-loop μ-loop
+file-requires c κs = search needs
+
+same-length : tie.Need-same-length Inv-loop μ-loop
+same-length c = search needs
+
+same-length-2 : tie.Need-same-length-2 Inv-loop μ-loop
+same-length-2 c = search needs
+
+same-length-3 : tie.Need-same-length-3 Inv-loop μ-loop
+same-length-3 c = search needs
+
+same-length-4 : tie.Need-same-length-4 Inv-loop μ-loop
+same-length-4 c = search needs
+
+same-length-5 : tie.Need-same-length-5 Inv-loop μ-loop
+same-length-5 c = search needs
+
+returns : tie.Need-returns Inv-loop μ-loop
+returns c = search needs
+
+add-i : tie.Need-add-i Inv-loop μ-loop
+add-i c = omega (arith, c .before .before .before .before .before .before .before .before .before .before .before .before .before .before .before .before .before .before .before .before .before .before .before .before .before .before .good .1 .1 .0, c .before .before .before .before .before .before .before .before .before .before .before .before .before .before .before .before .before .before .loop-test .taken)
+
+loop-less : tie.Need-loop-less Inv-loop μ-loop
+loop-less c = search needs
+
+loop-again : tie.Need-loop-again Inv-loop μ-loop
+loop-again c = search needs
+
+tell-all-requires : tie.Need-tell-all-requires Inv-loop μ-loop
+tell-all-requires c κs = search needs
+
+same-length-6 : tie.Need-same-length-6 Inv-loop μ-loop
+same-length-6 c = search needs
+
+same-length-7 : tie.Need-same-length-7 Inv-loop μ-loop
+same-length-7 c = search needs
+
+same-length-8 : tie.Need-same-length-8 Inv-loop μ-loop
+same-length-8 c = search needs
+
+same-length-9 : tie.Need-same-length-9 Inv-loop μ-loop
+same-length-9 c = search needs
+
+same-length-10 : tie.Need-same-length-10 Inv-loop μ-loop
+same-length-10 c = search needs
+
+returns-2 : tie.Need-returns-2 Inv-loop μ-loop
+returns-2 c = search needs
+
+pub run-all-spec : {M : Type 1} → statement M
+run-all-spec =
+    tie.close
+    (tie.spec
+    Inv-loop
+    μ-loop
+    nothing-yet-requires
+    loop-holds
+    file-requires
+    same-length
+    same-length-2
+    same-length-3
+    same-length-4
+    same-length-5
+    returns
+    add-i
+    loop-less
+    loop-again
+    tell-all-requires
+    same-length-6
+    same-length-7
+    same-length-8
+    same-length-9
+    same-length-10
+    returns-2)
