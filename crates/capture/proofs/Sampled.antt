@@ -225,9 +225,6 @@ rises-start bus (s ∷ ss) = refl
 pub left-end : (bus : Bool) (ss : List ℕ) (i : ℕ) → length ss ≤ i → leftOf bus ss i ≡ []
 left-end bus ss i h = rw (drop-of-length-le ss h) refl
 
-pub rises-end : (bus : Bool) (ss : List ℕ) (i : ℕ) → length ss ≤ i → risesLeft bus ss i ≡ []
-rises-end bus ss i h = rw (drop-of-length-le ss h) refl
-
 -- a sample and the run that it begins
 module _ (bus : Bool) (ss : List ℕ) (i end : ℕ) (low : AllBelow 4 ss) (h : i < length ss) (w : SameTo ss (getD ss i 0) (i + 1) end) where
   run-same : (k : ℕ) → suc i ≤ k → k < end → getD ss k 0 ≡ getD ss i 0

@@ -21,13 +21,11 @@ use Rattle.line.specs.Rules.{endedByOf, endedOf, nextOf}
 use Rattle.state.specs.declared.Chip.{Chip}
 use Rattle.chip.specs.Model.{Model, ours}
 use Rattle.chip.specs.Memory.{stateOf}
+use Rattle.chip_laws.proofs.Range.{no-way}
 use Rattle.capture.specs.Ends.{ackedOf, busyIn, endDueOf, withEndsOf}
 use Rattle.capture_promises.specs.Running.{strippedOf, StartAcked, EndHere, EndsPlaced, EndsOneWay}
 
 -- ---- without the ends
-
-pub not-both {ℓ} : {A : Type ℓ} → false ≡ true → A
-not-both h = let z : _≡_ {A = ℕ} 0 1 = cc in absurd (omega arith)
 
 pub stripped-end : (e : ℕ) (es : List ℕ) → e ≡ 4 → strippedOf (e ∷ es) ≡ strippedOf es
 stripped-end e es h = rw (eq-eqb e 4 h) refl
@@ -66,8 +64,8 @@ start-shown (e ∷ es) h = (es, ap (λ (x : ℕ). x ∷ es) (h .0), stripped-oth
 
 -- the same events without their ends: the same byte is acknowledged
 acked-same : (k : ℕ) (M : Model) (c : Chip) (xs ys : List ℕ) → ackedOf k xs ≡ true → strippedOf xs ≡ strippedOf ys → EndsPlaced M c ys → ackedOf k ys ≡ true
-acked-same zero M c xs ys h e p = not-both h
-acked-same (suc k) M c [] ys h e p = not-both h
+acked-same zero M c xs ys h e p = no-way h
+acked-same (suc k) M c [] ys h e p = no-way h
 acked-same (suc k) M c (x ∷ xs) [] h e p =
     let l = acked-clock k x xs h in
     no-element x (strippedOf xs) (sym (stripped-other x xs (λ q. omega arith)) ∙ e)
@@ -100,7 +98,7 @@ start-left M c x xs y ys p r e d n =
     let z : y ≡ 2 = cc in
     let w : strippedOf (s .0) ≡ strippedOf ys = cc in
     let k = acked-same 9 M (M .next c y) (s .0) ys (s .3) w (r .1) in
-    not-both (sym (r .0 .none-left (z, k)) ∙ p .0 .in-cycle d)
+    no-way (sym (r .0 .none-left (z, k)) ∙ p .0 .in-cycle d)
 
 pub ends-one-way : EndsOneWay
 ends-one-way M c [] [] p r e = refl
@@ -143,7 +141,7 @@ due-is c e es h =
 due-not : (c : Chip) (e : ℕ) (es : List ℕ) → endDueOf c e es ≡ false → e ≡ 2 → ackedOf 9 es ≡ true → busyIn (c .line .phase) ≡ false
 unfolding endDueOf
 due-not c e es h d a =
-    either (busyIn (c .line .phase)) (λ b. let t : endDueOf c e es ≡ true = rw (eq-eqb e 2 d, b, a) refl in not-both (sym h ∙ t)) (λ b. b)
+    either (busyIn (c .line .phase)) (λ b. let t : endDueOf c e es ≡ true = rw (eq-eqb e 2 d, b, a) refl in no-way (sym h ∙ t)) (λ b. b)
 
 pub with-due : (M : Model) (c : Chip) (e : ℕ) (es : List ℕ) → endDueOf c e es ≡ true → withEndsOf M c (e ∷ es) ≡ 4 ∷ e ∷ withEndsOf M (M .next (M .next c 4) e) es
 unfolding withEndsOf

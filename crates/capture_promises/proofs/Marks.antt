@@ -14,12 +14,13 @@ use Rattle.state.specs.declared.Chip.{Chip}
 use Rattle.chip.specs.Model.{Model}
 use Rattle.chip.specs.Memory.{Mem}
 use Rattle.chip.specs.Runs.{afterOf, memoryOf}
+use Rattle.chip_laws.proofs.Range.{no-way}
 use Rattle.capture.specs.declared.Mark.{Mark}
 use Rattle.capture.specs.declared.Mark.the-variants.{Same, At}
 use Rattle.capture.specs.Samples.{eventsOf, risesOf}
 use Rattle.capture.specs.Marks.{placeOf, clockOf, clocksIn, comparedOf, differsOf, markFrom}
 use Rattle.capture_promises.specs.Running.{strippedOf, Agrees, placeAfter, Differs, MarkRight}
-use Rattle.capture_promises.proofs.Ends.{not-both, stripped-other}
+use Rattle.capture_promises.proofs.Ends.{stripped-other}
 use Rattle.capture_promises.proofs.Rises.{rises-at, rises-pinned}
 
 -- ---- one clock
@@ -36,7 +37,7 @@ pub same-is : (M : Model) (c : Chip) (m : Mem) (place e : ℕ) → differsOf M c
 unfolding differsOf
 same-is M c m place e h l k =
     eqb-true (M .level c m e) e
-    (either (eqb (M .level c m e) e) (λ b. b) (λ b. let t : differsOf M c m place e ≡ true = rw (lt-ltb e 2 l, k, b) refl in not-both (sym h ∙ t)))
+    (either (eqb (M .level c m e) e) (λ b. b) (λ b. let t : differsOf M c m place e ≡ true = rw (lt-ltb e 2 l, k, b) refl in no-way (sym h ∙ t)))
 
 -- ---- the mark, from anywhere in a run
 

@@ -25,6 +25,7 @@ use Rattle.chip.specs.Delivery.{pinAtFirstOf, standbyOf, codedOf, deliveredIdOf
 use Rattle.chip.specs.Calls.{heldVerdictOf}
 use Rattle.chip_promises.specs.Numbers.{Ready}
 use Rattle.chip_laws.specs.Bytes.{bitsOf, byteOf}
+use Rattle.chip_laws.proofs.Range.{no-way}
 use Rattle.capture.specs.declared.Mark.the-variants.{Same, At}
 use Rattle.capture.specs.Samples.{eventsOf, risesOf, judgeOf}
 use Rattle.capture.specs.Ends.{busyIn, endDueOf, withEndsOf, endsIn}
@@ -37,7 +38,7 @@ use Rattle.capture_promises.specs.Good.{onLine, Releases, Mastered, wire
 use Rattle.capture_promises.specs.Worked.{byteWritten, selected, over}
 use Rattle.capture_promises.specs.WrongRuns.{Accepts, NeverMarksBreaks, AlwaysMarksBreaks, EndsNothingBreaks, KeepsChipBreaks, KeepsBytesBreaks, OneReadingBreaks, viewedBy, firstMark, ViewedIsOurs, ViewedAccepts, endsEvery, EndsEveryBreaks, endsAtOnce, EndsAtOnceBreaks, comparesAll, ComparesAllBreaks, ComparesAllMarksGood, countsFromOne, CountsFromOneBreaks, WrongRuns}
 use Rattle.capture_promises.proofs.Drawn.{drawn-low}
-use Rattle.capture_promises.proofs.Ends.{not-both, ends-one-way, with-placed}
+use Rattle.capture_promises.proofs.Ends.{ends-one-way, with-placed}
 use Rattle.capture_promises.proofs.Marks.{mark-one}
 use Rattle.capture_promises.proofs.Running.{ends-right, mark-first, seen-fine}
 use Rattle.capture_promises.proofs.Worked.{worked}
@@ -160,7 +161,7 @@ computed =
 keeps-chip : KeepsChipBreaks
 unfolding standbyOf
 keeps-chip see a n right =
-    not-both (ap (λ (c : Chip). busyIn (c .line .phase)) (sym (n 2 0 chip₀ mem₀ true (drawnOf byteWritten)) ∙ same-run see a true byteWritten right .1) ∙ computed .busy)
+    no-way (ap (λ (c : Chip). busyIn (c .line .phase)) (sym (n 2 0 chip₀ mem₀ true (drawnOf byteWritten)) ∙ same-run see a true byteWritten right .1) ∙ computed .busy)
 
 delivered : getD (mem₀ .cells) 0 0 ≡ 255
 unfolding deliveredOf factsOf

@@ -104,19 +104,19 @@ fn copy(boards: &mut [u8], from: usize, to: usize) {
     }
 }
 
-// Before a file, and where it is refused after some of it was run.
-pub fn remember(boards: &mut [u8]) {
+fn copy_both(boards: &mut [u8], from: usize, to: usize) {
     let mut i = 0;
     while i < BOTH {
-        copy(boards, i, at(BOTH, i));
+        copy(boards, at(from, i), at(to, i));
         i += 1;
     }
 }
 
+// Before a file, and where it is refused after some of it was run.
+pub fn remember(boards: &mut [u8]) {
+    copy_both(boards, OWN, BOTH);
+}
+
 pub fn restore(boards: &mut [u8]) {
-    let mut i = 0;
-    while i < BOTH {
-        copy(boards, at(BOTH, i), i);
-        i += 1;
-    }
+    copy_both(boards, BOTH, OWN);
 }

@@ -119,10 +119,6 @@ fn own(n: usize, length: usize) -> usize {
 
 // ---- a chip on which letters were run
 
-struct Held {
-    chip: Chip,
-}
-
 fn spoilt(chip: Chip, bad: bool) -> Chip {
     if !bad {
         return chip;
@@ -149,7 +145,7 @@ fn before(
     array: &mut [u8],
     id: &mut [u8],
     levels: &mut [u8],
-) -> Held {
+) -> Chip {
     let mut codes = [0u8; 4096];
     let n = spell(true, typed, &mut codes);
     let chip = chip::standby(part, false);
@@ -162,9 +158,7 @@ fn before(
         cases::cut(&codes, 0, n),
         levels,
     );
-    Held {
-        chip: spoilt(r.chip, bad),
-    }
+    spoilt(r.chip, bad)
 }
 
 fn see(v: [usize; 16], chip: Chip, typed: &[u8], array: &mut [u8], id: &mut [u8]) {
@@ -188,7 +182,7 @@ fn run_in(v: [usize; 16], typed: &[u8], array: &mut [u8], id: &mut [u8], levels:
     let at = slash(typed);
     let letters = cases::cut(typed, 0, at);
     let digits = cases::cut(typed, cases::more(at), typed.len());
-    let held = before(
+    let chip = before(
         part,
         text::narrow(v[1]),
         v[4] == 1,
@@ -201,7 +195,7 @@ fn run_in(v: [usize; 16], typed: &[u8], array: &mut [u8], id: &mut [u8], levels:
     let d = own(v[3], parts::id_size(f));
     see(
         v,
-        held.chip,
+        chip,
         digits,
         fitted::first(array, n),
         fitted::first(id, d),
