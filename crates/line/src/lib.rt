@@ -119,13 +119,15 @@ fn at_phase(core: Core, phase: Phase) -> Line
 
 // ---- the page rule
 
+// Rule 3, where a page write turns back: the next place in the page, and behind the page's last place its first.
 fn rolled(part: u8, counter: u16) -> u16
     ensures { λ r. ⌜ r ≡ rollOf (factsOf part .page) counter ⌝ }
 {
     let f = parts::facts_of(part);
     let p = f.page;
     let c = counter as usize;
-    (c / p * p + (c + 1) % p) as u16
+    let base = c / p * p;
+    (base + (c + 1) % p) as u16
 }
 
 // The place before the counter in its page, rolled over.

@@ -12,11 +12,11 @@ use Rattle.line.proofs.rolled.Tie as tie
 facts-of-requires : tie.Need-facts-of-requires
 facts-of-requires c κs = search needs
 
-div-result : tie.Need-div-result
-div-result c = search needs
+div-base : tie.Need-div-base
+div-base c = search needs
 
-mul-result : tie.Need-mul-result
-mul-result c = omega (arith, page-room 65536 (c .facts-of .result .page) (c .before .args .counter) (c .facts-of .ensures .1 .pagePos) (c .facts-of .ensures .1 .even) (omega arith))
+mul-base : tie.Need-mul-base
+mul-base c = omega (arith, page-room 65536 (c .facts-of .result .page) (c .before .args .counter) (c .facts-of .ensures .1 .pagePos) (c .facts-of .ensures .1 .even) (omega arith))
 
 add-result : tie.Need-add-result
 add-result c = search needs
@@ -39,8 +39,8 @@ rolled-spec =
     tie.close
     (tie.spec
     facts-of-requires
-    div-result
-    mul-result
+    div-base
+    mul-base
     add-result
     rem-result
     add-result-2
