@@ -17,6 +17,7 @@ use Rattle.parts.specs.Events.{eventOf}
 use Rattle.parts.proofs.Laws.{sound, branch}
 use Rattle.parts.proofs.Tests.{not-yes}
 use Rattle.chip_laws.proofs.Bytes.{moved-more}
+use Rattle.chip_laws.proofs.Roll.{page-rule}
 use Rattle.line.specs.declared.Pin.{Pin}
 use Rattle.line.specs.declared.Target.{Target}
 use Rattle.line.specs.declared.Target.the-variants.{Array as TheArray, Ident as TheIdent}
@@ -50,7 +51,7 @@ use Rattle.driver_promises.proofs.Grow.{bit-lt}
 use Rattle.driver_promises.proofs.Bytes.{register, register-none, register-all, shift-next}
 use Rattle.chip_promises.specs.States.{NotBusy}
 use Rattle.bench_promises.proofs.Hears.{After, bit-heard, ninth-heard, deaf-heard, sent-heard, end-heard, start-free, start-busy, stop-idle, stop-busy, stop-none, stop-begins, end-free, end-busy}
-use Rattle.bench_promises.proofs.Wrote.{wrote, less-or-same, commit-none, commit-more, roll-next, cells-with, with-with}
+use Rattle.bench_promises.proofs.Wrote.{wrote, less-or-same, commit-none, commit-more, cells-with, with-with}
 use Rattle.bench_promises.proofs.Codes.{decode-hit, asks-none, first-wide, first-narrow, Placed, room-most, load-is, shown-is, moved-last, register-step, inside-page}
 use Rattle.line.specs.declared.Selected.{Selected}
 use Rattle.line.specs.declared.Phase.{Phase as ChipPhase}
@@ -264,7 +265,7 @@ module _ (g : Given) (s : Sane g) where
           counter =
               λ h.
               ap (rollOf (F g .page)) (t .counter)
-              ∙ (roll-next (F g) (sound (r .part) .pagePos) (sound (r .part) .pageMost) (from g + a) (part-page a x lo h) ∙ omega arith);
+              ∙ (page-rule (F g .page) (from g + a) (sound (r .part) .pagePos) .next (part-page a x lo h) ∙ omega arith);
           long = length-set (ch .latch) (n % F g .page) v ∙ t .long;
           commit =
               commit-more (F g) (sound (r .part) .pagePos) (sound (r .part) .pageMost) n v (ch .latch) (T g) (W g x) (t .long) (s .bytes a)

@@ -8,7 +8,6 @@ use mathlib.Core.List.{List, [], _∷_}
 use lib.ListN.{length, getD, set, take, replicate, length-set, length-take}
 use lib.Seq.{getD-set-same, getD-set-other, set-set, set-comm, take-set-lt}
 use lib.Dec.{ltb}
-use lib.Arith.{digits-div, digits-mod}
 use native.Mathlib.Omega.{arith}
 use native.Mathlib.Nat.{mod-lt, div-add-mod'}
 use borrow.Author.Tests.{ltb-true, ltb-false, lt-ltb}
@@ -17,6 +16,7 @@ use Rattle.line.specs.declared.Target.{Target}
 use Rattle.line.specs.declared.Target.the-variants.{Array, Ident}
 use Rattle.line.specs.Rules.{rollOf}
 use Rattle.chip.specs.Memory.{Mem, noLatch, oneOf, enteredOf, counterPageOf, cellsOf, withCells, committedOf}
+use Rattle.chip_laws.proofs.Roll.{page-rule}
 
 -- the first i bytes of xs, from place x on
 abbrev pub wrote : List ℕ → ℕ → List ℕ → ℕ → List ℕ
@@ -114,18 +114,6 @@ module _ (f : Facts) (pos : 0 < f .page) (most : f .page ≤ 64) where
       ap (λ (k : List ℕ). withCells t (enteredOf (cellsOf t m) (counterPageOf f x) k) m) (take-same (f .page) 64 most)
       ∙ (ap (λ (l : List ℕ). withCells t l m) (entered-none (f .page) (cellsOf t m) (counterPageOf f x)) ∙ with-same t m)
 
-  roll-page : (x : ℕ) → rollOf (f .page) x / f .page ≡ x / f .page
-  unfolding rollOf
-  roll-page x = digits-div (x / f .page) (mod-lt (x + 1) pos)
-
-  -- the place that is rolled over to is the next one, unless that opens a page
-  pub roll-next : (x : ℕ) → x % f .page + 1 < f .page → rollOf (f .page) x ≡ x + 1
-  unfolding rollOf
-  roll-next x h =
-      let e : x / f .page * f .page + (x % f .page + 1) ≡ x + 1 = omega (arith, div-add-mod' x (f .page)) in
-      let d : (x + 1) % f .page ≡ x % f .page + 1 = ap (λ (n : ℕ). n % f .page) (sym e) ∙ digits-mod (x / f .page) h in
-      omega (arith, e)
-
   pub commit-more : (x v : ℕ) (k : List ℕ) (t : Target) (m : Mem) → length k ≡ 64 → v < 256
       → committedOf f (rollOf (f .page) x) (set k (x % f .page) v) t m ≡ withCells t (set (cellsOf t (committedOf f x k t m)) x v) (committedOf f x k t m)
   unfolding committedOf counterPageOf
@@ -134,7 +122,7 @@ module _ (f : Facts) (pos : 0 < f .page) (most : f .page ≤ 64) where
       let s = enteredOf (cellsOf t m) (x / P * P) (take P k) in
       let i = mod-lt x pos in
       let e : x / P * P + x % P ≡ x = omega (arith, div-add-mod' x P) in
-      ap (λ (q : ℕ). withCells t (enteredOf (cellsOf t m) (q * P) (take P (set k (x % P) v))) m) (roll-page x)
+      ap (λ (q : ℕ). withCells t (enteredOf (cellsOf t m) (q * P) (take P (set k (x % P) v))) m) (page-rule P x pos .page)
       ∙ (ap (λ (l : List ℕ). withCells t (enteredOf (cellsOf t m) (x / P * P) l) m) (take-set-lt P k (x % P) v i)
       ∙ (ap (λ (l : List ℕ). withCells t l m) (entered-more (take P k) (cellsOf t m) (x / P * P) (x % P) v (omega (arith, length-take P k)) o)
       ∙ (ap (λ (j : ℕ). withCells t (set s j v) m) e
