@@ -128,12 +128,12 @@ fn page_of(part: u8) -> u16
     f.page as u16
 }
 
-// A byte behind the last of its page lands on the first: the counter stands there already.
+// The byte that turned back to the page start: the counter stands there already (rule 3; `rolled` of the crate line).
 fn tell_rolled(part: u8, counter: u16) {
     let p = page_of(part);
     if counter % p == 0 {
         if counter < 32768 {
-            say(b"  warning: the page was full: this byte and those behind it land from ");
+            say(b"  warning: turned back to the page start: this and later bytes land from ");
             say_address(counter as usize);
             say(b" on, not from ");
             say_address((counter + p) as usize);

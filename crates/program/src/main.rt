@@ -153,7 +153,7 @@ fn run(bytes: bool) {
 fn usage(fd: i32) {
     io::write_all(
         fd,
-        b"usage: sapwoodle [trace]        runs the trace on standard input\n       sapwoodle trace --bytes  tells it byte by byte first\n       sapwoodle write PART ENABLE ADDRESS HEXBYTES  the driver against the model\n       sapwoodle read PART ENABLE ADDRESS LENGTH     refused, each says which byte went unanswered: 9 a select, 14 and 15 an\n                                                     address byte, 10 a data byte; 11 that the chip stayed busy\n       sapwoodle bench [PART [--enable N]]           what a board cannot try, as tables\n       sapwoodle capture PART ENABLE FILE..          the model over what a logic analyser saw: same, or the first level that differs.\n                                                     Refused: 20 a sample above 3, with its number\n",
+        b"usage: sapwoodle [trace]        runs the trace on standard input\n       sapwoodle trace --bytes  tells it byte by byte first, and where a page write turns back\n       sapwoodle write PART ENABLE ADDRESS HEXBYTES  the driver against the model\n       sapwoodle read PART ENABLE ADDRESS LENGTH     refused, each says which byte went unanswered: 9 a select, 14 and 15 an\n                                                     address byte, 10 a data byte; 11 that the chip stayed busy\n       sapwoodle bench [PART [--enable N]]           what a board cannot try, as tables\n       sapwoodle capture PART ENABLE FILE..          the model over what a logic analyser saw: same, or the first level that differs.\n                                                     Refused: 20 a sample above 3, with its number\n",
     );
     io::write_all(
         fd,
@@ -233,7 +233,7 @@ fn choose(word: &[u8]) {
     }
     let version = check::same(word, b"version");
     if version {
-        return put(b"sapwoodle 0.10.0\n");
+        return put(b"sapwoodle 0.11.0\n");
     }
     let help = check::same(word, b"help");
     if help {

@@ -1,7 +1,10 @@
 // Runs the traces on standard input, each ended by `;`, and prints each answer. `@` in a trace stands for 32,767 letters `1`. A text that
-// begins with `#` is no trace: it names the next one, and is printed.
+// begins with `#` is no trace: it names the next one, and is printed. A trace behind `?` is told byte by byte too.
 ghost use Prim.Native.Nat.{_≤_};
+ghost use mathlib.Core.Path.{_≡_};
 ghost use lib.ListN.{length};
+ghost use Rattle.trace.specs.Trace.{traceOf, layingOf};
+use trace::Traced;
 
 fn least(a: usize, b: usize) -> usize
     ensures { λ r. ⌜ (r ≤ a) × (r ≤ b) ⌝ }
@@ -33,15 +36,25 @@ fn add(text: &mut [u8], n: usize, b: u8) -> usize
     grow(text, n, b, 1)
 }
 
-fn answer_in(text: &[u8], out: &mut [u8]) {
-    let t = trace::trace(text, out);
+// The answer is the same, told or not.
+fn traced(text: &[u8], told: bool, out: &mut [u8]) -> Traced
+    ensures { λ r. ⌜ r ≡ layingOf (now (out .entry)) (traceOf (now (text .entry))) .answer ⌝ }
+{
+    if told {
+        return explain::explain(text, out);
+    }
+    trace::trace(text, out)
+}
+
+fn answer_in(text: &[u8], told: bool, out: &mut [u8]) {
+    let t = traced(text, told, out);
     let n = t.length;
     text::say(&out[..n]);
 }
 
-fn answer(text: &[u8]) {
+fn answer(text: &[u8], told: bool) {
     let mut out = [0u8; 32800];
-    answer_in(text, &mut out);
+    answer_in(text, told, &mut out);
 }
 
 fn read(text: &[u8]) {
@@ -50,8 +63,12 @@ fn read(text: &[u8]) {
             text::say(&text[1..]);
             return;
         }
+        if text[0] == b'?' {
+            answer(&text[1..], true);
+            return;
+        }
     }
-    answer(text);
+    answer(text, false);
 }
 
 // One byte more of the input; how long the trace now is.

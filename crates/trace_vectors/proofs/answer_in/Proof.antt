@@ -5,14 +5,14 @@ use borrow.Author.Needs.{needs}
 use Rattle.trace_vectors.proofs.answer_in.Statement.{statement}
 use Rattle.trace_vectors.proofs.answer_in.Tie as tie
 
-trace-requires : tie.Need-trace-requires
-trace-requires c κs = search needs
+traced-requires : tie.Need-traced-requires
+traced-requires c κs = search needs
 
 slice-reshare-prefix-say : tie.Need-slice-reshare-prefix-say
-slice-reshare-prefix-say c = length-fits _ _ _ _ (c .before .before .trace .ensures .0) (sym (c .before .before .trace .kept .1 .0))
+slice-reshare-prefix-say c = length-fits _ _ _ _ (c .before .before .traced .ensures) (sym (c .before .before .traced .kept .1 .1 .0))
 
 slice-aggregate-say : tie.Need-slice-aggregate-say
-slice-aggregate-say c = sym (length-take-le _ _ (length-fits _ _ _ _ (c .before .before .before .trace .ensures .0) (sym (c .before .before .before .trace .kept .1 .0))))
+slice-aggregate-say c = sym (length-take-le _ _ (length-fits _ _ _ _ (c .before .before .before .traced .ensures) (sym (c .before .before .before .traced .kept .1 .1 .0))))
 
 say-requires : tie.Need-say-requires
 say-requires c κs = search needs
@@ -27,7 +27,7 @@ pub answer-in-spec : {M : Type 1} → statement M
 answer-in-spec =
     tie.close
     (tie.spec
-    trace-requires
+    traced-requires
     slice-reshare-prefix-say
     slice-aggregate-say
     say-requires
