@@ -1,6 +1,7 @@
 -- Every change request that has landed is kept: each field is a promise that is proved in the crate that its name comes from.
 -- Assumes nothing.
 use Rattle.driver.specs.Machine.{ourDriver}
+use Rattle.chip_laws.proofs.Roll.{page-rule}
 use Rattle.driver_promises.proofs.Promises.{promises}
 use Rattle.driver_promises.proofs.Which.{refused-says, one-address-byte, faulty-line}
 use Rattle.bench_promises.proofs.Answered.{address-answered, addressed-kept, reset-breaks}
@@ -78,4 +79,5 @@ requests =
             worked = worked;
             bytes = (capture-is-chips, capture-refuses-4);
           };
+      fourth = record { turns = page-rule };
     }

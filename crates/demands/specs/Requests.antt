@@ -2,6 +2,7 @@
 -- `requests` in proofs/Requests.antt, is of all that have landed.
 -- Assumes nothing.
 use Rattle.chip.specs.Model.{ours}
+use Rattle.chip_laws.specs.Roll.{PageRule}
 use Rattle.driver.specs.Machine.{ourDriver}
 use Rattle.driver_promises.specs.Promises.{Promises}
 use Rattle.driver_promises.specs.Which.{SaysWhichKept, OneAddressByte, FaultyLine}
@@ -113,7 +114,14 @@ pub record Request3 : Type 0 where
   -- callers that hold bytes are told the same
   pub bytes : CaptureIsChips capturing × CaptureRefuses4 capturing
 
+-- §4, "Show the roll-over as one line.": it asks for a body's form, which no statement sees: `rolled` in line/src/lib.rt, whose contract is `rollOf`, as before
+pub record Request4 : Type 0 where
+  -- "where a page write turns back to the page start", "Its promise doesn't move": over any page size, the next place is one more, and behind the
+  -- page's last place it is the page's first
+  pub turns : PageRule
+
 pub record Requests : Type 0 where
   pub first : Request1
   pub second : Request2
   pub third : Request3
+  pub fourth : Request4
