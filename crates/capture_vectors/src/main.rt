@@ -102,17 +102,6 @@ fn spell(letters: bool, typed: &[u8], to: &mut [u8]) -> usize {
     i
 }
 
-fn slash(typed: &[u8]) -> usize {
-    let mut i = 0;
-    while i < typed.len() {
-        if typed[i] == b'/' {
-            return i;
-        }
-        i += 1;
-    }
-    i
-}
-
 fn own(n: usize, length: usize) -> usize {
     if n < 70000 { n } else { length }
 }
@@ -179,7 +168,7 @@ fn see(v: [usize; 16], chip: Chip, typed: &[u8], array: &mut [u8], id: &mut [u8]
 fn run_in(v: [usize; 16], typed: &[u8], array: &mut [u8], id: &mut [u8], levels: &mut [u8]) {
     let part = text::narrow(v[0]);
     let f = parts::facts_of(part);
-    let at = slash(typed);
+    let at = cases::place(typed, b'/');
     let letters = cases::cut(typed, 0, at);
     let digits = cases::cut(typed, cases::more(at), typed.len());
     let chip = before(

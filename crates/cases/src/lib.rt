@@ -53,10 +53,11 @@ pub fn numbers(line: &[u8]) -> [usize; 16] {
     values
 }
 
-fn colon(line: &[u8]) -> usize {
+// Where a byte first stands; where there is none, the end.
+pub fn place(line: &[u8], mark: u8) -> usize {
     let mut i = 0;
     while i < line.len() {
-        if line[i] == b':' {
+        if line[i] == mark {
             return i;
         }
         i += 1;
@@ -66,7 +67,7 @@ fn colon(line: &[u8]) -> usize {
 
 // What is tried: the text behind the colon and a space.
 pub fn label(line: &[u8]) -> &[u8] {
-    cut(line, more(more(colon(line))), line.len())
+    cut(line, more(more(place(line, b':'))), line.len())
 }
 
 // ---- bytes that tell places apart

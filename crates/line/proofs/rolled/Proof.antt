@@ -1,5 +1,4 @@
-use native.Mathlib.Nat.{mod-lt}
-use Prim.Native.Nat.{_+_, _-_}
+use Prim.Native.Nat.{_+_}
 use Rattle.line.proofs.Laws.{page-room}
 use native.Mathlib.Nat.{mod-lt}
 use native.Mathlib.Omega.{arith}
