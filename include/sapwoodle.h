@@ -10,14 +10,14 @@
  *      1  part above 5                                   8  budget or d outside its limits
  *      2  enable wrong for the part                      9  select not acknowledged
  *      3  array or identification buffer not exactly    10  data byte not acknowledged
- *         the part's length (0 without such a page)     11  polls used up
- *      4  state or driver: another length, bytes that   12  image length, mark, version or lock byte wrong
- *         hold none, or one that is out of range        13  more than 32,768 events
- *      5  event above 8, or a pin event without a pin   14  first address byte not acknowledged
- *      6  answer or output buffer too short             15  second address byte not acknowledged
- *      7  address plus length beyond the array or       16  HEX: malformed record
- *         page; no such page                            17  HEX: wrong sum
- *                                                       18  HEX: overlap, or beyond the array
+ *         the part's length (0 without such a page);    11  polls used up
+ *         page for a loss of power not a page long      12  image length, mark, version or lock byte wrong
+ *      4  state or driver: another length, bytes that   13  more than 32,768 events
+ *         hold none, or one that is out of range        14  first address byte not acknowledged
+ *      5  event above 8, or a pin event without a pin   15  second address byte not acknowledged
+ *      6  answer or output buffer too short             16  HEX: malformed record
+ *      7  address plus length beyond the array or       17  HEX: wrong sum
+ *         page; no such page                            18  HEX: overlap, or beyond the array
  *                                                       19  HEX: no end record, or text after it
  *                                                       20  capture: a sample above 3
  *
@@ -48,6 +48,7 @@ extern "C" {
  * not NULL. */
 #define SAPWOODLE_ARRAY_MOST 32768
 #define SAPWOODLE_ID_MOST 64
+#define SAPWOODLE_PAGE_MOST 64
 
 /* ---- events, and the levels that answer them */
 enum {
@@ -97,9 +98,27 @@ unsigned char sapwoodle_deliver(unsigned char part,
     unsigned char *array, unsigned long array_length,
     unsigned char *id, unsigned long id_length);
 
-/* One event. `level` gets the chip's answer, `cycles` the write cycles that the event began, 0 or 1; of a refused call no level and 0.
- * Refused with 1 to 5. */
+/* ---- power lost in a write cycle
+ *
+ * A chip corrects errors by groups of bytes: four aligned ones on parts 2 to 5, single bytes on 0 and 1. A reset in a write cycle leaves each
+ * group with a latched byte holding the bytes of `page`, by their places in the page, latched or not; every other byte is as before, and the
+ * bytes that were to be written are lost. A reset in a locking cycle leaves the lock as the flag `lock` says: 0 no, 1 and more yes. Any other
+ * reset changes nothing stored and uses neither. One page and flag serve all resets of a call; another call may lend another.
+ *
+ *     part 2, AAh at 0025h, a reset in its cycle: 0024h to 0027h hold page[4] to page[7], also 0025h; 0020h to 0023h
+ *     and all from 0028h on are as before
+ *
+ *     unsigned char page[32] = { .. };
+ *     sapwoodle_step(2, 0, page, sizeof page, 0, state, sizeof state, array, sizeof array, id, 0, SAPWOODLE_RESET, &level, &cycles);
+ *
+ * The page is a page long, 16, 32 or 64 bytes by the part, or the call is refused with 3, whether there is a reset or not. With no page and
+ * flag 0 a reset in a cycle finds the old contents and no lock: `page_length` is 0 then, and `page` may point to any byte of the caller's,
+ * but is not NULL. A flag without a page is refused with 3. The page is only read. The state does not hold it: 137 bytes as before. */
+
+/* One event. `level` gets the chip's answer, `cycles` the write cycles that the event began, 0 or 1; of a refused call no level and 0. A
+ * cycle that is cut was counted at its Stop. Refused with 1 to 5. */
 unsigned char sapwoodle_step(unsigned char part, unsigned char enable,
+    const unsigned char *page, unsigned long page_length, unsigned char lock,
     unsigned char *state, unsigned long state_length,
     unsigned char *array, unsigned long array_length,
     unsigned char *id, unsigned long id_length,
@@ -109,6 +128,7 @@ unsigned char sapwoodle_step(unsigned char part, unsigned char enable,
 /* Events, one byte each. `answers` gets a level for each, and keeps its further bytes; `cycles` the cycles begun, and `place` where the
  * first wrong event stands if the answer is 5. Of any other refused call both are 0. Refused with 1 to 6, 13. */
 unsigned char sapwoodle_run(unsigned char part, unsigned char enable,
+    const unsigned char *page, unsigned long page_length, unsigned char lock,
     unsigned char *state, unsigned long state_length,
     unsigned char *array, unsigned long array_length,
     unsigned char *id, unsigned long id_length,

@@ -32,6 +32,7 @@ use driver::Driver;
 use driver::Phase;
 use driver::Request;
 use driver::Slot;
+use parts::Loss;
 use parts::Refusal;
 use parts::Verdict;
 use state::Chip;
@@ -108,7 +109,7 @@ fn send(
         ≡ storeOf (factsOf part) (held .chip) (mem (now (array .entry)) (now (id .entry))) (eventOf code) ⌝ }
 {
     let before = held.chip;
-    let s = chip::step(part, enable, before, array, id, code);
+    let s = chip::step(part, enable, Loss::Old, b"", before, array, id, code);
     let chip = s.chip;
     Held {
         driver,
@@ -131,7 +132,7 @@ fn end(due: bool, part: u8, enable: u8, held: Held, array: &mut [u8], id: &mut [
         return held;
     }
     let before = held.chip;
-    let s = chip::step(part, enable, before, array, id, ENDS);
+    let s = chip::step(part, enable, Loss::Old, b"", before, array, id, ENDS);
     let chip = s.chip;
     let driver = held.driver;
     Held {

@@ -12,7 +12,7 @@ use Rattle.parts.specs.declared.Refusal.the-variants.{BadState}
 use Rattle.parts.specs.declared.Verdict.{Verdict}
 use Rattle.parts.specs.declared.Verdict.the-variants.{Fine, Refused as Judged}
 use Rattle.parts.specs.Table.{factsOf, idSizeOf, enableRightOf, buffersRightOf}
-use Rattle.parts.specs.Events.{eventOf}
+use Rattle.parts.specs.Events.{eventWith, eventOf}
 use Rattle.parts.specs.Refusals.{isFine, numberOf, soonerOf}
 use Rattle.parts.specs.Bytes.{AllBelow}
 use Rattle.parts.proofs.Laws.{branch}
@@ -25,11 +25,11 @@ use Rattle.line.specs.Rules.{enabledOf, namedOf, decodeOf, addressStartOf, sele
 use Rattle.state.specs.declared.Chip.{Chip}
 use Rattle.state.specs.Range.{inRangeOf}
 use Rattle.chip.specs.Memory.{Mem, cellsOf, seenOf, stateOf, chipLevelOf}
-use Rattle.chip.specs.Model.{Model, ours}
-use Rattle.chip.specs.Calls.{heldVerdictOf, stepVerdictOf, stepBy, stepMem, stepVerdict, stepOf}
+use Rattle.chip.specs.Model.{Model, old, ours}
+use Rattle.chip.specs.Calls.{cutVerdictOf, stepVerdictOf, stepBy, stepMem, stepVerdict, stepOf}
 use Rattle.chip.specs.Delivery.{pinAtFirstOf, standbyOf, deliveredIdOf, deliveredOf}
 use Rattle.chip.specs.Onward.{ignoresOf}
-use Rattle.chip.proofs.Laws.{held-fine}
+use Rattle.chip.proofs.Laws.{cut-fine}
 use Rattle.chip_laws.proofs.Range.{standby-in-range}
 use Rattle.chip_laws.proofs.Runs.{store-lengths}
 use Rattle.driver.specs.declared.Request.{Request}
@@ -118,14 +118,14 @@ module _ (part en : ℕ) where
   fits-on : (c : Chip) (m : Mem) (e : ℕ) → e < 5 → Fit part en c (length (m .cells)) (length (m .ident))
       → Fit part en (M .next c e) (length (M .store c m e .cells)) (length (M .store c m e .ident))
   fits-on c m e h t =
-      let l = store-lengths (factsOf part) c m (eventOf e) in
+      let l = store-lengths [] (factsOf part) c m (eventOf e) in
       rw (l .0, l .1) (fit-on part en c (length (m .cells)) (length (m .ident)) t e h)
 
-  taken : (s : System) (e : ℕ) → e < 5 → Fits s → stepVerdict part en (s .chip) (s .mem) e ≡ Fine
+  taken : (s : System) (e : ℕ) → e < 5 → Fits s → stepVerdict part en old (s .chip) (s .mem) e ≡ Fine
   taken s e h t = fine-step part en (s .chip) (length (s .mem .cells)) (length (s .mem .ident)) t e h
 
   -- the answer's own verdict
-  told : (c : Chip) (m : Mem) (e : ℕ) → stepVerdict part en c m e ≡ Fine → stepOf part en c m e .answer .verdict ≡ Fine
+  told : (c : Chip) (m : Mem) (e : ℕ) → stepVerdict part en old c m e ≡ Fine → stepOf part en old c m e .answer .verdict ≡ Fine
   told c m e h = ap (λ (v : Verdict). stepBy M c m e v .verdict) h
 
   -- ---- one asking
@@ -171,7 +171,7 @@ module _ (part en : ℕ) where
     ended-fits = fits-on (s .chip) (s .mem) ends (omega arith) t
 
     none-begun : s .cycles + begunOf (s .chip .line) (eventOf ends) ≡ s .cycles
-    unfolding begunOf eventOf
+    unfolding begunOf eventWith
     none-begun = omega arith
 
     ended-same : endCalledOf stepOf part en s ≡ cycleEndedOf M s
@@ -341,7 +341,7 @@ abbrev our-after : List Bool → System
 our-after bs = ourRun (factsOf 2) 0 bs (startOf fiveAt30 fiveBytes chip₀ mem₀)
 
 computed : (our-after asks .chip .line .phase ≡ Busy (Writing TheArray)) × (our-after (asks ++ (false ∷ [])) .chip .line .phase ≡ Idle)
-unfolding factsOf eventOf soonerOf enableRightOf enabledOf namedOf decodeOf addressStartOf selectedOf loadArrayOf loadedOf refusesOf latchedOf filledOf lockedByOf takenOf receivedOf receiveActOf receiveLevelOf movedOf clockedOf clockActOf clockLevelOf startedOf startActOf asksOf placedOf stoppedOf endedByOf endedOf endActOf nextOf actOf levelOf seenOf stateOf chipLevelOf pinAtFirstOf standbyOf beyondAt limitOf judgeOf allowedOf kOf toPageEndOf pagesMetOf selectAt wireOf bitOf shiftOf readyOf bitsAt leadAt lowAt dataAt pollMoveOf heardMoveOf bitsMoveOf driverStepOf countsRight rangeOf driverNextOf byteKeptOf bufferOf askedOf cycleEndedOf togetherOf
+unfolding factsOf eventWith soonerOf enableRightOf enabledOf namedOf decodeOf addressStartOf selectedOf loadArrayOf loadedOf refusesOf latchedOf filledOf lockedByOf takenOf receivedOf receiveActOf receiveLevelOf movedOf clockedOf clockActOf clockLevelOf startedOf startActOf asksOf placedOf stoppedOf endedByOf endedOf endActOf nextOf actOf levelOf seenOf stateOf chipLevelOf pinAtFirstOf standbyOf beyondAt limitOf judgeOf allowedOf kOf toPageEndOf pagesMetOf selectAt wireOf bitOf shiftOf readyOf bitsAt leadAt lowAt dataAt pollMoveOf heardMoveOf bitsMoveOf driverStepOf countsRight rangeOf driverNextOf byteKeptOf bufferOf askedOf cycleEndedOf togetherOf
 computed = (refl, refl)
 
 -- the last choice, an end, changes nothing in the chip
@@ -362,11 +362,11 @@ says : (M : Model) (c : Chip) (m : Mem) (e : ℕ) (v : Verdict) → stepBy M c m
 says M c m e Fine = refl
 says M c m e (Judged r) = refl
 
-ranged : (part en : ℕ) (c : Chip) (m : Mem) (e : ℕ) → stepOf part en c m e .answer .verdict ≡ Fine → inRangeOf (factsOf part) c ≡ true
+ranged : (part en : ℕ) (c : Chip) (m : Mem) (e : ℕ) → stepOf part en old c m e .answer .verdict ≡ Fine → inRangeOf (factsOf part) c ≡ true
 unfolding stepVerdictOf
 ranged part en c m e h =
-    let v = sym (says (ours (factsOf part) en) c m e (stepVerdict part en c m e)) ∙ h in
-    held-fine part en c (length (m .cells)) (length (m .ident)) (sooner-fine (heldVerdictOf part en c (length (m .cells)) (length (m .ident))) _ v .0) .ranged
+    let v = sym (says (ours (factsOf part) en) c m e (stepVerdict part en old c m e)) ∙ h in
+    cut-fine part en old c (length (m .cells)) (length (m .ident)) (sooner-fine (cutVerdictOf part en old c (length (m .cells)) (length (m .ident))) _ v .0) .1 .ranged
 
 nine-out : inRangeOf (factsOf 2) (nineLeft chip₀) ≡ false
 unfolding inRangeOf factsOf standbyOf

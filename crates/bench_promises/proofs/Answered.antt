@@ -13,7 +13,7 @@ use native.Mathlib.Nat.{div-one}
 use borrow.Author.Tests.{ne-eqb}
 use Rattle.parts.specs.declared.Facts.{Facts}
 use Rattle.parts.specs.Table.{factsOf, enableRightOf}
-use Rattle.parts.specs.Events.{eventOf}
+use Rattle.parts.specs.Events.{eventWith, eventOf}
 use Rattle.parts.specs.declared.Verdict.{Verdict}
 use Rattle.parts.specs.declared.Verdict.the-variants.{Fine}
 use Rattle.parts.specs.Refusals.{numberOf, verdictNumberOf, soonerOf}
@@ -293,7 +293,7 @@ module _ (r : Request) (own : ℕ) where
   pinned l w (Busy y) e = subst NoTransfer (sym e) tt
 
   same : (l : Line) (e : ℕ) → PowerKept e → Same (l .phase) l (nextOf F own l (eventOf e))
-  unfolding nextOf eventOf
+  unfolding nextOf eventWith
   same l zero h = absurd (omega (arith, h .0))
   same l (suc zero) h = absurd (omega (arith, h .0))
   same l (suc (suc zero)) h = absurd (omega (arith, h .0))
@@ -444,7 +444,7 @@ unfolding judgeOf soonerOf factsOf enableRightOf beyondAt limitOf
 fits = record { fine = refl; size = refl }
 
 pub reset-breaks : ResetBreaks
-unfolding factsOf enableRightOf eventOf soonerOf enabledOf namedOf decodeOf addressStartOf selectedOf loadArrayOf loadIdOf loadedOf takenOf receivedOf receiveActOf receiveLevelOf clockedOf clockActOf clockLevelOf startedOf startActOf stoppedOf stopActOf resetOf nextOf actOf levelOf noLatch seenOf stateOf chipLevelOf pinAtFirstOf standbyOf beyondAt limitOf judgeOf allowedOf kOf pagesMetOf selectAt wireOf bitOf readyOf bitsAt leadAt lowAt heardMoveOf bitsMoveOf driverStepOf countsRight rangeOf driverNextOf byteKeptOf bufferOf askedOf
+unfolding factsOf enableRightOf eventWith soonerOf enabledOf namedOf decodeOf addressStartOf selectedOf loadArrayOf loadIdOf loadedOf takenOf receivedOf receiveActOf receiveLevelOf clockedOf clockActOf clockLevelOf startedOf startActOf stoppedOf stopActOf resetOf nextOf actOf levelOf noLatch seenOf stateOf chipLevelOf pinAtFirstOf standbyOf beyondAt limitOf judgeOf allowedOf kOf pagesMetOf selectAt wireOf bitOf readyOf bitsAt leadAt lowAt heardMoveOf bitsMoveOf driverStepOf countsRight rangeOf driverNextOf byteKeptOf bufferOf askedOf
 reset-breaks =
     record {
       first = refl;
@@ -454,5 +454,5 @@ reset-breaks =
 
 -- a chip with other straps
 pub blaming-breaks : BlamingBreaks
-unfolding factsOf enableRightOf eventOf soonerOf enabledOf namedOf decodeOf addressStartOf selectedOf loadArrayOf loadIdOf loadedOf takenOf receivedOf receiveActOf receiveLevelOf clockedOf clockActOf clockLevelOf startedOf startActOf stoppedOf stopActOf resetOf nextOf actOf levelOf noLatch seenOf stateOf chipLevelOf pinAtFirstOf standbyOf beyondAt limitOf judgeOf allowedOf kOf pagesMetOf selectAt wireOf bitOf readyOf bitsAt leadAt lowAt heardMoveOf bitsMoveOf driverStepOf countsRight rangeOf driverNextOf byteKeptOf bufferOf askedOf
+unfolding factsOf enableRightOf eventWith soonerOf enabledOf namedOf decodeOf addressStartOf selectedOf loadArrayOf loadIdOf loadedOf takenOf receivedOf receiveActOf receiveLevelOf clockedOf clockActOf clockLevelOf startedOf startActOf stoppedOf stopActOf resetOf nextOf actOf levelOf noLatch seenOf stateOf chipLevelOf pinAtFirstOf standbyOf beyondAt limitOf judgeOf allowedOf kOf pagesMetOf selectAt wireOf bitOf readyOf bitsAt leadAt lowAt heardMoveOf bitsMoveOf driverStepOf countsRight rangeOf driverNextOf byteKeptOf bufferOf askedOf
 blaming-breaks p = p onPage2 (90 ∷ []) fits 1 (standbyOf (factsOf 2) false) (mem [] []) (replicate 11 asks) tt .0 refl

@@ -8,7 +8,7 @@ use mathlib.Core.List.{List, [], _∷_}
 use lib.ListN.{length, getD}
 use lib.Dec.{eqb}
 use native.Mathlib.Omega.{arith}
-use Rattle.parts.specs.Events.{eventOf}
+use Rattle.parts.specs.Events.{eventWith, eventOf}
 use Rattle.parts.proofs.Laws.{branch}
 use Rattle.parts.proofs.Tests.{not-yes}
 use Rattle.chip_laws.proofs.Bytes.{clock-begins}
@@ -49,7 +49,7 @@ rests Rest = 1
 rests (Over f) = 0
 
 start-begun : (l : Line) → begunOf l (eventOf 2) ≡ 0
-unfolding begunOf eventOf
+unfolding begunOf eventWith
 start-begun l = refl
 
 module _ (g : Given) (s : Sane g) (ch : Chip) (m : Mem) (c : Counts) (ys : List ℕ) (v : ℕ) where
@@ -215,7 +215,7 @@ module _ (g : Given) (s : Sane g) where
           by (Refused f q n) e = k
 
   pub cyc-all : (bs : List Bool) (y : System) → Holds g y → now y → now (togetherOf ourDriver (ours (F g) (g .request .enable)) bs y)
-  unfolding togetherOf cycleEndedOf eventOf
+  unfolding togetherOf cycleEndedOf eventWith
   cyc-all [] y h k = k
   cyc-all (true ∷ bs) y h k = cyc-all bs (askedOf ourDriver (ours (F g) (g .request .enable)) y) (asked-holds g s y h) (asked-cyc y h k)
   cyc-all (false ∷ bs) y h k = cyc-all bs (cycleEndedOf (ours (F g) (g .request .enable)) y) (ended-holds g s y h) k

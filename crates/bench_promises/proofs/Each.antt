@@ -10,7 +10,7 @@ use lib.Dec.{eqb}
 use native.Mathlib.Omega.{arith}
 use borrow.Author.Tests.{ne-eqb}
 use Rattle.parts.proofs.Laws.{branch}
-use Rattle.parts.specs.Events.{eventOf}
+use Rattle.parts.specs.Events.{eventWith, eventOf}
 use Rattle.line.specs.Rules.{begunOf}
 use Rattle.line.specs.declared.Line.{Line}
 use Rattle.state.specs.declared.Chip.{Chip}
@@ -149,7 +149,7 @@ module _ (g : Given) (s : Sane g) (free : refusing (T g) (g .pin) (g .locked) �
 
   -- an end begins none
   end-begins : (c : Chip) (odd : Bool) → M₀ .begun c 4 ≡ partAt odd 4
-  unfolding begunOf eventOf
+  unfolding begunOf eventWith
   end-begins c odd = sym (no-part odd 4 refl)
 
   -- ---- one turn more

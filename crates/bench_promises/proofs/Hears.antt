@@ -9,7 +9,7 @@ use lib.Dec.{eqb}
 use Rattle.parts.specs.declared.Facts.{Facts}
 use Rattle.parts.specs.declared.Event.{Event}
 use Rattle.parts.specs.declared.Event.the-variants.{Ends}
-use Rattle.parts.specs.Events.{eventOf}
+use Rattle.parts.specs.Events.{eventWith, eventOf}
 use Rattle.parts.proofs.Bytes.{flag-in}
 use Rattle.parts.proofs.Laws.{clock-code}
 use Rattle.line.specs.declared.Target.{Target}
@@ -22,7 +22,7 @@ use Rattle.line.specs.declared.Phase.the-variants.{Idle, Receive, Send, Busy}
 use Rattle.line.specs.declared.Line.{Line}
 use Rattle.line.specs.Rules.{at, opened, takenOf, landed, receivedOf, receiveActOf, receiveLevelOf, releasedIn, movedOf, sentOf, sendLevelOf, clockedOf, clockActOf, clockLevelOf, startedOf, startActOf, asksOf, placedOf, dueOf, stoppedBy, stopActBy, begunBy, stoppedOf, stopActOf, stopBegunOf, endedByOf, endedOf, endActOf, nextOf, actOf, levelOf, begunOf, NoTransfer}
 use Rattle.state.specs.declared.Chip.{Chip}
-use Rattle.chip.specs.Memory.{Mem, noLatch, latchOf, cycleStoredOf, storedOf, storeOf, shownOf, seenOf, stateOf, chipLevelOf}
+use Rattle.chip.specs.Memory.{Mem, noLatch, latchOf, cycleStoredOf, storedOf, storeWith, storeOf, shownOf, seenOf, stateOf, chipLevelOf}
 use Rattle.chip_promises.specs.States.{NotBusy}
 
 module _ (f : Facts) (en : ℕ) (c : Chip) (m : Mem) (Q : Line → List ℕ → Mem → ℕ → ℕ → Type 0) where
@@ -32,7 +32,7 @@ module _ (f : Facts) (en : ℕ) (c : Chip) (m : Mem) (Q : Line → List ℕ → 
   clock-heard : (x : ℕ) (ph : Phase) → x < 2 → c .line .phase ≡ ph
       → Q (clockedOf f en (c .line) (eqb x 1) ph) (latchOf (c .latch) (clockActOf f en (c .line) ph)) m (clockLevelOf f en (c .line) (seenOf f (c .line) m ph) ph) 0
       → After (eventOf x)
-  unfolding stateOf storeOf chipLevelOf nextOf actOf levelOf begunOf
+  unfolding stateOf storeWith chipLevelOf nextOf actOf levelOf begunOf
   clock-heard x ph h e q =
       subst After (sym (clock-code x h))
       (subst (λ (p : Phase). Q (clockedOf f en (c .line) (eqb x 1) p) (latchOf (c .latch) (clockActOf f en (c .line) p)) m (clockLevelOf f en (c .line) (seenOf f (c .line) m p) p) 0) (sym e) q)
@@ -84,7 +84,7 @@ module _ (f : Facts) (en : ℕ) (c : Chip) (m : Mem) (Q : Line → List ℕ → 
 
   -- Start
   start-at : (ph : Phase) → c .line .phase ≡ ph → Q (startedOf (c .line) ph) (latchOf (c .latch) (startActOf ph)) m 2 0 → After (eventOf 2)
-  unfolding stateOf storeOf chipLevelOf nextOf actOf levelOf begunOf eventOf
+  unfolding stateOf storeWith chipLevelOf nextOf actOf levelOf begunOf eventWith
   start-at ph e q = subst (λ (p : Phase). Q (startedOf (c .line) p) (latchOf (c .latch) (startActOf p)) m 2 0) (sym e) q
 
   pub start-free : (ph : Phase) → NotBusy ph → c .line .phase ≡ ph → Q (opened (c .line .core)) noLatch m 2 0 → After (eventOf 2)
@@ -100,7 +100,7 @@ module _ (f : Facts) (en : ℕ) (c : Chip) (m : Mem) (Q : Line → List ℕ → 
 
   -- Stop
   stop-at : (ph : Phase) → c .line .phase ≡ ph → Q (stoppedOf (c .line) ph) (latchOf (c .latch) (stopActOf (c .line) ph)) m 2 (stopBegunOf (c .line) ph) → After (eventOf 3)
-  unfolding stateOf storeOf chipLevelOf nextOf actOf levelOf begunOf eventOf
+  unfolding stateOf storeWith chipLevelOf nextOf actOf levelOf begunOf eventWith
   stop-at ph e q = subst (λ (p : Phase). Q (stoppedOf (c .line) p) (latchOf (c .latch) (stopActOf (c .line) p)) m 2 (stopBegunOf (c .line) p)) (sym e) q
 
   pub stop-idle : c .line .phase ≡ Idle → Q (at (c .line .core) Idle) noLatch m 2 0 → After (eventOf 3)
@@ -135,7 +135,7 @@ module _ (f : Facts) (en : ℕ) (c : Chip) (m : Mem) (Q : Line → List ℕ → 
 
   -- the end of a cycle
   end-at : (ph : Phase) → c .line .phase ≡ ph → Q (endedOf f (c .line) ph) (latchOf (c .latch) (endActOf ph)) (storedOf f (c .line) (c .latch) m ph) 2 0 → After Ends
-  unfolding stateOf storeOf chipLevelOf nextOf actOf levelOf begunOf
+  unfolding stateOf storeWith chipLevelOf nextOf actOf levelOf begunOf
   end-at ph e q = subst (λ (p : Phase). Q (endedOf f (c .line) p) (latchOf (c .latch) (endActOf p)) (storedOf f (c .line) (c .latch) m p) 2 0) (sym e) q
 
   pub end-free : (ph : Phase) → NotBusy ph → c .line .phase ≡ ph → Q (c .line) (c .latch) m 2 0 → After Ends

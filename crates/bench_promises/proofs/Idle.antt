@@ -12,7 +12,7 @@ use Rattle.parts.specs.declared.Refusal.the-variants.{NoPart, WrongEnable, NoSe
 use Rattle.parts.specs.declared.Verdict.{Verdict}
 use Rattle.parts.specs.declared.Verdict.the-variants.{Fine, Refused as Judged}
 use Rattle.parts.specs.Table.{factsOf, idSizeOf, enableRightOf, buffersRightOf}
-use Rattle.parts.specs.Events.{eventOf}
+use Rattle.parts.specs.Events.{eventWith}
 use Rattle.parts.specs.Refusals.{numberOf, verdictNumberOf, soonerOf, lentVerdictOf, isFine}
 use Rattle.parts.proofs.Laws.{fine}
 use Rattle.parts.specs.Bytes.{AllBelow}
@@ -21,7 +21,7 @@ use Rattle.line.specs.declared.Target.the-variants.{Array as TheArray, Ident as
 use Rattle.line.specs.Rules.{rollOf, beforeOf, onwardOf, enabledOf, namedOf, decodeOf, addressStartOf, selectedOf, loadArrayOf, loadIdOf, loadedOf, refusesOf, latchedOf, filledOf, lockedByOf, takenOf, receivedOf, receiveActOf, receiveLevelOf, movedOf, sentOf, sendLevelOf, clockedOf, clockActOf, clockLevelOf, startedOf, startActOf, asksOf, placedOf, stoppedOf, stopActOf, stopBegunOf, endedByOf, endedOf, endActOf, nextOf, actOf, levelOf, begunOf}
 use Rattle.state.specs.declared.Chip.{Chip}
 use Rattle.state.specs.Range.{marksRightOf, pinRightOf, lockRightOf, phaseRightOf, restRightOf, inRangeOf}
-use Rattle.chip.specs.Memory.{Mem, mem, noLatch, cellsOf, oneOf, counterPageOf, committedOf, cycleStoredOf, storedOf, storeOf, shownOf, seenOf, stateOf, chipLevelOf}
+use Rattle.chip.specs.Memory.{Mem, mem, noLatch, cellsOf, oneOf, counterPageOf, committedOf, cycleStoredOf, storedOf, storeWith, shownOf, seenOf, stateOf, chipLevelOf}
 use Rattle.chip.specs.Runs.{cyclesOf}
 use Rattle.chip.specs.Calls.{heldVerdictOf}
 use Rattle.chip.specs.Delivery.{pinAtFirstOf, standbyOf}
@@ -235,7 +235,7 @@ record Computed : Type 0 where
   events : ran busy true 1 .cycles ≡ 39
 
 computed : Computed
-unfolding factsOf enableRightOf eventOf soonerOf rollOf beforeOf onwardOf enabledOf namedOf decodeOf addressStartOf selectedOf loadArrayOf loadIdOf loadedOf refusesOf latchedOf filledOf lockedByOf takenOf receivedOf receiveActOf receiveLevelOf movedOf sentOf sendLevelOf clockedOf clockActOf clockLevelOf startedOf startActOf asksOf placedOf stoppedOf stopActOf stopBegunOf endedByOf endedOf endActOf nextOf actOf levelOf begunOf noLatch oneOf counterPageOf committedOf cycleStoredOf storedOf storeOf shownOf seenOf stateOf chipLevelOf pinAtFirstOf standbyOf beyondAt limitOf judgeOf allowedOf kOf toPageEndOf pagesMetOf selectAt wireOf bitOf shiftOf readyOf bitsAt leadAt lowAt dataAt pollMoveOf answeredOf takeAt heardMoveOf bitsMoveOf driverStepOf countsRight rangeOf driverNextOf byteKeptOf bufferOf askedOf cycleEndedOf endDueOf turnOf turnsOf benchVerdictOf otherLengthOf shortOf lateOf lentVerdictOf heldVerdictOf idSizeOf buffersRightOf marksRightOf pinRightOf lockRightOf phaseRightOf restRightOf inRangeOf
+unfolding factsOf enableRightOf eventWith soonerOf rollOf beforeOf onwardOf enabledOf namedOf decodeOf addressStartOf selectedOf loadArrayOf loadIdOf loadedOf refusesOf latchedOf filledOf lockedByOf takenOf receivedOf receiveActOf receiveLevelOf movedOf sentOf sendLevelOf clockedOf clockActOf clockLevelOf startedOf startActOf asksOf placedOf stoppedOf stopActOf stopBegunOf endedByOf endedOf endActOf nextOf actOf levelOf begunOf noLatch oneOf counterPageOf committedOf cycleStoredOf storedOf storeWith shownOf seenOf stateOf chipLevelOf pinAtFirstOf standbyOf beyondAt limitOf judgeOf allowedOf kOf toPageEndOf pagesMetOf selectAt wireOf bitOf shiftOf readyOf bitsAt leadAt lowAt dataAt pollMoveOf answeredOf takeAt heardMoveOf bitsMoveOf driverStepOf countsRight rangeOf driverNextOf byteKeptOf bufferOf askedOf cycleEndedOf endDueOf turnOf turnsOf benchVerdictOf otherLengthOf shortOf lateOf lentVerdictOf heldVerdictOf idSizeOf buffersRightOf marksRightOf pinRightOf lockRightOf phaseRightOf restRightOf inRangeOf
 computed =
     record {
       low-read = record { due = refl; answer = refl; over = refl };

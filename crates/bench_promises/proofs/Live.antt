@@ -53,7 +53,7 @@ use Rattle.bench_promises.proofs.Cycles.{Cyc}
 use Rattle.line.specs.declared.Recv.the-variants.{Select as SelectByte}
 use Rattle.line.specs.declared.Phase.{Phase as ChipPhase}
 use Rattle.bench_promises.proofs.Stored.{spoken, over-is, all-done, cycles-now, finished}
-use Rattle.parts.specs.Events.{eventOf}
+use Rattle.parts.specs.Events.{eventWith}
 use Rattle.chip.specs.Model.{ours}
 use Rattle.chip_promises.specs.States.{NotBusy}
 
@@ -211,7 +211,7 @@ module _ (g : Given) (s : Sane g) (free : refusing (T g) (g .pin) (g .locked) �
           by (Refused z q n) k = t
 
   pub live-all : (bs : List Bool) (y : System) → Holds g y → LiveNow y → InTime (F g) (r .enable) bs y → LiveNow (togetherOf ourDriver (ours (F g) (r .enable)) bs y)
-  unfolding togetherOf cycleEndedOf eventOf
+  unfolding togetherOf cycleEndedOf eventWith
   live-all [] y h t f = t
   live-all (true ∷ bs) y h t f = live-all bs (askedOf ourDriver (ours (F g) (r .enable)) y) (asked-holds g s y h) (asked-live y h t (f .0)) (f .1)
   live-all (false ∷ bs) y h t f =

@@ -9,7 +9,7 @@ use lib.Dec.{eqb}
 use native.Mathlib.Omega.{arith}
 use Rattle.parts.specs.declared.Facts.{Facts}
 use Rattle.parts.specs.declared.Event.the-variants.{Ends}
-use Rattle.parts.specs.Events.{eventOf}
+use Rattle.parts.specs.Events.{eventWith, eventOf}
 use Rattle.parts.specs.Table.{factsOf}
 use Rattle.parts.proofs.Laws.{branch}
 use Rattle.state.specs.declared.Chip.{Chip}
@@ -72,7 +72,7 @@ module _ (r : Request) (c : Counts) (v : ℕ) (ys : List ℕ) where
   small (w-over f) = tt
 
 takes-small : (f : Facts) (e : ℕ) → e ≤ 3 → Takes f (eventOf e)
-unfolding eventOf
+unfolding eventWith
 takes-small f zero h = tt
 takes-small f (suc zero) h = tt
 takes-small f (suc (suc zero)) h = tt
@@ -95,7 +95,7 @@ module _ (g : Given) (s : Sane g) where
           by (Refused z q n) k = t
 
   ended-range : (y : System) → Now y → Now (cycleEndedOf (ours (F g) (g .request .enable)) y)
-  unfolding cycleEndedOf eventOf
+  unfolding cycleEndedOf eventWith
   ended-range y t = range-kept (g .request .part) (g .request .enable) (y .chip) Ends tt (t .1) (t .0)
 
   range-all : (bs : List Bool) (y : System) → Holds g y → Now y → Now (togetherOf ourDriver (ours (F g) (g .request .enable)) bs y)

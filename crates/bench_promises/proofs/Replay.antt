@@ -10,7 +10,7 @@ use Rattle.parts.specs.declared.Facts.{Facts}
 use Rattle.parts.specs.declared.Verdict.{Verdict}
 use Rattle.parts.specs.declared.Verdict.the-variants.{Fine, Refused as Judged}
 use Rattle.parts.specs.Table.{factsOf}
-use Rattle.parts.specs.Events.{eventOf}
+use Rattle.parts.specs.Events.{eventWith}
 use Rattle.line.specs.Rules.{levelOf, begunOf}
 use Rattle.state.specs.declared.Chip.{Chip}
 use Rattle.chip.specs.Model.{ours}
@@ -61,7 +61,7 @@ module _ (f : Facts) (en : ℕ) where
   none s = record { state = refl; mem = refl; levels = refl; cycles = omega arith; clocks = omega arith }
 
   end : (s : System) → Played f en s (cycleEndedOf (ours f en) s) (4 ∷ []) (2 ∷ [])
-  unfolding afterOf memoryOf levelsOf cyclesOf cycleEndedOf eventOf chipLevelOf levelOf begunOf
+  unfolding afterOf memoryOf levelsOf cyclesOf cycleEndedOf eventWith chipLevelOf levelOf begunOf
   end s = record { state = refl; mem = refl; levels = refl; cycles = omega arith; clocks = omega arith }
 
   answered : (s : System) (d : Driver) (b : List ℕ) (a : Answer)
@@ -80,7 +80,7 @@ module _ (f : Facts) (en : ℕ) where
 
   turned : (s : System) (b : Bool)
       → Played f en s (askedOf ourDriver (ours f en) (cond b (cycleEndedOf (ours f en) s) s)) (tapeBy b (sendsOf (answer s)) 4 (sentCodeOf (answer s))) (tapeBy b (sendsOf (answer s)) 2 (askedOf ourDriver (ours f en) (cond b (cycleEndedOf (ours f en) s) s) .level))
-  unfolding cycleEndedOf eventOf
+  unfolding cycleEndedOf eventWith
   turned s true = join s (cycleEndedOf (ours f en) s) (askedOf ourDriver (ours f en) (cycleEndedOf (ours f en) s)) (4 ∷ []) (2 ∷ []) _ _ (end s) (asked (cycleEndedOf (ours f en) s))
   turned s false = asked s
 

@@ -40,7 +40,7 @@ use Rattle.bench_promises.proofs.Keep.{Sane, no-nack, W-write}
 use Rattle.bench_promises.proofs.Whole.{Holds, Stepped, stepped, asked-elim, asked-holds, ended-holds, G, sane, start-holds}
 use Rattle.bench_promises.proofs.Cycles.{Cyc}
 use Rattle.bench_promises.proofs.Stored.{spoken, over-is, all-done, cycles-now, finished}
-use Rattle.parts.specs.Events.{eventOf}
+use Rattle.parts.specs.Events.{eventWith}
 use Rattle.chip.specs.Model.{ours}
 
 -- of the data bytes no more than the first is sent: `a` are, `n` of them its own
@@ -136,7 +136,7 @@ module _ (g : Given) (s : Sane g) (shut : refusing (T g) (g .pin) (g .locked) �
           by (Refused z q n) k = t
 
   pub blocked-all : (bs : List Bool) (y : System) → Holds g y → Now y → Now (togetherOf ourDriver (ours (F g) (r .enable)) bs y)
-  unfolding togetherOf cycleEndedOf eventOf
+  unfolding togetherOf cycleEndedOf eventWith
   blocked-all [] y h t = t
   blocked-all (true ∷ bs) y h t = blocked-all bs (askedOf ourDriver (ours (F g) (r .enable)) y) (asked-holds g s y h) (asked-blocked y h t)
   blocked-all (false ∷ bs) y h t = blocked-all bs (cycleEndedOf (ours (F g) (r .enable)) y) (ended-holds g s y h) t

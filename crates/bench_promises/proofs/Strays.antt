@@ -15,7 +15,7 @@ use Rattle.parts.specs.declared.Verdict.the-variants.{Fine}
 use Rattle.parts.specs.Table.{factsOf, idSizeOf, enableRightOf, buffersRightOf}
 use Rattle.parts.specs.Refusals.{claimOf, soonerOf, lentVerdictOf}
 use Rattle.parts.specs.Bytes.{AllBelow}
-use Rattle.parts.specs.Events.{eventOf}
+use Rattle.parts.specs.Events.{eventWith}
 use Rattle.line.specs.declared.Target.{Target}
 use Rattle.line.specs.declared.Target.the-variants.{Array as TheArray, Ident as TheIdent}
 use Rattle.line.specs.Rules.{begunOf, asksOf, placedOf, stopBegunOf}
@@ -185,7 +185,7 @@ more-breaks p =
 
 -- ---- a Stop on an idle chip begins nothing
 stop-breaks : CycleEachKept stopFirst ours → ⊥
-unfolding cyclesOf begunOf eventOf asksOf placedOf stopBegunOf standbyOf factsOf
+unfolding cyclesOf begunOf eventWith asksOf placedOf stopBegunOf standbyOf factsOf
 stop-breaks p = let z : _≡_ {A = ℕ} 0 1 = p (call 1 1) (called 1 1 fine-one) (free 1 1) 1 in omega arith
 
 -- ---- the other Stop: where both chips keep it, no part ends

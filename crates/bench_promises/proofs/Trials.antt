@@ -5,16 +5,16 @@ use mathlib.Core.Path.{_≡_, refl, _∙_, ap}
 use mathlib.Core.List.{List}
 use lib.ListN.{length}
 use Rattle.parts.specs.Table.{factsOf, idSizeOf, enableRightOf, buffersRightOf, addressBytesOf}
-use Rattle.parts.specs.Events.{eventOf, eventRightOf}
-use Rattle.parts.specs.Refusals.{soonerOf, lentVerdictOf, isFine}
+use Rattle.parts.specs.Events.{eventWith, eventRightOf}
+use Rattle.parts.specs.Refusals.{soonerOf, lentVerdictOf, lossVerdictOf, isFine}
 use Rattle.parts.specs.Bytes.{sameOf}
 use Rattle.line.specs.Rules.{rollOf, beforeOf, onwardOf, enabledOf, namedOf, decodeOf, addressStartOf, selectedOf, loadArrayOf, loadIdOf, loadedOf, refusesOf, latchedOf, filledOf, lockedByOf, takenOf, receivedOf, receiveActOf, receiveLevelOf, movedOf, sentOf, sendLevelOf, clockedOf, clockActOf, clockLevelOf, startedOf, startActOf, asksOf, placedOf, stoppedOf, stopActOf, stopBegunOf, endedByOf, endedOf, endActOf, pinnedOf, resetOf, nextOf, actOf, levelOf, begunOf}
 use Rattle.state.specs.Range.{marksRightOf, pinRightOf, lockRightOf, phaseRightOf, restRightOf, inRangeOf}
 use Rattle.state.specs.declared.Chip.{Chip}
-use Rattle.chip.specs.Memory.{Mem, noLatch, oneOf, counterPageOf, committedOf, cycleStoredOf, storedOf, storeOf, shownOf, seenOf, stateOf, chipLevelOf}
+use Rattle.chip.specs.Memory.{Mem, noLatch, oneOf, counterPageOf, committedOf, cycleStoredOf, storedOf, storeWith, shownOf, seenOf, stateOf, chipLevelOf}
 use Rattle.chip.specs.Runs.{afterOf, memoryOf, levelsOf, cyclesOf}
 use Rattle.chip.specs.Delivery.{pinAtFirstOf, standbyOf, codedOf, deliveredIdOf, deliveredOf}
-use Rattle.chip.specs.Calls.{heldVerdictOf, runVerdictOf}
+use Rattle.chip.specs.Calls.{heldVerdictOf, cutVerdictOf, runVerdictOf}
 use Rattle.chip_laws.specs.Bytes.{bitsOf, byteOf}
 use Rattle.chip_laws.specs.Trials.{firstWrong, trialRunOf, trialOf, sends, readOne, writes, lastLevel, acknowledged, released, cellIs, counterIs, begins, endsWith, chipTrials}
 use Rattle.driver.specs.Request.{beyondAt, limitOf, judgeOf, allowedOf, kOf}
@@ -28,7 +28,7 @@ use Rattle.bench_promises.specs.Calls.{Called}
 use Rattle.bench_promises.specs.Trials.{ranAt30, doneWith, around30, driverTrials, TrialsRight, wholeArray, wholeArrayOn, WholeArray}
 
 pub trials-right : TrialsRight
-unfolding factsOf idSizeOf enableRightOf eventOf eventRightOf soonerOf lentVerdictOf heldVerdictOf rollOf beforeOf onwardOf enabledOf namedOf decodeOf addressStartOf selectedOf loadArrayOf loadIdOf loadedOf refusesOf latchedOf filledOf lockedByOf takenOf receivedOf receiveActOf receiveLevelOf movedOf sentOf sendLevelOf clockedOf clockActOf clockLevelOf startedOf startActOf asksOf placedOf stoppedOf stopActOf stopBegunOf endedByOf endedOf endActOf pinnedOf resetOf nextOf actOf levelOf begunOf marksRightOf pinRightOf lockRightOf phaseRightOf restRightOf inRangeOf noLatch oneOf counterPageOf committedOf cycleStoredOf storedOf storeOf shownOf seenOf stateOf chipLevelOf afterOf memoryOf levelsOf cyclesOf pinAtFirstOf standbyOf codedOf deliveredIdOf deliveredOf buffersRightOf runVerdictOf bitsOf byteOf firstWrong trialRunOf trialOf sends readOne writes lastLevel acknowledged released cellIs counterIs begins sameOf endsWith chipTrials beyondAt limitOf judgeOf allowedOf kOf toPageEndOf pagesMetOf selectAt wireOf bitOf shiftOf readyOf bitsAt leadAt lowAt dataAt pollMoveOf answeredOf takeAt heardMoveOf bitsMoveOf driverStepOf countsRight rangeOf driverNextOf byteKeptOf bufferOf askedOf cycleEndedOf endDueOf turnOf turnsOf ranAt30 doneWith around30 driverTrials
+unfolding factsOf idSizeOf enableRightOf eventWith eventRightOf soonerOf lentVerdictOf lossVerdictOf heldVerdictOf cutVerdictOf rollOf beforeOf onwardOf enabledOf namedOf decodeOf addressStartOf selectedOf loadArrayOf loadIdOf loadedOf refusesOf latchedOf filledOf lockedByOf takenOf receivedOf receiveActOf receiveLevelOf movedOf sentOf sendLevelOf clockedOf clockActOf clockLevelOf startedOf startActOf asksOf placedOf stoppedOf stopActOf stopBegunOf endedByOf endedOf endActOf pinnedOf resetOf nextOf actOf levelOf begunOf marksRightOf pinRightOf lockRightOf phaseRightOf restRightOf inRangeOf noLatch oneOf counterPageOf committedOf cycleStoredOf storedOf storeWith shownOf seenOf stateOf chipLevelOf afterOf memoryOf levelsOf cyclesOf pinAtFirstOf standbyOf codedOf deliveredIdOf deliveredOf buffersRightOf runVerdictOf bitsOf byteOf firstWrong trialRunOf trialOf sends readOne writes lastLevel acknowledged released cellIs counterIs begins sameOf endsWith chipTrials beyondAt limitOf judgeOf allowedOf kOf toPageEndOf pagesMetOf selectAt wireOf bitOf shiftOf readyOf bitsAt leadAt lowAt dataAt pollMoveOf answeredOf takeAt heardMoveOf bitsMoveOf driverStepOf countsRight rangeOf driverNextOf byteKeptOf bufferOf askedOf cycleEndedOf endDueOf turnOf turnsOf ranAt30 doneWith around30 driverTrials
 trials-right = refl
 
 -- ---- the whole array of part 0

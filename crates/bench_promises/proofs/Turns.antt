@@ -58,7 +58,7 @@ use Rattle.bench_promises.proofs.Steps.{again-next}
 use Rattle.bench_promises.proofs.Whole.{Holds, Stepped, stepped, asked-elim, asked-holds, ended-holds, G, sane, start-holds}
 use Rattle.line.specs.declared.Phase.{Phase as ChipPhase}
 use Rattle.bench_promises.proofs.Live.{write-ends}
-use Rattle.parts.specs.Events.{eventOf}
+use Rattle.parts.specs.Events.{eventWith}
 use Rattle.chip.specs.Model.{Model, ours}
 use Rattle.chip_promises.specs.States.{NotBusy}
 
@@ -305,7 +305,7 @@ module _ (g : Given) (s : Sane g) where
         go (Over f) t e o = absurd (omega arith)
 
     pub end-rests : (y : System) → NotBusy (cycleEndedOf (ours (F g) (r .enable)) y .chip .line .phase)
-    unfolding cycleEndedOf eventOf
+    unfolding cycleEndedOf eventWith
     end-rests y = ended-rests (F g) (r .enable) (y .chip) (y .mem)
 
     pub not-due : (y : System) → endDueOf d y ≡ false → pollNumberOf y ≡ d → ⊥

@@ -26,7 +26,7 @@ use Rattle.bench_promises.proofs.Wrote.{with-same}
 use Rattle.bench_promises.proofs.Rel.{Given, F, Buffer, Rel}
 use Rattle.bench_promises.proofs.Keep.{Sane, Next, keeps, end-keeps}
 use Rattle.bench_promises.proofs.Steps.{Step, step, ask-elim, Told, drives-of, ask-told}
-use Rattle.parts.specs.Events.{eventOf}
+use Rattle.parts.specs.Events.{eventWith}
 use Rattle.parts.proofs.Bytes.{below-at}
 use Rattle.chip.specs.Model.{ours}
 
@@ -77,7 +77,7 @@ module _ (g : Given) (s : Sane g) where
           by (Refused f q k) i n = h
 
   pub ended-holds : (y : System) → Holds g y → Holds g (cycleEndedOf (ours (F g) (r .enable)) y)
-  unfolding cycleEndedOf eventOf
+  unfolding cycleEndedOf eventWith
   ended-holds y h =
       record {
         request = h .request;
@@ -94,7 +94,7 @@ module _ (g : Given) (s : Sane g) where
 
   -- ---- the tie
   pub told-all : (xs : List ℕ) → Accepted r xs → (bs : List Bool) (n : ℕ) (y : System) → Told r xs n y → Told r xs (n + askings bs) (togetherOf ourDriver (ours (F g) (r .enable)) bs y)
-  unfolding togetherOf cycleEndedOf eventOf
+  unfolding togetherOf cycleEndedOf eventWith
   told-all xs a [] n y t = subst (λ (k : ℕ). Told r xs k y) (omega arith) t
   told-all xs a (true ∷ bs) n y t =
       let e : n + 1 + askings bs ≡ n + (askings bs + 1) = omega arith in

@@ -11,6 +11,7 @@ use lib.Dec.{eqb}
 use Rattle.parts.specs.declared.Refusal.the-variants.{BadState, BadEvent}
 use Rattle.parts.specs.declared.Verdict.the-variants.{Fine}
 use Rattle.state.specs.declared.Chip.{Chip}
+use Rattle.chip.specs.Model.{old}
 use Rattle.chip.specs.Calls.{stepOf}
 use Rattle.chip_promises.specs.Calls.{Step}
 use Rattle.chip_promises.specs.Idle.{refusingStep}
@@ -36,9 +37,9 @@ BeginAccepted = (w : Session) → beginOf (w .request) ≡ record { verdict = Fi
 
 -- at one moment
 pub record Accepts (S : Step) (r : Request) (s : System) : Type 0 where
-  -- `step` takes the event that the driver sends next, and the end of a cycle, whether one runs or not
-  pub sent : (e : ℕ) → answerOf s ≡ Send e → S (r .part) (r .enable) (s .chip) (s .mem) e .answer .verdict ≡ Fine
-  pub ended : S (r .part) (r .enable) (s .chip) (s .mem) ends .answer .verdict ≡ Fine
+  -- `step`, power kept, takes the event that the driver sends next, and the end of a cycle, whether one runs or not
+  pub sent : (e : ℕ) → answerOf s ≡ Send e → S (r .part) (r .enable) old (s .chip) (s .mem) e .answer .verdict ≡ Fine
+  pub ended : S (r .part) (r .enable) old (s .chip) (s .mem) ends .answer .verdict ≡ Fine
   -- the driver is in range with its buffer, and `next` does not answer refusal 4
   pub ranged : rangeOf (s .driver) (length (s .buffer)) ≡ true
   pub asked : (q n : ℕ) → answerOf s ≡ Refused BadState q n → ⊥
@@ -60,11 +61,11 @@ module _ (S : Step) (part enable : ℕ) where
   steppedBy s d b (Send e) =
       record {
         driver = d;
-        level = S part enable (s .chip) (s .mem) e .answer .level;
+        level = S part enable old (s .chip) (s .mem) e .answer .level;
         buffer = b;
-        chip = S part enable (s .chip) (s .mem) e .answer .chip;
-        mem = S part enable (s .chip) (s .mem) e .mem;
-        cycles = s .cycles + S part enable (s .chip) (s .mem) e .answer .cycles;
+        chip = S part enable old (s .chip) (s .mem) e .answer .chip;
+        mem = S part enable old (s .chip) (s .mem) e .mem;
+        cycles = s .cycles + S part enable old (s .chip) (s .mem) e .answer .cycles;
         clocks = s .clocks + clockOf e;
       }
   steppedBy s d b (Done polls bytes) = finishedBy s d b
@@ -83,9 +84,9 @@ module _ (S : Step) (part enable : ℕ) where
         driver = s .driver;
         level = s .level;
         buffer = s .buffer;
-        chip = S part enable (s .chip) (s .mem) ends .answer .chip;
-        mem = S part enable (s .chip) (s .mem) ends .mem;
-        cycles = s .cycles + S part enable (s .chip) (s .mem) ends .answer .cycles;
+        chip = S part enable old (s .chip) (s .mem) ends .answer .chip;
+        mem = S part enable old (s .chip) (s .mem) ends .mem;
+        cycles = s .cycles + S part enable old (s .chip) (s .mem) ends .answer .cycles;
         clocks = s .clocks;
       }
 
@@ -123,7 +124,7 @@ module _ (D : Machine) (S : Step) where
 
 -- the chip: as ours, but the end of a cycle is refused with 5
 abbrev pub refusingEnds : Step
-refusingEnds part enable c m e = cond (eqb e ends) (refusingStep (BadEvent 0) part enable c m e) (stepOf part enable c m e)
+refusingEnds part enable w c m e = cond (eqb e ends) (refusingStep (BadEvent 0) part enable w c m e) (stepOf part enable w c m e)
 
 -- runs as ours, but with another chip and another buffer
 abbrev pub spoiled : (Chip → Chip) → (List ℕ → List ℕ) → System → System

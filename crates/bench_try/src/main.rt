@@ -7,6 +7,7 @@ use driver::Request;
 use libc::STDIN_FILENO;
 use parts::ArrayAddress;
 use parts::IdLocation;
+use parts::Loss;
 use parts::Verdict;
 use state::Chip;
 use text::say;
@@ -79,6 +80,8 @@ fn step(part: u8, code: u8, held: &mut [u8], array: &mut [u8], id: &mut [u8]) {
     let s = chip::step(
         part,
         0,
+        Loss::Old,
+        b"",
         pack_chip::unpack(held),
         fitted::array(part, array),
         fitted::id(part, id),

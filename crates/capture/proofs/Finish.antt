@@ -16,7 +16,7 @@ use Rattle.parts.proofs.Claims.{sooner-fine}
 use Rattle.parts.specs.Bytes.{flagOf, AllBelow}
 use Rattle.parts.specs.declared.Facts.{Facts}
 use Rattle.parts.specs.declared.Verdict.the-variants.{Fine}
-use Rattle.parts.specs.Events.{eventOf}
+use Rattle.parts.specs.Events.{eventWith, eventOf}
 use Rattle.line.specs.declared.Line.{Line}
 use Rattle.line.specs.Rules.{begunOf}
 use Rattle.state.specs.declared.Chip.{Chip}
@@ -181,7 +181,7 @@ flag-most false = omega arith
 
 -- the end of a cycle begins none
 end-none : (f : Facts) (en : ℕ) (c : Chip) → ours f en .begun c 4 ≡ 0
-unfolding eventOf begunOf
+unfolding eventWith begunOf
 end-none f en c = refl
 
 module _ (f : Facts) (en : ℕ) (c : Chip) (m : Mem) (at e : ℕ) (es : List ℕ) (g : Going) where

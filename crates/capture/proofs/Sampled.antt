@@ -15,40 +15,27 @@ use Rattle.parts.specs.declared.Verdict.{Verdict}
 use Rattle.parts.specs.declared.Verdict.the-variants.{Fine, Refused}
 use Rattle.parts.specs.declared.Refusal.{Refusal}
 use Rattle.parts.specs.declared.Refusal.the-variants.{BadSample, ShortBuffer}
-use Rattle.parts.specs.Bytes.{AllBelow}
+use Rattle.parts.specs.Bytes.{AllBelow, allBelowOf}
 use Rattle.parts.specs.Refusals.{rankOf, claimOf, soonerOf}
 use Rattle.parts.proofs.Tests.{either}
+use Rattle.parts.proofs.Bytes.{low-before}
 use Rattle.parts.proofs.Laws.{branch, passed}
 use Rattle.parts.proofs.Claims.{Later, later-claim, given-first}
 use Rattle.capture.specs.Samples.{clockIn, dataIn, stillOf, pairOf, eventsFrom, eventsOf, risesIn, risesFrom, risesOf, judgeFrom, judgeOf}
 use Rattle.capture.specs.Ends.{ackedOf}
 use Rattle.capture.specs.Calls.{listVerdictOf}
-use Rattle.capture.specs.Steps.{allLowOf, SameTo, fallsOf, codeOf, leftOf, risesLeft, oneOf}
+use Rattle.capture.specs.Steps.{SameTo, fallsOf, codeOf, leftOf, risesLeft, oneOf}
 
 -- ---- samples above 3
 
-low-before : (low : Bool) (ss : List ℕ) → allLowOf low ss ≡ true → low ≡ true
-unfolding allLowOf
-low-before low [] h = h
-low-before true (s ∷ ss) h = refl
-low-before false (s ∷ ss) h = low-before false ss h
-
-pub low-step : (low : Bool) (i : ℕ) (ss : List ℕ) → i < length ss → allLowOf (low && ltb (getD ss i 0) 4) (drop (i + 1) ss) ≡ allLowOf low (drop i ss)
-unfolding allLowOf
-low-step low i ss h = rw (add-one, drop-cons ss i 0) refl
-
-pub low-end : (low : Bool) (i : ℕ) (ss : List ℕ) → length ss ≤ i → allLowOf low (drop i ss) ≡ low
-unfolding allLowOf
-low-end low i ss h = rw (drop-of-length-le ss h) refl
-
-clear-from : (k : ℕ) (ss : List ℕ) → allLowOf true ss ≡ true → Fine ≡ judgeFrom k ss
-unfolding allLowOf
+clear-from : (k : ℕ) (ss : List ℕ) → allBelowOf 4 true ss ≡ true → Fine ≡ judgeFrom k ss
+unfolding allBelowOf
 clear-from k [] h = refl
 clear-from k (s ∷ ss) h =
-    let small : ltb s 4 ≡ true = low-before (ltb s 4) ss h in
+    let small : ltb s 4 ≡ true = low-before 4 (ltb s 4) ss h in
     rw (le-ltb 3 s (omega (arith, ltb-true s 4 small))) (clear-from (suc k) ss (rw small at h))
 
-pub judge-clear : (ss : List ℕ) → allLowOf true ss ≡ true → Fine ≡ judgeOf ss
+pub judge-clear : (ss : List ℕ) → allBelowOf 4 true ss ≡ true → Fine ≡ judgeOf ss
 unfolding judgeOf
 judge-clear ss h = clear-from 0 ss h
 

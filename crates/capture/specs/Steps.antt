@@ -18,11 +18,6 @@ leftOf bus ss i = eventsFrom bus (getD ss (i - 1) 0) (drop i ss)
 abbrev pub risesLeft : Bool → List ℕ → ℕ → List ℕ
 risesLeft bus ss i = risesFrom bus (getD ss (i - 1) 0) i (drop i ss)
 
--- no sample is above 3
-unfoldable pub allLowOf : Bool → List ℕ → Bool
-allLowOf low [] = low
-allLowOf low (s ∷ ss) = allLowOf (low && ltb s 4) ss
-
 -- 9 for none
 abbrev pub oneOf : ℕ → List ℕ
 oneOf code = cond (ltb code 4) (code ∷ []) []

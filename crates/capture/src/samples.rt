@@ -7,28 +7,16 @@ ghost use denote.Ref.{now};
 ghost use Rattle.parts.specs.Bytes.{AllBelow};
 ghost use Rattle.capture.specs.Samples.{judgeOf};
 ghost use Rattle.capture.specs.Ends.{ackedOf};
-ghost use Rattle.capture.specs.Steps.{allLowOf, SameTo, fallsOf, codeOf, NextIn, leftOf};
+ghost use Rattle.capture.specs.Steps.{SameTo, fallsOf, codeOf, NextIn, leftOf};
 use parts::Refusal;
 use parts::Verdict;
-
-// Whether no sample is above 3: without a way out in each turn.
-fn all_low(samples: &[u8]) -> bool
-    ensures { λ r. ⌜ r ≡ allLowOf true (now (samples .entry)) ⌝ }
-{
-    let mut low = true;
-    let mut i = 0;
-    while i < samples.len() {
-        low = low & (samples[i] < 4);
-        i += 1;
-    }
-    low
-}
 
 // The first sample above 3, as refusal 20.
 pub(crate) fn judge(samples: &[u8]) -> Verdict
     ensures { λ r. ⌜ r ≡ judgeOf (now (samples .entry)) ⌝ }
 {
-    let low = all_low(samples);
+    // The usual case, without a way out in each turn.
+    let low = parts::all_below(4, samples);
     if low {
         return Verdict::Fine;
     }

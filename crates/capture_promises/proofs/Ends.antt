@@ -10,7 +10,7 @@ use lib.Dec.{eqb, ltb}
 use borrow.Author.Tests.{eq-eqb, ne-eqb, eqb-true, ltb-true}
 use Rattle.parts.specs.declared.Facts.{Facts}
 use Rattle.parts.specs.Bytes.{AllBelow}
-use Rattle.parts.specs.Events.{eventOf}
+use Rattle.parts.specs.Events.{eventWith}
 use Rattle.parts.proofs.Tests.{both, and-both, either}
 use Rattle.line.specs.declared.Target.the-variants.{Array, Ident}
 use Rattle.line.specs.declared.Cycle.the-variants.{Writing, Locking}
@@ -196,7 +196,7 @@ module _ (f : Facts) (en : ℕ) where
   M = ours f en
 
   free : (c : Chip) → busyIn (M .next c 4 .line .phase) ≡ false
-  unfolding stateOf nextOf eventOf
+  unfolding stateOf nextOf eventWith
   free c = ended-free f (c .line) (c .line .phase) refl
 
   pub with-placed : (c : Chip) (es : List ℕ) → AllBelow 4 es → EndsPlaced M c (withEndsOf M c es)

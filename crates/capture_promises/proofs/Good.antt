@@ -12,7 +12,7 @@ use Rattle.parts.specs.declared.Facts.{Facts}
 use Rattle.parts.specs.declared.Event.the-variants.{Clock}
 use Rattle.parts.specs.declared.Verdict.the-variants.{Fine}
 use Rattle.parts.specs.Bytes.{AllBelow}
-use Rattle.parts.specs.Events.{eventOf}
+use Rattle.parts.specs.Events.{eventWith, eventOf}
 use Rattle.parts.specs.Table.{factsOf}
 use Rattle.parts.proofs.Laws.{clock-code}
 use Rattle.parts.proofs.Tests.{either, and-both}
@@ -24,7 +24,7 @@ use Rattle.line.specs.declared.Line.{Line}
 use Rattle.line.specs.Rules.{takenOf, releasedIn, receivedOf, receiveLevelOf, sentOf, sendLevelOf, clockedOf, clockLevelOf, nextOf, actOf, levelOf, begunOf}
 use Rattle.state.specs.declared.Chip.{Chip}
 use Rattle.chip.specs.Model.{Model, ours}
-use Rattle.chip.specs.Memory.{Mem, seenOf, stateOf, storeOf, chipLevelOf}
+use Rattle.chip.specs.Memory.{Mem, seenOf, stateOf, storeWith, storeOf, chipLevelOf}
 use Rattle.chip.specs.Runs.{afterOf, memoryOf, levelsOf, cyclesOf}
 use Rattle.capture.specs.declared.Mark.the-variants.{Same, At}
 use Rattle.capture.specs.Samples.{eventsOf, risesOf}
@@ -105,13 +105,13 @@ module _ (f : Facts) (en : ℕ) where
   clock-alike : (c : Chip) (m : Mem) (v w : Bool) → chipLevelOf f en c m (Clock w) ≡ 0
       → (stateOf f en c (Clock v) ≡ stateOf f en c (Clock w)) × (storeOf f c m (Clock v) ≡ storeOf f c m (Clock w))
       × (chipLevelOf f en c m (Clock v) ≡ chipLevelOf f en c m (Clock w)) × (begunOf (c .line) (Clock v) ≡ begunOf (c .line) (Clock w))
-  unfolding stateOf storeOf chipLevelOf nextOf actOf levelOf begunOf
+  unfolding stateOf storeWith chipLevelOf nextOf actOf levelOf begunOf
   clock-alike c m v w h =
       let z = clocked-low f en (c .line) v w (seenOf f (c .line) m (c .line .phase)) (c .line .phase) h in
       (rw z refl, refl, refl, refl)
 
   low-alike : (c : Chip) (m : Mem) (e : ℕ) → e < 2 → M .level c m e ≡ 0 → Alike M c m 0 e
-  unfolding eventOf
+  unfolding eventWith
   low-alike c m e l h =
       let z = clock-code e l in
       let a = clock-alike c m false (eqb e 1) (sym (ap (chipLevelOf f en c m) z) ∙ h) in

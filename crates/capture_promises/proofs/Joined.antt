@@ -141,7 +141,7 @@ pub memory-lengths : (f : Facts) (en : ℕ) (c : Chip) (m : Mem) (xs : List ℕ)
 unfolding memoryOf
 memory-lengths f en c m [] = (refl, refl)
 memory-lengths f en c m (x ∷ xs) =
-    let s = store-lengths f c m (eventOf x) in
+    let s = store-lengths [] f c m (eventOf x) in
     let r = memory-lengths f en (stateOf f en c (eventOf x)) (storeOf f c m (eventOf x)) xs in
     (r .0 ∙ s .0, r .1 ∙ s .1)
 

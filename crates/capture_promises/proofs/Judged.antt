@@ -4,7 +4,7 @@ use Prim.Native.Nat.{ℕ, zero, suc, _+_, _<_}
 use mathlib.Core.Path.{_≡_, refl, ap, _∙_}
 use mathlib.Core.Bool.{Bool, true, false}
 use mathlib.Core.Logic.{_⊎_, inl, inr}
-use mathlib.Core.List.{List, [], _∷_, _++_}
+use mathlib.Core.List.{List, [], _∷_}
 use native.Mathlib.Omega.{arith}
 use lib.ListN.{length, getD, take}
 use lib.Dec.{ltb}
@@ -13,16 +13,6 @@ use Rattle.parts.specs.declared.Verdict.the-variants.{Refused}
 use Rattle.parts.specs.declared.Refusal.the-variants.{BadSample}
 use Rattle.parts.specs.Bytes.{AllBelow}
 use Rattle.capture.specs.Samples.{judgeFrom, judgeOf}
-
--- ---- a part of a list that is below n
-
-pub below-left : (n : ℕ) (k l : List ℕ) → AllBelow n (k ++ l) → AllBelow n k
-below-left n [] l h = tt
-below-left n (x ∷ k) l h = (h .0, below-left n k l (h .1))
-
-pub below-right : (n : ℕ) (k l : List ℕ) → AllBelow n (k ++ l) → AllBelow n l
-below-right n [] l h = h
-below-right n (x ∷ k) l h = below-right n k l (h .1)
 
 -- ---- a capture is refused at its first sample above 3; which are not refused stands in capture/proofs/Sampled.antt
 

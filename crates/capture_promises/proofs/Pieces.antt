@@ -14,10 +14,10 @@ use Rattle.parts.specs.Bytes.{AllBelow}
 use Rattle.parts.specs.Table.{factsOf}
 use Rattle.parts.specs.Refusals.{soonerOf}
 use Rattle.parts.proofs.Claims.{refused-not, sooner-fine}
-use Rattle.parts.proofs.Bytes.{below-append}
+use Rattle.parts.proofs.Bytes.{below-append, below-left, below-right}
 use Rattle.state.specs.declared.Chip.{Chip}
 use Rattle.chip.specs.Memory.{Mem}
-use Rattle.chip.specs.Model.{Model, ours}
+use Rattle.chip.specs.Model.{Model, old, ours}
 use Rattle.chip.specs.Runs.{afterOf, memoryOf, cyclesOf}
 use Rattle.chip.specs.Calls.{heldVerdictOf}
 use Rattle.chip.proofs.Laws.{Usable, held-fine, fine-held}
@@ -33,7 +33,6 @@ use Rattle.capture.specs.Calls.{SeenLeft, seenVerdictOf, seenOver, seenBy, seen
 use Rattle.capture_promises.specs.Running.{placeAfter}
 use Rattle.capture_promises.specs.Pieces.{laterMark, joined, PiecesJoin, movedMark, withMark, RepeatsLeftOut}
 use Rattle.capture.proofs.Sampled.{judge-fine, fine-judge}
-use Rattle.capture_promises.proofs.Judged.{below-left, below-right}
 use Rattle.capture_promises.proofs.Cuts.{events-cut, stopped, place-cut, clocks-append, rises-clocks, rises-cut, map-at, events-repeat, movedPast, rises-repeat}
 use Rattle.capture_promises.proofs.Ends.{stripped-with}
 use Rattle.capture_promises.proofs.Rises.{events-below}
@@ -174,7 +173,7 @@ module _ (part en : ℕ) (c : Chip) (m : Mem) (bus : Bool) (ws ys : List ℕ) wh
         known = u .known;
         enabled = u .enabled;
         lent = rw (l .0, l .1) (u .lent);
-        ranged = range-kept-by-runs part en c X1 (all-taken (factsOf part) X1 (with-below M c E1 (events-below bus front))) t (u .ranged) .0;
+        ranged = range-kept-by-runs part en old c X1 (all-taken (factsOf part) X1 (with-below M c E1 (events-below bus front))) t (u .ranged) .0;
       }
 
   pub pieces : Typed c → verdict part en c m whole ≡ Fine

@@ -11,7 +11,7 @@ use lib.Dec.{ltb}
 use borrow.Author.Tests.{ltb-true, ltb-false}
 use Rattle.parts.specs.Bytes.{AllBelow}
 use Rattle.parts.proofs.Tests.{either}
-use Rattle.parts.proofs.Bytes.{below-append}
+use Rattle.parts.proofs.Bytes.{below-append, below-left, below-right}
 use Rattle.capture.specs.Samples.{eventsOf}
 use Rattle.capture.specs.Wires.{drawnOf}
 use Rattle.capture.specs.declared.Wires.the-variants.{Rest}
@@ -19,7 +19,7 @@ use Rattle.capture.specs.Calls.{ListLeft, listingOf}
 use Rattle.capture_promises.specs.Machines.{Listing, listed}
 use Rattle.capture_promises.specs.Reading.{LetterPairs, LetterJoins, droppedOf, BusDrops, DrawnBack, lateFrom, LetterLate, RepeatsMakeNone, ListNumbers, Reader, ReaderPinned}
 use Rattle.capture.proofs.Sampled.{fine-judge}
-use Rattle.capture_promises.proofs.Judged.{below-left, below-right, FirstBad, judged}
+use Rattle.capture_promises.proofs.Judged.{FirstBad, judged}
 use Rattle.capture_promises.proofs.Cuts.{pair-second, events-repeat}
 use Rattle.capture_promises.proofs.Answered.{fewer, answered, no-room, not-judged, read-off, events-in, answers, same-answer}
 use Rattle.capture_promises.proofs.Drops.{letter-cut, drops}

@@ -15,7 +15,7 @@ use Rattle.parts.specs.Bytes.{AllBelow, flagOf}
 use Rattle.parts.specs.declared.Verdict.{Verdict}
 use Rattle.parts.specs.declared.Verdict.the-variants.{Fine}
 use Rattle.parts.proofs.Laws.{branch}
-use Rattle.parts.proofs.Bytes.{below-append}
+use Rattle.parts.proofs.Bytes.{below-append, below-left, below-right}
 use Rattle.capture.specs.declared.Tally.{Tally}
 use Rattle.capture.specs.Samples.{eventsOf}
 use Rattle.capture.specs.Marks.{placeOf}
@@ -26,7 +26,7 @@ use Rattle.capture_promises.specs.Pieces.{TallyJoins}
 use Rattle.capture_promises.specs.Tallied.{countOf, ninthsFrom, topped, Wide, TallyCounts, CountNumbers, Counter, CounterPinned}
 use Rattle.capture.proofs.Sampled.{judge-fine, fine-judge}
 use Rattle.capture_promises.proofs.Rises.{events-below}
-use Rattle.capture_promises.proofs.Judged.{FirstBad, judged, bad-judge, below-left, below-right}
+use Rattle.capture_promises.proofs.Judged.{FirstBad, judged, bad-judge}
 use Rattle.capture_promises.proofs.Cuts.{events-cut, place-cut}
 
 -- ---- one count

@@ -2,11 +2,11 @@
 -- Assumes nothing.
 use mathlib.Core.Path.{refl}
 use Rattle.parts.specs.Table.{factsOf, idSizeOf, enableRightOf, buffersRightOf}
-use Rattle.parts.specs.Events.{eventOf}
+use Rattle.parts.specs.Events.{eventWith}
 use Rattle.parts.specs.Refusals.{soonerOf, lentVerdictOf}
 use Rattle.line.specs.Rules.{rollOf, beforeOf, onwardOf, enabledOf, namedOf, decodeOf, addressStartOf, selectedOf, loadArrayOf, loadIdOf, loadedOf, refusesOf, latchedOf, filledOf, lockedByOf, takenOf, receivedOf, receiveActOf, receiveLevelOf, movedOf, sentOf, sendLevelOf, clockedOf, clockActOf, clockLevelOf, startedOf, startActOf, asksOf, placedOf, stoppedOf, stopActOf, stopBegunOf, endedByOf, endedOf, endActOf, nextOf, actOf, levelOf, begunOf}
 use Rattle.state.specs.Range.{marksRightOf, pinRightOf, lockRightOf, phaseRightOf, restRightOf, inRangeOf}
-use Rattle.chip.specs.Memory.{noLatch, oneOf, counterPageOf, committedOf, cycleStoredOf, storedOf, storeOf, shownOf, seenOf, stateOf, chipLevelOf}
+use Rattle.chip.specs.Memory.{noLatch, oneOf, counterPageOf, committedOf, cycleStoredOf, storedOf, storeWith, shownOf, seenOf, stateOf, chipLevelOf}
 use Rattle.chip.specs.Runs.{afterOf, memoryOf, cyclesOf}
 use Rattle.chip.specs.Delivery.{pinAtFirstOf, standbyOf, codedOf, deliveredIdOf, deliveredOf}
 use Rattle.chip.specs.Calls.{heldVerdictOf}
@@ -19,7 +19,7 @@ use Rattle.capture.specs.Calls.{seenVerdictOf}
 use Rattle.capture_promises.specs.Worked.{byteWritten, selected, over, WorkedCaptures}
 
 pub worked : WorkedCaptures
-unfolding factsOf idSizeOf enableRightOf buffersRightOf eventOf soonerOf lentVerdictOf heldVerdictOf rollOf beforeOf onwardOf enabledOf namedOf decodeOf addressStartOf selectedOf loadArrayOf loadIdOf loadedOf refusesOf latchedOf filledOf lockedByOf takenOf receivedOf receiveActOf receiveLevelOf movedOf sentOf sendLevelOf clockedOf clockActOf clockLevelOf startedOf startActOf asksOf placedOf stoppedOf stopActOf stopBegunOf endedByOf endedOf endActOf nextOf actOf levelOf begunOf marksRightOf pinRightOf lockRightOf phaseRightOf restRightOf inRangeOf noLatch oneOf counterPageOf committedOf cycleStoredOf storedOf storeOf shownOf seenOf stateOf chipLevelOf afterOf memoryOf cyclesOf pinAtFirstOf standbyOf codedOf deliveredIdOf deliveredOf bitsOf byteOf eventsOf risesOf judgeOf endDueOf withEndsOf placeOf comparedOf differsOf markFrom strokeOf drawnFrom seenVerdictOf byteWritten selected over
+unfolding factsOf idSizeOf enableRightOf buffersRightOf eventWith soonerOf lentVerdictOf heldVerdictOf rollOf beforeOf onwardOf enabledOf namedOf decodeOf addressStartOf selectedOf loadArrayOf loadIdOf loadedOf refusesOf latchedOf filledOf lockedByOf takenOf receivedOf receiveActOf receiveLevelOf movedOf sentOf sendLevelOf clockedOf clockActOf clockLevelOf startedOf startActOf asksOf placedOf stoppedOf stopActOf stopBegunOf endedByOf endedOf endActOf nextOf actOf levelOf begunOf marksRightOf pinRightOf lockRightOf phaseRightOf restRightOf inRangeOf noLatch oneOf counterPageOf committedOf cycleStoredOf storedOf storeWith shownOf seenOf stateOf chipLevelOf afterOf memoryOf cyclesOf pinAtFirstOf standbyOf codedOf deliveredIdOf deliveredOf bitsOf byteOf eventsOf risesOf judgeOf endDueOf withEndsOf placeOf comparedOf differsOf markFrom strokeOf drawnFrom seenVerdictOf byteWritten selected over
 worked =
     record {
       fine = refl;

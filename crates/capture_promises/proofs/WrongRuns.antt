@@ -12,13 +12,13 @@ use Rattle.parts.specs.declared.Verdict.{Verdict}
 use Rattle.parts.specs.declared.Verdict.the-variants.{Fine, Refused}
 use Rattle.parts.specs.Bytes.{AllBelow}
 use Rattle.parts.specs.Table.{factsOf, idSizeOf, enableRightOf, buffersRightOf}
-use Rattle.parts.specs.Events.{eventOf}
+use Rattle.parts.specs.Events.{eventWith}
 use Rattle.parts.specs.Refusals.{soonerOf, lentVerdictOf}
 use Rattle.parts.proofs.Tests.{and-both}
 use Rattle.line.specs.Rules.{rollOf, beforeOf, onwardOf, enabledOf, namedOf, decodeOf, addressStartOf, selectedOf, loadArrayOf, loadIdOf, loadedOf, refusesOf, latchedOf, filledOf, lockedByOf, takenOf, receivedOf, receiveActOf, receiveLevelOf, movedOf, sentOf, sendLevelOf, clockedOf, clockActOf, clockLevelOf, startedOf, startActOf, asksOf, placedOf, stoppedOf, stopActOf, stopBegunOf, endedByOf, endedOf, endActOf, nextOf, actOf, levelOf, begunOf}
 use Rattle.state.specs.declared.Chip.{Chip}
 use Rattle.state.specs.Range.{marksRightOf, pinRightOf, lockRightOf, phaseRightOf, restRightOf, inRangeOf}
-use Rattle.chip.specs.Memory.{Mem, noLatch, oneOf, counterPageOf, committedOf, cycleStoredOf, storedOf, storeOf, shownOf, seenOf, stateOf, chipLevelOf}
+use Rattle.chip.specs.Memory.{Mem, noLatch, oneOf, counterPageOf, committedOf, cycleStoredOf, storedOf, storeWith, shownOf, seenOf, stateOf, chipLevelOf}
 use Rattle.chip.specs.Model.{Model, ours}
 use Rattle.chip.specs.Runs.{afterOf, memoryOf, cyclesOf}
 use Rattle.chip.specs.Delivery.{pinAtFirstOf, standbyOf, codedOf, deliveredIdOf, deliveredOf}
@@ -144,7 +144,7 @@ record Computed : Type 0 where
   good : comparesAll 2 0 chip₀ mem₀ true (wiresOf (ours (factsOf 2) 0) chip₀ mem₀ (selected true)) .answer .mark ≡ At 7 1 0
 
 computed : Computed
-unfolding factsOf idSizeOf enableRightOf buffersRightOf eventOf soonerOf lentVerdictOf heldVerdictOf rollOf beforeOf onwardOf enabledOf namedOf decodeOf addressStartOf selectedOf loadArrayOf loadIdOf loadedOf refusesOf latchedOf filledOf lockedByOf takenOf receivedOf receiveActOf receiveLevelOf movedOf sentOf sendLevelOf clockedOf clockActOf clockLevelOf startedOf startActOf asksOf placedOf stoppedOf stopActOf stopBegunOf endedByOf endedOf endActOf nextOf actOf levelOf begunOf marksRightOf pinRightOf lockRightOf phaseRightOf restRightOf inRangeOf noLatch oneOf counterPageOf committedOf cycleStoredOf storedOf storeOf shownOf seenOf stateOf chipLevelOf afterOf memoryOf cyclesOf pinAtFirstOf standbyOf codedOf deliveredIdOf deliveredOf bitsOf byteOf eventsOf risesOf judgeOf endDueOf withEndsOf placeOf comparedOf differsOf markFrom linedOf strokeOf drawnFrom seenVerdictOf byteWritten selected over
+unfolding factsOf idSizeOf enableRightOf buffersRightOf eventWith soonerOf lentVerdictOf heldVerdictOf rollOf beforeOf onwardOf enabledOf namedOf decodeOf addressStartOf selectedOf loadArrayOf loadIdOf loadedOf refusesOf latchedOf filledOf lockedByOf takenOf receivedOf receiveActOf receiveLevelOf movedOf sentOf sendLevelOf clockedOf clockActOf clockLevelOf startedOf startActOf asksOf placedOf stoppedOf stopActOf stopBegunOf endedByOf endedOf endActOf nextOf actOf levelOf begunOf marksRightOf pinRightOf lockRightOf phaseRightOf restRightOf inRangeOf noLatch oneOf counterPageOf committedOf cycleStoredOf storedOf storeWith shownOf seenOf stateOf chipLevelOf afterOf memoryOf cyclesOf pinAtFirstOf standbyOf codedOf deliveredIdOf deliveredOf bitsOf byteOf eventsOf risesOf judgeOf endDueOf withEndsOf placeOf comparedOf differsOf markFrom linedOf strokeOf drawnFrom seenVerdictOf byteWritten selected over
 computed =
     record {
       busy = refl;

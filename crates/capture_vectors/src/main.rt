@@ -16,6 +16,7 @@ use cases::mixed;
 use libc::STDIN_FILENO;
 use line::Core;
 use line::Line;
+use parts::Loss;
 use parts::Verdict;
 use state::Chip;
 use text::say;
@@ -141,6 +142,8 @@ fn before(
     let r = chip::run(
         part,
         enable,
+        Loss::Old,
+        b"",
         chip,
         array,
         id,
@@ -282,7 +285,8 @@ fn run_drawn(v: [usize; 16], codes: &[u8], levels: &mut [u8], array: &mut [u8], 
     let part = text::narrow(v[0]);
     let chip = chip::standby(part, false);
     fresh(array, id);
-    let r = chip::run(part, text::narrow(v[1]), chip, array, id, codes, levels);
+    let enable = text::narrow(v[1]);
+    let r = chip::run(part, enable, Loss::Old, b"", chip, array, id, codes, levels);
     tell(b"cycles ", r.cycles);
     tell(b" array ", mixed(array));
 }

@@ -1,3 +1,4 @@
 pub mod Laws
 pub mod Turns
 pub mod Quick
+pub mod Groups

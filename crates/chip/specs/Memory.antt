@@ -1,11 +1,13 @@
--- Latches and stored bytes: what an event does to them (document 01, rules 3, 6, 7, 8).
+-- Latches and stored bytes: what an event does to them (document 01, rules 3, 6, 7, 8; document 02, §5).
 -- Assumes nothing.
-use Prim.Native.Nat.{ℕ, suc, _*_, _/_, _%_}
+use Prim.Native.Nat.{ℕ, zero, suc, _*_, _/_, _%_}
 use mathlib.Core.Bool.{Bool, true, false, cond}
 use mathlib.Core.List.{List, [], _∷_}
 use lib.ListN.{getD, set, take, replicate}
 use lib.Dec.{ltb}
 use Rattle.parts.specs.declared.Facts.{Facts}
+use Rattle.parts.specs.declared.Loss.{Loss}
+use Rattle.parts.specs.declared.Loss.the-variants.{Old, Lent}
 use Rattle.parts.specs.declared.Event.{Event}
 use Rattle.parts.specs.declared.Event.the-variants.{Clock, Start, Stop, Ends, PinLow, PinHigh, PinFloat, Reset, Unknown}
 use Rattle.line.specs.declared.Target.{Target}
@@ -75,20 +77,46 @@ storedOf f l k m (Receive r) = m
 storedOf f l k m (Send t) = m
 storedOf f l k m (Busy y) = cycleStoredOf f (l .core .counter) k m y
 
-abbrev pub isEnd : Event → Bool
-isEnd (Clock v) = false
-isEnd Start = false
-isEnd Stop = false
-isEnd Ends = true
-isEnd PinLow = false
-isEnd PinHigh = false
-isEnd PinFloat = false
-isEnd Reset = false
-isEnd Unknown = false
+-- ---- document 02, §5: power lost in a cycle. The bytes of a group are a column of the part table
 
--- only the end of a cycle stores
-unfoldable pub storeOf : Facts → Chip → Mem → Event → Mem
-storeOf f c m e = cond (isEnd e) (storedOf f (c .line) (c .latch) m (c .line .phase)) m
+-- a latched byte at one of n places, from place i on
+abbrev pub latchedIn : List ℕ → ℕ → ℕ → Bool
+latchedIn k i zero = false
+latchedIn k i (suc n) = cond (ltb (getD k i 256) 256) true (latchedIn k (suc i) n)
+
+-- "each error-correction group with a latched byte": whether group number j of the page has one
+unfoldable pub touchedOf : ℕ → List ℕ → ℕ → Bool
+touchedOf g k j = latchedIn k (j * g) g
+
+-- "comes up holding those bytes": at a place of such a group the lent byte of that place, elsewhere nothing
+unfoldable pub risenOf : ℕ → List ℕ → List ℕ → ℕ → ℕ
+risenOf g k page i = cond (touchedOf g k (i / g)) (getD page i 0) 256
+
+-- at n places, from place i on
+abbrev pub risenFrom : ℕ → List ℕ → List ℕ → ℕ → ℕ → List ℕ
+risenFrom g k page i zero = []
+risenFrom g k page i (suc n) = risenOf g k page i ∷ risenFrom g k page (suc i) n
+
+-- it enters that one page as latched bytes do at `E`, and "every other byte is as before"
+unfoldable pub lostOf : Facts → Chip → List ℕ → Mem → Loss → Mem
+lostOf f c page m Old = m
+lostOf f c page m (Lent lock) = storedOf f (c .line) (risenFrom (f .group) (c .latch) page 0 (f .page)) m (c .line .phase)
+
+-- only the end of a cycle stores, and a loss of power in one spoils
+unfoldable pub storeWith : List ℕ → Facts → Chip → Mem → Event → Mem
+storeWith page f c m (Clock v) = m
+storeWith page f c m Start = m
+storeWith page f c m Stop = m
+storeWith page f c m Ends = storedOf f (c .line) (c .latch) m (c .line .phase)
+storeWith page f c m PinLow = m
+storeWith page f c m PinHigh = m
+storeWith page f c m PinFloat = m
+storeWith page f c m (Reset w) = lostOf f c page m w
+storeWith page f c m Unknown = m
+
+-- where no page is lent
+abbrev pub storeOf : Facts → Chip → Mem → Event → Mem
+storeOf = storeWith []
 
 -- ---- rule 8: the byte that is being sent: at the counter, or under 1011 at the counter modulo P
 

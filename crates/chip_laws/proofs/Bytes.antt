@@ -13,7 +13,7 @@ use lib.Pow.{mod-pow-add}
 use Rattle.parts.specs.declared.Facts.{Facts}
 use Rattle.parts.specs.declared.Event.{Event}
 use Rattle.parts.specs.declared.Event.the-variants.{Clock}
-use Rattle.parts.specs.Events.{eventOf}
+use Rattle.parts.specs.Events.{eventWith, eventOf}
 use Rattle.parts.specs.Bytes.{flagOf}
 use Rattle.parts.proofs.Bytes.{flag-below, flag-in}
 use Rattle.parts.proofs.Laws.{clock-code}
@@ -29,7 +29,7 @@ use Rattle.line.specs.declared.Act.the-variants.{Keep}
 use Rattle.line.specs.Rules.{at, takenOf, landed, releasedIn, receivedOf, receiveActOf, receiveLevelOf, movedOf, sentOf, sendLevelOf, clockedOf, clockActOf, clockLevelOf, nextOf, actOf, levelOf, begunOf, NoTransfer}
 use Rattle.state.specs.declared.Chip.{Chip}
 use Rattle.chip.specs.Model.{Model, ours}
-use Rattle.chip.specs.Memory.{Mem, chip, latchOf, shownOf, seenOf, stateOf, storeOf, chipLevelOf}
+use Rattle.chip.specs.Memory.{Mem, chip, latchOf, shownOf, seenOf, stateOf, storeWith, storeOf, chipLevelOf}
 use Rattle.chip.specs.Runs.{afterOf, memoryOf, levelsOf, cyclesOf}
 use Rattle.chip_laws.specs.Bytes.{bitsFrom, bitsOf, byteOf, Clocks, lineOf, actsOf, latchesOf, AfterIsLine, LineIn, ByteIn, LineOut, ByteOut, ClocksIgnored, ClocksQuiet, BytesAreClocks, RunsJoin}
 
@@ -79,7 +79,7 @@ after-is-line f en l k (x ∷ xs) = after-is-line f en (nextOf f en l (eventOf x
 -- ---- codes of clocks
 
 pub code-of : (v : Bool) → eventOf (flagOf v) ≡ Clock v
-unfolding eventOf
+unfolding eventWith
 code-of true = refl
 code-of false = refl
 
@@ -170,7 +170,7 @@ line-in f en c r b v h =
 -- ---- clocks store nothing and begin nothing
 
 clock-stores : (f : Facts) (c : Chip) (m : Mem) (x : ℕ) → x < 2 → storeOf f c m (eventOf x) ≡ m
-unfolding storeOf
+unfolding storeWith
 clock-stores f c m x h = ap (storeOf f c m) (clock-code x h)
 
 pub clock-begins : (l : Line) (x : ℕ) → x < 2 → begunOf l (eventOf x) ≡ 0
@@ -191,7 +191,7 @@ clocks-quiet f en c m (suc n) (x ∷ xs) h =
 
 levels-in : (f : Facts) (en : ℕ) (c : Core) (r : Recv) (k : List ℕ) (m : Mem) (n x : ℕ) (xs : List ℕ) → Clocks n xs
     → levelsOf (ours f en) (chip (taking c r n x) k) m xs ≡ replicate n 1
-unfolding levelsOf stateOf nextOf clockedOf receivedOf actOf clockActOf receiveActOf chipLevelOf levelOf clockLevelOf receiveLevelOf storeOf
+unfolding levelsOf stateOf nextOf clockedOf receivedOf actOf clockActOf receiveActOf chipLevelOf levelOf clockLevelOf receiveLevelOf storeWith
 levels-in f en c r k m zero x [] h = refl
 levels-in f en c r k m zero x (y ∷ ys) h = absurd h
 levels-in f en c r k m (suc n) x [] h = absurd h

@@ -15,7 +15,8 @@ use Rattle.parts.specs.declared.Event.{Event}
 use Rattle.parts.specs.declared.Event.the-variants.{Clock, Start, Stop, Ends, PinLow, PinHigh, PinFloat, Reset, Unknown}
 use Rattle.parts.specs.Table.{factsOf}
 use Rattle.parts.specs.Sound.{Sound}
-use Rattle.parts.specs.Events.{eventOf, eventRightOf}
+use Rattle.parts.specs.declared.Loss.{Loss}
+use Rattle.parts.specs.Events.{eventWith, eventRightOf}
 use Rattle.parts.proofs.Laws.{branch, sound}
 use Rattle.parts.proofs.Bytes.{flag-below}
 use Rattle.parts.proofs.Tests.{both, not-yes}
@@ -36,11 +37,11 @@ use Rattle.line.specs.declared.Selected.{Selected}
 use Rattle.line.specs.declared.Selected.the-variants.{Miss, Hit}
 use Rattle.line.specs.declared.CycleAsked.{CycleAsked}
 use Rattle.line.specs.declared.CycleAsked.the-variants.{NoCycle, For}
-use Rattle.line.specs.Rules.{isHigh, at, counting, marking, bitOn, rollOf, onwardOf, enabledOf, namedOf, decodeOf, addressStartOf, selectedOf, loadArrayOf, loadIdOf, loadedOf, refusesOf, latchedOf, filledOf, lockedByOf, takenOf, landed, receivedOf, receiveActOf, movedOf, sentOf, clockedOf, clockActOf, opened, startedOf, startActOf, asksOf, placedOf, dueOf, stoppedBy, stopActBy, stoppedOf, stopActOf, lockedNow, endedByOf, endedOf, endActOf, pinnedOf, resetOf, nextOf, actOf}
+use Rattle.line.specs.Rules.{isHigh, at, counting, marking, bitOn, rollOf, onwardOf, enabledOf, namedOf, decodeOf, addressStartOf, selectedOf, loadArrayOf, loadIdOf, loadedOf, refusesOf, latchedOf, filledOf, lockedByOf, takenOf, landed, receivedOf, receiveActOf, movedOf, sentOf, clockedOf, clockActOf, opened, startedOf, startActOf, asksOf, placedOf, dueOf, stoppedBy, stopActBy, stoppedOf, stopActOf, lockedNow, endedByOf, endedOf, endActOf, pinnedOf, lockAtReset, resetOf, nextOf, actOf}
 use Rattle.line.proofs.Laws.{page-room}
 use Rattle.state.specs.declared.Chip.{Chip}
 use Rattle.state.specs.Range.{emptyOf, marksRightOf, pinRightOf, markRightOf, targetRightOf, lockRightOf, locationRightOf, lastRightOf, ackedRightOf, openRightOf, fillRightOf, unlockedRightOf, recvRightOf, writingRightOf, cycleRightOf, phaseRightOf, restRightOf, inRangeOf}
-use Rattle.chip.specs.Model.{ours}
+use Rattle.chip.specs.Model.{PowerCut, oursWith}
 use Rattle.chip.specs.Memory.{chip, noLatch, latchOf, stateOf}
 use Rattle.chip.proofs.Laws.{latch-length}
 use Rattle.chip.specs.Runs.{afterOf}
@@ -321,9 +322,18 @@ module _ (f : Facts) (s : Sound f) where
     ended-ok (Busy (Writing Ident)) o = idle-at (l .core) core-ok
     ended-ok (Busy Locking) o = idle-at (lockedNow (l .core)) (h .counter, h .pin, λ _. o .0 .0)
 
-    reset-ok : InRange f (chip (resetOf (l .core)) noLatch)
+    -- a lock is left only where it was or where one was being set: both have a page to lock
+    left-ok : (w : Loss) (ph : Phase) → PhaseOk f (l .core) k (l .left) ph → lockAtReset w (l .core .locked) ph ≡ true → f .ident ≡ true
+    left-ok w Idle o e = h .lock e
+    left-ok w (Receive r) o e = h .lock e
+    left-ok w (Send t) o e = h .lock e
+    left-ok w (Busy (Writing t)) o e = h .lock e
+    left-ok w (Busy Locking) o e = o .0 .0
+
+    reset-ok : (w : Loss) → InRange f (chip (resetOf w (l .core) (l .phase)) noLatch)
     unfolding resetOf
-    reset-ok = idle-at record { counter = 0; pin = l .core .pin; inhibited = false; locked = l .core .locked } (s .sizePos, h .pin, h .lock)
+    reset-ok w =
+        idle-at record { counter = 0; pin = l .core .pin; inhibited = false; locked = lockAtReset w (l .core .locked) (l .phase) } (s .sizePos, h .pin, left-ok w (l .phase) (h .phase))
 
     -- ---- the pin
 
@@ -366,7 +376,7 @@ module _ (f : Facts) (s : Sound f) where
   next-ok en c PinLow a t h = pinned-ok (c .line) (c .latch) h Low a (c .line .phase) refl (h .phase)
   next-ok en c PinHigh a t h = pinned-ok (c .line) (c .latch) h High a (c .line .phase) refl (h .phase)
   next-ok en c PinFloat a t h = pinned-ok (c .line) (c .latch) h Floating a (c .line .phase) refl (h .phase)
-  next-ok en c Reset a t h = reset-ok (c .line) (c .latch) h
+  next-ok en c (Reset w) a t h = reset-ok (c .line) (c .latch) h w
   next-ok en c Unknown a t h = h
 
 -- ---- the test is the facts
@@ -607,7 +617,7 @@ module _ (f : Facts) (en : ℕ) (l : Line) (byte : l .shift < 256) where
   next-byte PinLow = pinned-byte Low (l .phase)
   next-byte PinHigh = pinned-byte High (l .phase)
   next-byte PinFloat = pinned-byte Floating (l .phase)
-  next-byte Reset = omega arith
+  next-byte (Reset w) = omega arith
   next-byte Unknown = byte
 
 pub typed-next : (f : Facts) (en : ℕ) (c : Chip) (e : Event) → Typed c → Typed (stateOf f en c e)
@@ -724,7 +734,7 @@ module _ (f : Facts) (en : ℕ) (l : Line) (k : List ℕ) where
   next-line-open PinLow h = pinned-open Low (l .phase) h
   next-line-open PinHigh h = pinned-open High (l .phase) h
   next-line-open PinFloat h = pinned-open Floating (l .phase) h
-  next-line-open Reset h = tt
+  next-line-open (Reset w) h = tt
   next-line-open Unknown h = h
 
 pub open-next : (f : Facts) (en : ℕ) (c : Chip) (e : Event) → Open c → Open (stateOf f en c e)
@@ -741,9 +751,9 @@ pinned-there false n a b h =
     rw (le-ltb 8 n (omega arith), le-ltb n 5 a, ne-eqb n 8 (λ e. omega arith)) at h
 
 -- a code that refusal 5 does not refuse
-pub takes : (f : Facts) (n : ℕ) → eventRightOf (f .pin) n ≡ true → Takes f (eventOf n)
-unfolding eventOf
-takes f n h =
+pub takes : (f : Facts) (w : Loss) (n : ℕ) → eventRightOf (f .pin) n ≡ true → Takes f (eventWith w n)
+unfolding eventWith
+takes f w n h =
     branch (Takes f) (eqb n 0) (λ _. tt) (λ _.
     branch (Takes f) (eqb n 1) (λ _. tt) (λ _.
     branch (Takes f) (eqb n 2) (λ _. tt) (λ _.
@@ -771,32 +781,32 @@ pub range-kept : RangeKept
 range-kept n en c e a t h = range-next (factsOf n) (sound n) en c e a t h
 
 pub range-kept-by-codes : RangeKeptByCodes
-range-kept-by-codes n en c code a t h = range-kept n en c (eventOf code) (takes (factsOf n) code a) t h .0
+range-kept-by-codes n en w c code a t h = range-kept n en c (eventWith w code) (takes (factsOf n) w code a) t h .0
 
-pub range-after : (f : Facts) → Sound f → (en : ℕ) (c : Chip) (es : List ℕ) → AllTaken f es → Typed c → inRangeOf f c ≡ true
-    → (inRangeOf f (afterOf (ours f en) c es) ≡ true) × Typed (afterOf (ours f en) c es)
+pub range-after : (f : Facts) → Sound f → (en : ℕ) (w : PowerCut) (c : Chip) (es : List ℕ) → AllTaken f es → Typed c → inRangeOf f c ≡ true
+    → (inRangeOf f (afterOf (oursWith w f en) c es) ≡ true) × Typed (afterOf (oursWith w f en) c es)
 unfolding afterOf
-range-after f s en c [] a t h = (h, t)
-range-after f s en c (e ∷ es) a t h =
-    let r = range-next f s en c (eventOf e) (takes f e (a .0)) t h in
-    range-after f s en (stateOf f en c (eventOf e)) es (a .1) (r .1) (r .0)
+range-after f s en w c [] a t h = (h, t)
+range-after f s en w c (e ∷ es) a t h =
+    let r = range-next f s en c (eventWith (w .loss) e) (takes f (w .loss) e (a .0)) t h in
+    range-after f s en w (stateOf f en c (eventWith (w .loss) e)) es (a .1) (r .1) (r .0)
 
 pub range-kept-by-runs : RangeKeptByRuns
-range-kept-by-runs n en c es a t h = range-after (factsOf n) (sound n) en c es a t h
+range-kept-by-runs n en w c es a t h = range-after (factsOf n) (sound n) en w c es a t h
 
 -- the facts along a run
-pub after-ok : (f : Facts) → Sound f → (en : ℕ) (c : Chip) (es : List ℕ) → AllTaken f es → Typed c → InRange f c
-    → InRange f (afterOf (ours f en) c es) × Typed (afterOf (ours f en) c es)
+pub after-ok : (f : Facts) → Sound f → (en : ℕ) (w : PowerCut) (c : Chip) (es : List ℕ) → AllTaken f es → Typed c → InRange f c
+    → InRange f (afterOf (oursWith w f en) c es) × Typed (afterOf (oursWith w f en) c es)
 unfolding afterOf
-after-ok f s en c [] a t h = (h, t)
-after-ok f s en c (e ∷ es) a t h =
-    after-ok f s en (stateOf f en c (eventOf e)) es (a .1) (typed-next f en c (eventOf e) t) (next-ok f s en c (eventOf e) (takes f e (a .0)) t h)
+after-ok f s en w c [] a t h = (h, t)
+after-ok f s en w c (e ∷ es) a t h =
+    after-ok f s en w (stateOf f en c (eventWith (w .loss) e)) es (a .1) (typed-next f en c (eventWith (w .loss) e) t) (next-ok f s en c (eventWith (w .loss) e) (takes f (w .loss) e (a .0)) t h)
 
 pub facts-kept : FactsKept
 facts-kept n en c e a t h = (next-ok (factsOf n) (sound n) en c e a t h, typed-next (factsOf n) en c e t)
 
 pub facts-kept-by-runs : FactsKeptByRuns
-facts-kept-by-runs n en c es a t h = after-ok (factsOf n) (sound n) en c es a t h
+facts-kept-by-runs n en w c es a t h = after-ok (factsOf n) (sound n) en w c es a t h
 
 pub standby-ok : (f : Facts) → Sound f → (lock : Bool) → (lock ≡ true → f .ident ≡ true) → InRange f (standbyOf f lock)
 unfolding standbyOf pinAtFirstOf
@@ -809,6 +819,6 @@ standby-in-range n lock h =
     (range-back (factsOf n) (standbyOf (factsOf n) lock) (standby-ok (factsOf n) (sound n) lock h) tt, record { byte = omega arith; latches = refl })
 
 pub reached-in-range : ReachedInRange
-reached-in-range n en lock es h a =
+reached-in-range n en w lock es h a =
     let s = standby-in-range n lock h in
-    range-kept-by-runs n en (standbyOf (factsOf n) lock) es a (s .1) (s .0) .0
+    range-kept-by-runs n en w (standbyOf (factsOf n) lock) es a (s .1) (s .0) .0

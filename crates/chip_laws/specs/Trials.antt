@@ -13,6 +13,7 @@ use Rattle.parts.specs.Bytes.{sameOf}
 use Rattle.state.specs.declared.Chip.{Chip}
 use Rattle.chip.specs.Memory.{Mem}
 use Rattle.chip.specs.Delivery.{standbyOf, deliveredOf}
+use Rattle.chip.specs.Model.{old}
 use Rattle.chip.specs.Calls.{runOf}
 use Rattle.chip_laws.specs.Bytes.{bitsOf, byteOf, bytesOf}
 
@@ -49,11 +50,11 @@ trialRunOf part enable es =
     let m = deliveredOf part in
     let answers : List ℕ = replicate (length es) 9 in
     record {
-      chip = runOf part enable c m es answers .answer .chip;
-      mem = runOf part enable c m es answers .mem;
-      levels = runOf part enable c m es answers .answers;
-      cycles = runOf part enable c m es answers .answer .cycles;
-      fine = isFine (runOf part enable c m es answers .answer .verdict);
+      chip = runOf part enable old c m es answers .answer .chip;
+      mem = runOf part enable old c m es answers .mem;
+      levels = runOf part enable old c m es answers .answers;
+      cycles = runOf part enable old c m es answers .answer .cycles;
+      fine = isFine (runOf part enable old c m es answers .answer .verdict);
     }
 
 unfoldable pub trialOf : ℕ → ℕ → ℕ → List ℕ → (TrialRun → Bool) → Trial

@@ -11,7 +11,7 @@ use borrow.Author.Tests.{ne-eqb, ltb-true, ltb-false}
 use Rattle.parts.specs.declared.Facts.{Facts}
 use Rattle.parts.specs.declared.Event.{Event}
 use Rattle.parts.specs.Table.{addressBytesOf}
-use Rattle.parts.specs.Events.{eventOf}
+use Rattle.parts.specs.Events.{eventWith}
 use Rattle.parts.specs.Bytes.{flagOf, AllBelow}
 use Rattle.parts.proofs.Laws.{clock-code}
 use Rattle.line.specs.declared.Target.{Target}
@@ -51,7 +51,7 @@ zero-plus z = omega arith
 -- ---- a Stop alone
 
 stop-at : (f : Facts) (en : ℕ) (l : Line) (k : List ℕ) → cyclesOf (ours f en) (chip l k) (3 ∷ []) ≡ stopBegunOf l (l .phase)
-unfolding cyclesOf eventOf begunOf
+unfolding cyclesOf eventWith begunOf
 stop-at f en l k = plus-zero (stopBegunOf l (l .phase))
 
 stop-late : (f : Facts) (en : ℕ) (c : Core) (r : Recv) (k : List ℕ) (p x : ℕ) → p < 8 → cyclesOf (ours f en) (chip (taking c r p x) k) (3 ∷ []) ≡ 0
@@ -268,7 +268,7 @@ select-cut f en c t select high low bs false w names o p h =
 
 start-cycles : (f : Facts) (en : ℕ) (l : Line) (k zs : List ℕ) → l .phase ≡ Idle
     → cyclesOf (ours f en) (chip l k) (2 ∷ zs) ≡ cyclesOf (ours f en) (chip (opened (l .core)) noLatch) zs
-unfolding cyclesOf eventOf begunOf stateOf nextOf actOf startedOf startActOf
+unfolding cyclesOf eventWith begunOf stateOf nextOf actOf startedOf startActOf
 start-cycles f en l k zs h =
     zero-plus (cyclesOf (ours f en) (chip (startedOf l (l .phase)) (latchOf k (startActOf (l .phase)))) zs)
     ∙ ap (λ (ph : Phase). cyclesOf (ours f en) (chip (startedOf l ph) (latchOf k (startActOf ph))) zs) h

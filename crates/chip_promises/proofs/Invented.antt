@@ -7,12 +7,12 @@ use mathlib.Core.Bool.{false}
 use mathlib.Core.List.{List, [], _∷_}
 use Rattle.parts.specs.declared.Facts.{Facts}
 use Rattle.parts.specs.Table.{factsOf}
-use Rattle.parts.specs.Events.{eventOf}
+use Rattle.parts.specs.Events.{eventWith}
 use Rattle.line.specs.Rules.{decodeOf, enabledOf, namedOf, addressStartOf, selectedOf, loadArrayOf, loadedOf, refusesOf, latchedOf, filledOf, takenOf, receivedOf, clockedOf, startedOf, asksOf, placedOf, stoppedOf, stopBegunOf, nextOf, begunOf}
 use Rattle.state.specs.declared.Chip.{Chip}
 use Rattle.chip.specs.Memory.{Mem, mem, stateOf}
 use Rattle.chip.specs.Delivery.{pinAtFirstOf, standbyOf}
-use Rattle.chip.specs.Model.{ours}
+use Rattle.chip.specs.Model.{old, ours}
 use Rattle.chip.specs.Runs.{levelsOf, cyclesOf}
 use Rattle.chip_promises.specs.Stops.{stopsOf, watchAt}
 use Rattle.chip_promises.specs.Histories.{S, P, byteSent, itemCodesOf}
@@ -29,14 +29,14 @@ pub invents-nothing : InventsNothing
 invents-nothing count kept f en c es h =
     kept f en c (mem [] []) es h
     ∙ ap (stopsOf f (watchAt c) es) (same-levels count f en c (mem [] []) es)
-    ∙ sym (cycles-are-stops f en c (mem [] []) es h)
+    ∙ sym (cycles-are-stops old f en c (mem [] []) es h)
 
 -- a write of one byte on part 2, from delivery: one cycle
 abbrev write : List ℕ
 write = itemCodesOf (S ∷ byteSent 0xA0 0 ∷ byteSent 0 0 ∷ byteSent 5 0 ∷ byteSent 7 0 ∷ P ∷ [])
 
 one-cycle : cyclesOf (ours (factsOf 2) 0) (standbyOf (factsOf 2) false) write ≡ 1
-unfolding cyclesOf factsOf eventOf standbyOf pinAtFirstOf stateOf decodeOf enabledOf namedOf addressStartOf selectedOf loadArrayOf loadedOf refusesOf latchedOf filledOf takenOf receivedOf clockedOf startedOf asksOf placedOf stoppedOf stopBegunOf nextOf begunOf
+unfolding cyclesOf factsOf eventWith standbyOf pinAtFirstOf stateOf decodeOf enabledOf namedOf addressStartOf selectedOf loadArrayOf loadedOf refusesOf latchedOf filledOf takenOf receivedOf clockedOf startedOf asksOf placedOf stoppedOf stopBegunOf nextOf begunOf
 one-cycle = refl
 
 no-cycle : cyclesOf (inventingModel (λ c e. 0) (factsOf 2) 0) (standbyOf (factsOf 2) false) write ≡ 0
@@ -49,7 +49,7 @@ none-breaks kept =
 
 -- an event that is no Stop
 started : (f : Facts) (en : ℕ) (c : Chip) → cyclesOf (ours f en) c (2 ∷ []) ≡ 0
-unfolding cyclesOf eventOf begunOf
+unfolding cyclesOf eventWith begunOf
 started f en c = refl
 
 started-one : (f : Facts) (en : ℕ) (c : Chip) → cyclesOf (inventingModel (λ c e. 1) f en) c (2 ∷ []) ≡ 1

@@ -2,16 +2,18 @@
 -- nothing to enter.
 -- Assumes nothing.
 use mathlib.Core.Path.{_≡_, refl, sym, ap, _∙_, subst}
-use Prim.Native.Nat.{ℕ, zero, suc, _+_, _*_, _%_}
+use Prim.Native.Nat.{ℕ, zero, suc, _+_, _*_, _/_, _%_}
 use mathlib.Core.Bool.{Bool, true, false, not, cond, _||_}
 use mathlib.Core.List.{List, [], _∷_}
-use lib.ListN.{take, set}
+use lib.ListN.{getD, take, set}
 use lib.Dec.{ltb}
 use Rattle.parts.specs.declared.Facts.{Facts}
 use Rattle.parts.specs.declared.Event.{Event}
 use Rattle.parts.specs.declared.Event.the-variants.{Clock, Start, Stop, Ends, PinLow, PinHigh, PinFloat, Reset, Unknown}
 use Rattle.parts.specs.Table.{factsOf}
-use Rattle.parts.specs.Events.{eventOf}
+use Rattle.parts.specs.declared.Loss.{Loss}
+use Rattle.parts.specs.declared.Loss.the-variants.{Old, Lent}
+use Rattle.parts.specs.Events.{eventWith}
 use Rattle.parts.proofs.Laws.{branch}
 use Rattle.parts.proofs.Tests.{both}
 use Rattle.line.specs.declared.Pin.{Pin}
@@ -31,15 +33,17 @@ use Rattle.line.specs.declared.Selected.the-variants.{Miss, Hit}
 use Rattle.line.specs.Rules.{bitOn, decodeOf, addressStartOf, selectedOf, loadArrayOf, loadIdOf, loadedOf, refusesOf, latchedOf, filledOf, lockedByOf, takenOf, receivedOf, receiveActOf, sentOf, clockedOf, clockActOf, startedOf, startActOf, stoppedBy, stopActBy, dueOf, placedOf, asksOf, stoppedOf, stopActOf, endedByOf, endedOf, endActOf, pinnedOf, resetOf, nextOf, actOf}
 use Rattle.state.specs.declared.Chip.{Chip}
 use Rattle.state.specs.Range.{emptyOf, markRightOf, locationRightOf, lastRightOf, ackedRightOf, openRightOf, fillRightOf, unlockedRightOf, recvRightOf, writingRightOf, cycleRightOf, phaseRightOf, inRangeOf}
-use Rattle.chip.specs.Memory.{Mem, latchOf, oneOf, enteredOf, counterPageOf, committedOf, cycleStoredOf, storedOf, storeOf, stateOf}
-use Rattle.chip.specs.Model.{ours}
+use Rattle.state.proofs.Laws.{accepted-phase}
+use Rattle.chip.specs.Memory.{Mem, latchOf, oneOf, enteredOf, counterPageOf, committedOf, cycleStoredOf, storedOf, latchedIn, touchedOf, risenOf, risenFrom, lostOf, storeWith, stateOf}
+use Rattle.chip.specs.Model.{PowerCut, oursWith}
 use Rattle.chip.specs.Runs.{afterOf, memoryOf}
 use Rattle.chip.specs.Calls.{stepOf, runOf}
 use Rattle.chip_promises.specs.Calls.{many, Ending, beforeCalls, afterRun, callBy, callsBy}
 use Rattle.chip_promises.specs.Lock.{Locked, LockHolds, CallsLockHolds}
 use Rattle.chip_promises.specs.Forms.{RunLockHolds}
 use Rattle.chip_promises.proofs.Runs.{Invariant, Keeps, keeps, calls-keep, Any, every, every-call}
-use Rattle.chip_promises.proofs.Steps.{next-still, lockAfter, accepted-phase}
+use Rattle.chip_laws.proofs.Range.{no-way}
+use Rattle.chip_promises.proofs.Steps.{next-still, lockAfter}
 use Rattle.chip_promises.proofs.Refused.{calls-out}
 
 -- ---- no latch to enter
@@ -69,7 +73,7 @@ empty-take (suc n) (x ∷ k) e = go (ltb x 256) e (λ q. empty-take n k q)
 
 -- ---- what a locked chip keeps
 
--- where a Stop or an `E` would act on the identification page, there is no latch
+-- where a Stop or an `E` would act on the identification page, there is no latch; and no lock is under way, which a cut could undo
 abbrev Sealed : List ℕ → Phase → Type 0
 Sealed k Idle = Unit {0}
 Sealed k (Receive Select) = Unit {0}
@@ -79,11 +83,11 @@ Sealed k (Receive (Fill Array w)) = Unit {0}
 Sealed k (Receive (Fill Ident true)) = emptyOf k ≡ true
 Sealed k (Receive (Fill Ident false)) = Unit {0}
 Sealed k (Receive LockByte) = Unit {0}
-Sealed k (Receive (LockTaken w)) = Unit {0}
+Sealed k (Receive (LockTaken w)) = ⊥
 Sealed k (Send t) = Unit {0}
 Sealed k (Busy (Writing Array)) = Unit {0}
 Sealed k (Busy (Writing Ident)) = emptyOf k ≡ true
-Sealed k (Busy Locking) = Unit {0}
+Sealed k (Busy Locking) = ⊥
 
 stored-ident : (f : Facts) (l : Line) (k : List ℕ) (m : Mem) (ph : Phase) → Sealed k ph → storedOf f l k m ph .ident ≡ m .ident
 unfolding storedOf cycleStoredOf committedOf
@@ -94,17 +98,61 @@ stored-ident f l k m (Busy (Writing Array)) o = refl
 stored-ident f l k m (Busy (Writing Ident)) o = entered-empty (m .ident) (counterPageOf f (l .core .counter)) (take (f .page) k) (empty-take (f .page) k o)
 stored-ident f l k m (Busy Locking) o = refl
 
-store-ident : (f : Facts) (c : Chip) (m : Mem) (e : Event) → Sealed (c .latch) (c .line .phase) → storeOf f c m e .ident ≡ m .ident
-unfolding storeOf
-store-ident f c m (Clock v) o = refl
-store-ident f c m Start o = refl
-store-ident f c m Stop o = refl
-store-ident f c m Ends o = stored-ident f (c .line) (c .latch) m (c .line .phase) o
-store-ident f c m PinLow o = refl
-store-ident f c m PinHigh o = refl
-store-ident f c m PinFloat o = refl
-store-ident f c m Reset o = refl
-store-ident f c m Unknown o = refl
+-- without a latch nothing comes up
+empty-both : (x : ℕ) (k : List ℕ) → emptyOf (x ∷ k) ≡ true → (ltb x 256 ≡ false) × (emptyOf k ≡ true)
+empty-both x k e = go (ltb x 256) refl e
+  where
+    go : (b : Bool) → ltb x 256 ≡ b → cond b false (emptyOf k) ≡ true → (ltb x 256 ≡ false) × (emptyOf k ≡ true)
+    go true q e = no-way e
+    go false q e = (q, e)
+
+none-there : (k : List ℕ) (i : ℕ) → emptyOf k ≡ true → ltb (getD k i 256) 256 ≡ false
+none-there [] i e = refl
+none-there (x ∷ k) zero e = empty-both x k e .0
+none-there (x ∷ k) (suc i) e = none-there k i (empty-both x k e .1)
+
+none-latched : (k : List ℕ) (i n : ℕ) → emptyOf k ≡ true → latchedIn k i n ≡ false
+none-latched k i zero e = refl
+none-latched k i (suc n) e = rw (none-there k i e) (none-latched k (suc i) n e)
+
+none-risen : (g : ℕ) (k page : List ℕ) (i n : ℕ) → emptyOf k ≡ true → emptyOf (risenFrom g k page i n) ≡ true
+unfolding risenOf touchedOf
+none-risen g k page i zero e = refl
+none-risen g k page i (suc n) e = rw (none-latched k (i / g * g) g e) (none-risen g k page (suc i) n e)
+
+-- where nothing is latched the list that comes up has nothing either
+risen-sealed : (g : ℕ) (k page : List ℕ) (n : ℕ) (ph : Phase) → Sealed k ph → Sealed (risenFrom g k page 0 n) ph
+risen-sealed g k page n Idle o = tt
+risen-sealed g k page n (Receive Select) o = tt
+risen-sealed g k page n (Receive (AddressHigh t)) o = tt
+risen-sealed g k page n (Receive (AddressLow t high)) o = tt
+risen-sealed g k page n (Receive (Fill Array w)) o = tt
+risen-sealed g k page n (Receive (Fill Ident true)) o = none-risen g k page 0 n o
+risen-sealed g k page n (Receive (Fill Ident false)) o = tt
+risen-sealed g k page n (Receive LockByte) o = tt
+risen-sealed g k page n (Receive (LockTaken w)) o = o
+risen-sealed g k page n (Send t) o = tt
+risen-sealed g k page n (Busy (Writing Array)) o = tt
+risen-sealed g k page n (Busy (Writing Ident)) o = none-risen g k page 0 n o
+risen-sealed g k page n (Busy Locking) o = o
+
+lost-ident : (f : Facts) (c : Chip) (page : List ℕ) (m : Mem) (w : Loss) → Sealed (c .latch) (c .line .phase) → lostOf f c page m w .ident ≡ m .ident
+unfolding lostOf
+lost-ident f c page m Old o = refl
+lost-ident f c page m (Lent lock) o =
+    stored-ident f (c .line) (risenFrom (f .group) (c .latch) page 0 (f .page)) m (c .line .phase) (risen-sealed (f .group) (c .latch) page (f .page) (c .line .phase) o)
+
+store-ident : (page : List ℕ) (f : Facts) (c : Chip) (m : Mem) (e : Event) → Sealed (c .latch) (c .line .phase) → storeWith page f c m e .ident ≡ m .ident
+unfolding storeWith
+store-ident page f c m (Clock v) o = refl
+store-ident page f c m Start o = refl
+store-ident page f c m Stop o = refl
+store-ident page f c m Ends o = stored-ident f (c .line) (c .latch) m (c .line .phase) o
+store-ident page f c m PinLow o = refl
+store-ident page f c m PinHigh o = refl
+store-ident page f c m PinFloat o = refl
+store-ident page f c m (Reset w) o = lost-ident f c page m w o
+store-ident page f c m Unknown o = refl
 
 -- ---- an event keeps it
 
@@ -133,12 +181,13 @@ filled-sealed f k c Ident b l =
     (λ q. let z : emptyOf (set k (c .counter % f .page) b) ≡ true = let y = or-true (c .inhibited) (c .locked) l in cc in z)
 
 taken-sealed : (f : Facts) (en : ℕ) (k : List ℕ) (c : Core) (r : Recv) (b : ℕ) → c .locked ≡ true → Lands k (takenOf f en c r b)
-unfolding takenOf lockedByOf
+unfolding takenOf lockedByOf refusesOf
 taken-sealed f en k c Select b l = selected-sealed f k c b (decodeOf f en b)
 taken-sealed f en k c (AddressHigh t) b l = tt
 taken-sealed f en k c (AddressLow t high) b l = loaded-sealed f k c t (high * 256 + b)
 taken-sealed f en k c (Fill t w) b l = filled-sealed f k c t b l
-taken-sealed f en k c LockByte b l = branch (Lands k) (refusesOf c Ident) (λ _. tt) (λ _. tt)
+taken-sealed f en k c LockByte b l =
+    branch (Lands k) (refusesOf c Ident) (λ _. tt) (λ q. no-way (sym q ∙ or-true (c .inhibited) (c .locked) l))
 taken-sealed f en k c (LockTaken w) b l = tt
 
 received-sealed : (f : Facts) (en : ℕ) (k : List ℕ) (l : Line) (v : Bool) (r : Recv) (n : ℕ) → l .core .locked ≡ true → Sealed k (Receive r)
@@ -179,8 +228,8 @@ by-sealed k c true (Fill Array false) o = tt
 by-sealed k c true (Fill Ident true) o = o
 by-sealed k c true (Fill Ident false) o = tt
 by-sealed k c true LockByte o = tt
-by-sealed k c true (LockTaken true) o = tt
-by-sealed k c true (LockTaken false) o = tt
+by-sealed k c true (LockTaken true) o = absurd o
+by-sealed k c true (LockTaken false) o = absurd o
 
 stopped-sealed : (k : List ℕ) (l : Line) (ph : Phase) → l .phase ≡ ph → Sealed k ph → Sealed (latchOf k (stopActOf l ph)) (stoppedOf l ph .phase)
 unfolding stoppedOf stopActOf
@@ -215,29 +264,38 @@ next-sealed f en k l Ends h o = ended-sealed f k l (l .phase) refl o
 next-sealed f en k l PinLow h o = subst (Sealed k) (sym (pinned-phase l Low (l .phase))) o
 next-sealed f en k l PinHigh h o = subst (Sealed k) (sym (pinned-phase l High (l .phase))) o
 next-sealed f en k l PinFloat h o = subst (Sealed k) (sym (pinned-phase l Floating (l .phase))) o
-next-sealed f en k l Reset h o = tt
+next-sealed f en k l (Reset w) h o = tt
 next-sealed f en k l Unknown h o = o
 
-lock-stays : (ph : Phase) (e : Event) → lockAfter ph e true ≡ true
-lock-stays ph (Clock v) = refl
-lock-stays ph Start = refl
-lock-stays ph Stop = refl
-lock-stays Idle Ends = refl
-lock-stays (Receive r) Ends = refl
-lock-stays (Send t) Ends = refl
-lock-stays (Busy (Writing t)) Ends = refl
-lock-stays (Busy Locking) Ends = refl
-lock-stays ph PinLow = refl
-lock-stays ph PinHigh = refl
-lock-stays ph PinFloat = refl
-lock-stays ph Reset = refl
-lock-stays ph Unknown = refl
+lock-stays : (k : List ℕ) (ph : Phase) (e : Event) → Sealed k ph → lockAfter ph e true ≡ true
+lock-stays k ph (Clock v) o = refl
+lock-stays k ph Start o = refl
+lock-stays k ph Stop o = refl
+lock-stays k Idle Ends o = refl
+lock-stays k (Receive r) Ends o = refl
+lock-stays k (Send t) Ends o = refl
+lock-stays k (Busy (Writing t)) Ends o = refl
+lock-stays k (Busy Locking) Ends o = refl
+lock-stays k ph PinLow o = refl
+lock-stays k ph PinHigh o = refl
+lock-stays k ph PinFloat o = refl
+lock-stays k Idle (Reset w) o = refl
+lock-stays k (Receive r) (Reset w) o = refl
+lock-stays k (Send t) (Reset w) o = refl
+lock-stays k (Busy (Writing t)) (Reset w) o = refl
+lock-stays k (Busy Locking) (Reset w) o = absurd o
+lock-stays k ph Unknown o = refl
 
 -- ---- an accepted chip has it
 
 open-empty : (c : Core) (k : List ℕ) → c .locked ≡ true → openRightOf c k Ident ≡ true → emptyOf k ≡ true
 unfolding openRightOf
 open-empty c k l e = ap (λ (b : Bool). cond b (emptyOf k) true) (sym l) ∙ e
+
+-- on a locked page no lock is under way
+unlocked-not : (f : Facts) (c : Core) → c .locked ≡ true → unlockedRightOf f c ≡ true → ⊥
+unfolding unlockedRightOf
+unlocked-not f c l e = no-way (ap not (sym l) ∙ both (locationRightOf f c Ident) (not (c .locked)) e .1)
 
 recv-sealed : (f : Facts) (c : Core) (k : List ℕ) (left : ℕ) (r : Recv) → c .locked ≡ true → recvRightOf f c k left r ≡ true → Sealed k (Receive r)
 unfolding recvRightOf fillRightOf
@@ -249,20 +307,16 @@ recv-sealed f c k left (Fill Ident true) l e =
     open-empty c k l (both (ackedRightOf f c k left true) (openRightOf c k Ident) (both (locationRightOf f c Ident) (cond (ackedRightOf f c k left true) (openRightOf c k Ident) false) e .1) .1)
 recv-sealed f c k left (Fill Ident false) l e = tt
 recv-sealed f c k left LockByte l e = tt
-recv-sealed f c k left (LockTaken w) l e = tt
+recv-sealed f c k left (LockTaken w) l e = unlocked-not f c l e
 
 phase-sealed : (f : Facts) (c : Core) (k : List ℕ) (left : ℕ) (ph : Phase) → c .locked ≡ true → phaseRightOf f c k left ph ≡ true → Sealed k ph
-unfolding phaseRightOf cycleRightOf writingRightOf unlockedRightOf
+unfolding phaseRightOf cycleRightOf writingRightOf
 phase-sealed f c k left Idle l e = tt
 phase-sealed f c k left (Receive r) l e = recv-sealed f c k left r l (both (markRightOf c) (recvRightOf f c k left r) e .1)
 phase-sealed f c k left (Send t) l e = tt
 phase-sealed f c k left (Busy (Writing Array)) l e = tt
-phase-sealed f c k left (Busy (Writing Ident)) l e =
-    let u : not (c .locked) ≡ true =
-    both (locationRightOf f c Ident) (not (c .locked)) (both (cond (locationRightOf f c Ident) (not (c .locked)) false) (lastRightOf f c k) e .0) .1 in
-    let z : not true ≡ true = ap not (sym l) ∙ u in
-    cc
-phase-sealed f c k left (Busy Locking) l e = tt
+phase-sealed f c k left (Busy (Writing Ident)) l e = absurd (unlocked-not f c l (both (unlockedRightOf f c) (lastRightOf f c k) e .0))
+phase-sealed f c k left (Busy Locking) l e = unlocked-not f c l e
 
 accepted-sealed : (f : Facts) (c : Chip) → Locked c → inRangeOf f c ≡ true → Sealed (c .latch) (c .line .phase)
 accepted-sealed f c l e = phase-sealed f (c .line .core) (c .latch) (c .line .left) (c .line .phase) l (accepted-phase f c e)
@@ -277,15 +331,16 @@ record Shut (ident : List ℕ) (c : Chip) (m : Mem) : Type 0 where
 abbrev Shuts : List ℕ → Invariant
 Shuts ident c m n hs xs = Shut ident c m
 
-shut-step : (f : Facts) (en : ℕ) (ident : List ℕ) → Keeps (ours f en) Any (Shuts ident)
+shut-step : (w : PowerCut) (f : Facts) (en : ℕ) (ident : List ℕ) → Keeps (oursWith w f en) Any (Shuts ident)
 unfolding stateOf
-shut-step f en ident c m n hs xs e _ i =
-    record { lock = next-still f en (c .line) (eventOf e) .0 ∙ ap (lockAfter (c .line .phase) (eventOf e)) (i .lock) ∙ lock-stays (c .line .phase) (eventOf e); seal = next-sealed f en (c .latch) (c .line) (eventOf e) (i .lock) (i .seal); same = store-ident f c m (eventOf e) (i .seal) ∙ i .same }
+shut-step w f en ident c m n hs xs e _ i =
+    let d : Event = eventWith (w .loss) e in
+    record { lock = next-still f en (c .line) d .0 ∙ ap (lockAfter (c .line .phase) d) (i .lock) ∙ lock-stays (c .latch) (c .line .phase) d (i .seal); seal = next-sealed f en (c .latch) (c .line) d (i .lock) (i .seal); same = store-ident (w .page) f c m d (i .seal) ∙ i .same }
 
-pub lock-holds : LockHolds ours
-lock-holds f en c m es a l =
-    let r : Shut (m .ident) (afterOf (ours f en) c es) (memoryOf (ours f en) c m es) =
-    keeps (ours f en) Any (Shuts (m .ident)) (shut-step f en (m .ident)) es c m 0 [] [] (every es) record { lock = l; seal = accepted-sealed f c l a; same = refl } in
+pub lock-holds : (w : PowerCut) → LockHolds (oursWith w)
+lock-holds w f en c m es a l =
+    let r : Shut (m .ident) (afterOf (oursWith w f en) c es) (memoryOf (oursWith w f en) c m es) =
+    keeps (oursWith w f en) Any (Shuts (m .ident)) (shut-step w f en (m .ident)) es c m 0 [] [] (every es) record { lock = l; seal = accepted-sealed f c l a; same = refl } in
     (r .lock, r .same)
 
 pub calls-lock-holds : CallsLockHolds stepOf runOf
@@ -295,7 +350,7 @@ calls-lock-holds part en c m xs l = go (inRangeOf (factsOf part) c) refl
         → Locked (callsBy stepOf runOf part en (beforeCalls c m) xs .chip) × (callsBy stepOf runOf part en (beforeCalls c m) xs .mem .ident ≡ m .ident)
     go true a =
         let r : Shut (m .ident) (callsBy stepOf runOf part en (beforeCalls c m) xs .chip) (callsBy stepOf runOf part en (beforeCalls c m) xs .mem) =
-        calls-keep part en Any (Shuts (m .ident)) (shut-step (factsOf part) en (m .ident)) xs (beforeCalls c m) (every-call xs) record { lock = l; seal = accepted-sealed (factsOf part) c l a; same = refl } in
+        calls-keep part en Any (Shuts (m .ident)) (λ w. shut-step w (factsOf part) en (m .ident)) xs (beforeCalls c m) (every-call xs) record { lock = l; seal = accepted-sealed (factsOf part) c l a; same = refl } in
         (r .lock, r .same)
     go false a =
         let r : callsBy stepOf runOf part en (beforeCalls c m) xs ≡ beforeCalls c m = calls-out part en (beforeCalls c m) xs a in
@@ -303,4 +358,4 @@ calls-lock-holds part en c m xs l = go (inRangeOf (factsOf part) c) refl
 
 pub run-lock-holds : RunLockHolds runOf
 unfolding callsBy callBy afterRun
-run-lock-holds part en c m es a l = calls-lock-holds part en c m (many es a ∷ []) l
+run-lock-holds part en w c m es a l = calls-lock-holds part en c m (many w es a ∷ []) l

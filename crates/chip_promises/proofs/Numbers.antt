@@ -7,26 +7,26 @@ use mathlib.Core.List.{List, [], _∷_}
 use native.Mathlib.Decide.{ℕ-discrete, decLt}
 use Rattle.chip_promises.specs.Calls.{Deliver, Step, Run}
 use lib.ListN.{length, getD, replicate, length-replicate}
-use lib.Dec.{ltb}
+use lib.Dec.{eqb, ltb}
 use native.Mathlib.Omega.{arith}
-use borrow.Author.Tests.{lt-ltb, le-ltb}
+use borrow.Author.Tests.{lt-ltb, le-ltb, eq-eqb, ne-eqb}
 use Rattle.parts.specs.declared.Refusal.{Refusal}
 use Rattle.parts.specs.declared.Refusal.the-variants.{NoPart, WrongEnable, WrongBuffer, BadState, BadEvent, ShortBuffer, TooMany}
 use Rattle.parts.specs.declared.Verdict.{Verdict}
 use Rattle.parts.specs.declared.Verdict.the-variants.{Fine, Refused}
 use Rattle.parts.specs.Table.{factsOf, idSizeOf, buffersRightOf, enableRightOf}
-use Rattle.parts.specs.Events.{eventRightOf}
-use Rattle.parts.specs.Refusals.{rankOf, verdictNumberOf, verdictPlaceOf, claimOf, soonerOf, lentVerdictOf}
+use Rattle.parts.specs.Events.{eventRightOf, lossSizeOf}
+use Rattle.parts.specs.Refusals.{rankOf, verdictNumberOf, verdictPlaceOf, claimOf, soonerOf, lentVerdictOf, lossVerdictOf}
 use Rattle.parts.proofs.Laws.{known, unknown, buffers-right, buffers-wrong}
-use Rattle.parts.proofs.Claims.{Later, later-claim, later-sooner, given-first, lent-unknown, lent-wrong}
+use Rattle.parts.proofs.Claims.{Later, later-claim, later-sooner, given-first, unclaimed, lent-unknown, lent-wrong}
 use Rattle.state.specs.declared.Chip.{Chip}
 use Rattle.state.specs.Range.{marksRightOf, pinRightOf, lockRightOf, phaseRightOf, restRightOf, inRangeOf}
 use Rattle.chip.specs.Memory.{Mem, mem, noLatch}
 use Rattle.chip.specs.Delivery.{pinAtFirstOf, standbyOf}
-use Rattle.chip.specs.Model.{ours}
-use Rattle.chip.specs.Calls.{deliverVerdictOf, deliverOf, heldVerdictOf, stepVerdictOf, stepBy, stepOf, scanOf, runVerdictOf, runBy, runOf}
+use Rattle.chip.specs.Model.{PowerCut, old, oursWith}
+use Rattle.chip.specs.Calls.{deliverVerdictOf, deliverOf, heldVerdictOf, cutVerdictOf, stepVerdictOf, stepBy, stepOf, scanOf, runVerdictOf, runBy, runOf}
 use Rattle.chip.proofs.Laws.{fine-held, held-out, scan-later, step-behind, run-behind}
-use Rattle.chip_promises.specs.Numbers.{Lent, Named, Ready, TakenTo, DeliverNumbers, StepNumbers, RunNumbers, OneChipNumber, stepNumber, runVerdictBy, runNumber, eager, EagerBreaks}
+use Rattle.chip_promises.specs.Numbers.{Lent, PageLent, Named, Ready, ReadyWith, TakenTo, DeliverNumbers, StepNumbers, RunNumbers, OneChipNumber, stepNumber, runVerdictBy, runNumber, eager, EagerBreaks}
 
 -- ---- delivery: 1, 3
 
@@ -114,41 +114,100 @@ module _ (part en : ℕ) (c : Chip) (m : Mem) where
         ranged = r .ranged;
       }
 
+-- ---- with the page that is lent for a loss of power: 3 too
+
+module _ (part en : ℕ) (w : PowerCut) (c : Chip) (n d : ℕ) where
+  abbrev lost : Verdict
+  lost = lossVerdictOf (factsOf part) (w .loss) (length (w .page))
+
+  -- 1 and 2 go before it
+  cut-before : (r : Refusal) → rankOf r < rankOf WrongBuffer → heldVerdictOf part en c n d ≡ Refused r → cutVerdictOf part en w c n d ≡ Refused r
+  unfolding cutVerdictOf lossVerdictOf soonerOf
+  cut-before r h e = ap (soonerOf lost) e ∙ go (eqb (length (w .page)) (lossSizeOf (factsOf part) (w .loss)))
+    where
+      go : (b : Bool) → soonerOf (claimOf (not b) WrongBuffer) (Refused r) ≡ Refused r
+      go true = refl
+      go false = rw (lt-ltb (rankOf r) (rankOf WrongBuffer) h) refl
+
+  cut-held : PageLent part w → cutVerdictOf part en w c n d ≡ heldVerdictOf part en c n d
+  unfolding cutVerdictOf lossVerdictOf soonerOf
+  cut-held h = rw (eq-eqb (length (w .page)) (lossSizeOf (factsOf part) (w .loss)) h) refl
+
+  -- whatever else is wrong has at least its rank
+  held-later : part ≤ 5 → en < factsOf part .enables → Later (rankOf WrongBuffer) (heldVerdictOf part en c n d)
+  unfolding heldVerdictOf lentVerdictOf
+  held-later k e =
+      let r = rankOf WrongBuffer in
+      let lent = claimOf (not (buffersRightOf (factsOf part) n d)) WrongBuffer in
+      later-sooner r (soonerOf (claimOf (not (factsOf part .known)) NoPart) lent) (soonerOf (enable part en c n d) (state part en c n d))
+      (later-sooner r (claimOf (not (factsOf part .known)) NoPart) lent (unclaimed r (not (factsOf part .known)) NoPart (ap not (known part k))) (later-claim r (not (buffersRightOf (factsOf part) n d)) WrongBuffer (omega arith)))
+      (later-sooner r (enable part en c n d) (state part en c n d) (unclaimed r (not (enableRightOf (factsOf part) en)) WrongEnable (ap not (enabled part en c n d e)))
+      (later-claim r (not (inRangeOf (factsOf part) c)) BadState (omega arith)))
+
+  cut-lost : part ≤ 5 → en < factsOf part .enables → (PageLent part w → ⊥) → cutVerdictOf part en w c n d ≡ Refused WrongBuffer
+  unfolding cutVerdictOf lossVerdictOf
+  cut-lost k e h =
+      ap (λ (b : Bool). soonerOf (claimOf (not b) WrongBuffer) (heldVerdictOf part en c n d)) (ne-eqb (length (w .page)) (lossSizeOf (factsOf part) (w .loss)) h)
+      ∙ given-first WrongBuffer (heldVerdictOf part en c n d) (held-later k e)
+
+  cut-1 : 5 < part → cutVerdictOf part en w c n d ≡ Refused NoPart
+  cut-1 h = cut-before NoPart (omega arith) (held-1 part en c n d h)
+
+  cut-2 : part ≤ 5 → factsOf part .enables ≤ en → cutVerdictOf part en w c n d ≡ Refused WrongEnable
+  cut-2 k h = cut-before WrongEnable (omega arith) (held-2 part en c n d k h)
+
+  cut-3 : part ≤ 5 → en < factsOf part .enables → ((n ≡ factsOf part .size) × (d ≡ idSizeOf (factsOf part)) × PageLent part w → ⊥) → cutVerdictOf part en w c n d ≡ Refused WrongBuffer
+  cut-3 k e h = go (ℕ-discrete (length (w .page)) (lossSizeOf (factsOf part) (w .loss)))
+    where
+      go : Dec (PageLent part w) → cutVerdictOf part en w c n d ≡ Refused WrongBuffer
+      go (no l) = cut-lost k e l
+      go (yes l) = cut-held l ∙ held-3 part en c n d k e (λ b. h (b .0, b .1, l))
+
+module _ (part en : ℕ) (w : PowerCut) (c : Chip) (m : Mem) where
+  abbrev cut : Verdict
+  cut = cutVerdictOf part en w c (length (m .cells)) (length (m .ident))
+
+  cut-4 : Named part en m → PageLent part w → inRangeOf (factsOf part) c ≡ false → cut ≡ Refused BadState
+  cut-4 a l o = cut-held part en w c (length (m .cells)) (length (m .ident)) l ∙ held-4 part en c m a o
+
+  cut-0 : ReadyWith part en w c m → cut ≡ Fine
+  cut-0 r = cut-held part en w c (length (m .cells)) (length (m .ident)) (r .1) ∙ held-0 part en c m (r .0)
+
 -- ---- one event
 
-step-number : (part en : ℕ) (c : Chip) (m : Mem) (e : ℕ) (v : Verdict) → stepVerdictOf part en c (length (m .cells)) (length (m .ident)) e ≡ v
-    → verdictNumberOf (stepOf part en c m e .answer .verdict) ≡ verdictNumberOf v
-step-number part en c m e v h = ap (λ (w : Verdict). verdictNumberOf (stepBy (ours (factsOf part) en) c m e w .verdict)) h ∙ by v
+step-number : (part en : ℕ) (w : PowerCut) (c : Chip) (m : Mem) (e : ℕ) (v : Verdict) → stepVerdictOf part en w c (length (m .cells)) (length (m .ident)) e ≡ v
+    → verdictNumberOf (stepOf part en w c m e .answer .verdict) ≡ verdictNumberOf v
+step-number part en w c m e v h = ap (λ (x : Verdict). verdictNumberOf (stepBy (oursWith w (factsOf part) en) c m e x .verdict)) h ∙ by v
   where
-    by : (w : Verdict) → verdictNumberOf (stepBy (ours (factsOf part) en) c m e w .verdict) ≡ verdictNumberOf w
+    by : (x : Verdict) → verdictNumberOf (stepBy (oursWith w (factsOf part) en) c m e x .verdict) ≡ verdictNumberOf x
     by Fine = refl
     by (Refused r) = refl
 
-module _ (part en : ℕ) (c : Chip) (m : Mem) (e : ℕ) where
-  step-held : (r : Refusal) → rankOf r ≤ rankOf BadState → held part en c m ≡ Refused r → verdictNumberOf (stepOf part en c m e .answer .verdict) ≡ verdictNumberOf (Refused r)
+module _ (part en : ℕ) (w : PowerCut) (c : Chip) (m : Mem) (e : ℕ) where
+  step-cut : (r : Refusal) → rankOf r ≤ rankOf BadState → cut part en w c m ≡ Refused r → verdictNumberOf (stepOf part en w c m e .answer .verdict) ≡ verdictNumberOf (Refused r)
   unfolding stepVerdictOf
-  step-held r low h =
-      step-number part en c m e (Refused r)
+  step-cut r low h =
+      step-number part en w c m e (Refused r)
       (ap (λ (v : Verdict). soonerOf v (claimOf (not (eventRightOf (factsOf part .pin) e)) (BadEvent 0))) h ∙ step-behind r part e low)
 
-  step-ready : (b : Bool) → Ready part en c m → eventRightOf (factsOf part .pin) e ≡ b → verdictNumberOf (stepOf part en c m e .answer .verdict) ≡ verdictNumberOf (claimOf (not b) (BadEvent 0))
+  step-ready : (b : Bool) → ReadyWith part en w c m → eventRightOf (factsOf part .pin) e ≡ b → verdictNumberOf (stepOf part en w c m e .answer .verdict) ≡ verdictNumberOf (claimOf (not b) (BadEvent 0))
   unfolding stepVerdictOf soonerOf
   step-ready b r h =
-      step-number part en c m e (claimOf (not b) (BadEvent 0))
-      (ap (λ (v : Verdict). soonerOf v (claimOf (not (eventRightOf (factsOf part .pin) e)) (BadEvent 0))) (held-0 part en c m r)
+      step-number part en w c m e (claimOf (not b) (BadEvent 0))
+      (ap (λ (v : Verdict). soonerOf v (claimOf (not (eventRightOf (factsOf part .pin) e)) (BadEvent 0))) (cut-0 part en w c m r)
       ∙ ap (λ (x : Bool). claimOf (not x) (BadEvent 0)) h)
 
 pub step-numbers : StepNumbers stepOf
-step-numbers part en c m e =
+step-numbers part en w c m e =
     let n = length (m .cells) in
     let d = length (m .ident) in
     record {
-      no-part = λ h. step-held part en c m e NoPart (omega arith) (held-1 part en c n d h);
-      wrong-enable = λ k h. step-held part en c m e WrongEnable (omega arith) (held-2 part en c n d k h);
-      wrong-buffer = λ k h w. step-held part en c m e WrongBuffer (omega arith) (held-3 part en c n d k h w);
-      bad-state = λ a o. step-held part en c m e BadState (omega arith) (held-4 part en c m a o);
-      bad-event = λ r h. step-ready part en c m e false r h;
-      none = λ r h. step-ready part en c m e true r h;
+      no-part = λ h. step-cut part en w c m e NoPart (omega arith) (cut-1 part en w c n d h);
+      wrong-enable = λ k h. step-cut part en w c m e WrongEnable (omega arith) (cut-2 part en w c n d k h);
+      wrong-buffer = λ k h l. step-cut part en w c m e WrongBuffer (omega arith) (cut-3 part en w c n d k h (λ b. l ((b .0, b .1), b .2)));
+      bad-state = λ a l o. step-cut part en w c m e BadState (omega arith) (cut-4 part en w c m a l o);
+      bad-event = λ r h. step-ready part en w c m e false r h;
+      none = λ r h. step-ready part en w c m e true r h;
     }
 
 -- ---- a list of events
@@ -164,35 +223,35 @@ scan-clean : (pin : Bool) (s : ℕ) (es : List ℕ) → ((j : ℕ) → j < lengt
 scan-clean pin s [] t = refl
 scan-clean pin s (e ∷ es) t = rw (t 0 (omega arith)) (scan-clean pin (suc s) es (λ j i. t (suc j) (omega arith)))
 
-run-verdict : (part en : ℕ) (c : Chip) (m : Mem) (es a : List ℕ) → runOf part en c m es a .answer .verdict ≡ runVerdictOf part en c (length (m .cells)) (length (m .ident)) es (length a)
-run-verdict part en c m es a = by (runVerdictOf part en c (length (m .cells)) (length (m .ident)) es (length a))
+run-verdict : (part en : ℕ) (w : PowerCut) (c : Chip) (m : Mem) (es a : List ℕ) → runOf part en w c m es a .answer .verdict ≡ runVerdictOf part en w c (length (m .cells)) (length (m .ident)) es (length a)
+run-verdict part en w c m es a = by (runVerdictOf part en w c (length (m .cells)) (length (m .ident)) es (length a))
   where
-    by : (w : Verdict) → runBy (ours (factsOf part) en) c es w .verdict ≡ w
+    by : (x : Verdict) → runBy (oursWith w (factsOf part) en) c es x .verdict ≡ x
     by Fine = refl
     by (Refused r) = refl
 
-module _ (part en : ℕ) (c : Chip) (m : Mem) (es a : List ℕ) where
+module _ (part en : ℕ) (w : PowerCut) (c : Chip) (m : Mem) (es a : List ℕ) where
   abbrev scan : Verdict
   scan = scanOf (factsOf part .pin) 0 es
 
   abbrev short : Verdict
   short = claimOf (ltb (length a) (length es)) ShortBuffer
 
-  run-held : (r : Refusal) → rankOf r ≤ rankOf BadState → held part en c m ≡ Refused r → verdictNumberOf (runOf part en c m es a .answer .verdict) ≡ verdictNumberOf (Refused r)
+  run-cut : (r : Refusal) → rankOf r ≤ rankOf BadState → cut part en w c m ≡ Refused r → verdictNumberOf (runOf part en w c m es a .answer .verdict) ≡ verdictNumberOf (Refused r)
   unfolding runVerdictOf
-  run-held r low h =
+  run-cut r low h =
       ap verdictNumberOf
-      (run-verdict part en c m es a
+      (run-verdict part en w c m es a
       ∙ (ap (λ (v : Verdict). soonerOf v (soonerOf (claimOf (ltb 32768 (length es)) TooMany) (soonerOf scan short))) h ∙ run-behind r part es (length a) low))
 
   -- 1 to 4 do not apply
-  ready : Ready part en c m → runOf part en c m es a .answer .verdict ≡ soonerOf (claimOf (ltb 32768 (length es)) TooMany) (soonerOf scan short)
+  ready : ReadyWith part en w c m → runOf part en w c m es a .answer .verdict ≡ soonerOf (claimOf (ltb 32768 (length es)) TooMany) (soonerOf scan short)
   unfolding runVerdictOf soonerOf
   ready r =
-      run-verdict part en c m es a
-      ∙ ap (λ (v : Verdict). soonerOf v (soonerOf (claimOf (ltb 32768 (length es)) TooMany) (soonerOf scan short))) (held-0 part en c m r)
+      run-verdict part en w c m es a
+      ∙ ap (λ (v : Verdict). soonerOf v (soonerOf (claimOf (ltb 32768 (length es)) TooMany) (soonerOf scan short))) (cut-0 part en w c m r)
 
-  many : Ready part en c m → 32768 < length es → runOf part en c m es a .answer .verdict ≡ Refused TooMany
+  many : ReadyWith part en w c m → 32768 < length es → runOf part en w c m es a .answer .verdict ≡ Refused TooMany
   many r h =
       ready r
       ∙ ap (λ (b : Bool). soonerOf (claimOf b TooMany) (soonerOf scan short)) (lt-ltb 32768 (length es) h)
@@ -200,36 +259,36 @@ module _ (part en : ℕ) (c : Chip) (m : Mem) (es a : List ℕ) where
       (later-sooner (rankOf TooMany) scan short (scan-later (rankOf TooMany) (factsOf part .pin) 0 es (omega arith)) (later-claim (rankOf TooMany) (ltb (length a) (length es)) ShortBuffer (omega arith)))
 
   -- nor does 13
-  few : Ready part en c m → length es ≤ 32768 → runOf part en c m es a .answer .verdict ≡ soonerOf scan short
+  few : ReadyWith part en w c m → length es ≤ 32768 → runOf part en w c m es a .answer .verdict ≡ soonerOf scan short
   unfolding soonerOf
   few r h = ready r ∙ ap (λ (b : Bool). soonerOf (claimOf b TooMany) (soonerOf scan short)) (le-ltb 32768 (length es) h)
 
-  bad : (k : ℕ) → Ready part en c m → length es ≤ 32768 → k < length es → TakenTo part k es → eventRightOf (factsOf part .pin) (getD es k 0) ≡ false
-      → runOf part en c m es a .answer .verdict ≡ Refused (BadEvent k)
+  bad : (k : ℕ) → ReadyWith part en w c m → length es ≤ 32768 → k < length es → TakenTo part k es → eventRightOf (factsOf part .pin) (getD es k 0) ≡ false
+      → runOf part en w c m es a .answer .verdict ≡ Refused (BadEvent k)
   bad k r h i t b =
       few r h
       ∙ ap (λ (v : Verdict). soonerOf v short) (scan-at (factsOf part .pin) 0 k es i t b ∙ ap (λ (n : ℕ). Refused (BadEvent n)) (omega arith))
       ∙ given-first (BadEvent k) short (later-claim (rankOf (BadEvent k)) (ltb (length a) (length es)) ShortBuffer (omega arith))
 
-  room : (b : Bool) → Ready part en c m → length es ≤ 32768 → TakenTo part (length es) es → ltb (length a) (length es) ≡ b
-      → runOf part en c m es a .answer .verdict ≡ claimOf b ShortBuffer
+  room : (b : Bool) → ReadyWith part en w c m → length es ≤ 32768 → TakenTo part (length es) es → ltb (length a) (length es) ≡ b
+      → runOf part en w c m es a .answer .verdict ≡ claimOf b ShortBuffer
   unfolding soonerOf
   room b r h t e =
       few r h ∙ ap (λ (v : Verdict). soonerOf v short) (scan-clean (factsOf part .pin) 0 es t) ∙ ap (λ (x : Bool). claimOf x ShortBuffer) e
 
 pub run-numbers : RunNumbers runOf
-run-numbers part en c m es a =
+run-numbers part en w c m es a =
     let n = length (m .cells) in
     let d = length (m .ident) in
     record {
-      no-part = λ h. run-held part en c m es a NoPart (omega arith) (held-1 part en c n d h);
-      wrong-enable = λ k h. run-held part en c m es a WrongEnable (omega arith) (held-2 part en c n d k h);
-      wrong-buffer = λ k h w. run-held part en c m es a WrongBuffer (omega arith) (held-3 part en c n d k h w);
-      bad-state = λ q o. run-held part en c m es a BadState (omega arith) (held-4 part en c m q o);
-      too-many = λ r h. ap verdictNumberOf (many part en c m es a r h);
-      bad-event = λ k r h i t b. (ap verdictNumberOf (bad part en c m es a k r h i t b), ap verdictPlaceOf (bad part en c m es a k r h i t b));
-      short-buffer = λ r h t s. ap verdictNumberOf (room part en c m es a true r h t (lt-ltb (length a) (length es) s));
-      none = λ r h t s. ap verdictNumberOf (room part en c m es a false r h t (le-ltb (length a) (length es) s));
+      no-part = λ h. run-cut part en w c m es a NoPart (omega arith) (cut-1 part en w c n d h);
+      wrong-enable = λ k h. run-cut part en w c m es a WrongEnable (omega arith) (cut-2 part en w c n d k h);
+      wrong-buffer = λ k h l. run-cut part en w c m es a WrongBuffer (omega arith) (cut-3 part en w c n d k h (λ b. l ((b .0, b .1), b .2)));
+      bad-state = λ q l o. run-cut part en w c m es a BadState (omega arith) (cut-4 part en w c m q l o);
+      too-many = λ r h. ap verdictNumberOf (many part en w c m es a r h);
+      bad-event = λ k r h i t b. (ap verdictNumberOf (bad part en w c m es a k r h i t b), ap verdictPlaceOf (bad part en w c m es a k r h i t b));
+      short-buffer = λ r h t s. ap verdictNumberOf (room part en w c m es a true r h t (lt-ltb (length a) (length es) s));
+      none = λ r h t s. ap verdictNumberOf (room part en w c m es a false r h t (le-ltb (length a) (length es) s));
     }
 
 -- ---- 5 before 13
@@ -244,17 +303,17 @@ chip₀ = standbyOf (factsOf 0) false
 abbrev events : List ℕ
 events = replicate 32769 9
 
-ready₀ : Ready 0 0 chip₀ mem₀
+ready₀ : ReadyWith 0 0 old chip₀ mem₀
 unfolding factsOf idSizeOf marksRightOf pinRightOf lockRightOf phaseRightOf restRightOf inRangeOf standbyOf pinAtFirstOf noLatch
-ready₀ = record { named = record { known = omega arith; enabled = omega arith; lent = (refl, refl) }; ranged = refl }
+ready₀ = (record { named = record { known = omega arith; enabled = omega arith; lent = (refl, refl) }; ranged = refl }, refl)
 
-eager-5 : verdictNumberOf (eager 0 0 chip₀ mem₀ events [] .answer .verdict) ≡ 5
-unfolding heldVerdictOf soonerOf lentVerdictOf factsOf idSizeOf enableRightOf eventRightOf buffersRightOf marksRightOf pinRightOf lockRightOf phaseRightOf restRightOf inRangeOf standbyOf pinAtFirstOf noLatch
+eager-5 : verdictNumberOf (eager 0 0 old chip₀ mem₀ events [] .answer .verdict) ≡ 5
+unfolding cutVerdictOf heldVerdictOf soonerOf lossVerdictOf lentVerdictOf factsOf idSizeOf enableRightOf eventRightOf buffersRightOf marksRightOf pinRightOf lockRightOf phaseRightOf restRightOf inRangeOf standbyOf pinAtFirstOf noLatch
 eager-5 = refl
 
 pub eager-breaks : EagerBreaks
 eager-breaks p =
-    let q = p 0 0 chip₀ mem₀ events [] .too-many ready₀ (omega (arith, length-replicate {A = ℕ} 32769 9)) in
+    let q = p 0 0 old chip₀ mem₀ events [] .too-many ready₀ (omega (arith, length-replicate {A = ℕ} 32769 9)) in
     let z : _≡_ {A = ℕ} 5 13 = sym eager-5 ∙ q in
     omega arith
 
@@ -290,6 +349,18 @@ module _ {G : Type 0} (part en : ℕ) (c : Chip) (m : Mem) where
           lent-or-not (λ l. state record { known = k; enabled = h; lent = l } (inRangeOf (factsOf part) c) refl) (λ w. f3 k h w)
       enables k (no h) = f2 k (omega (arith, h))
 
+-- the same with the page that is lent for a loss of power
+cut-or-not : {G : Type 0} (part en : ℕ) (w : PowerCut) (c : Chip) (m : Mem) → (5 < part → G) → (part ≤ 5 → factsOf part .enables ≤ en → G)
+    → (part ≤ 5 → en < factsOf part .enables → (Lent part m × PageLent part w → ⊥) → G)
+    → (Named part en m → PageLent part w → inRangeOf (factsOf part) c ≡ false → G) → (ReadyWith part en w c m → G) → G
+cut-or-not {G} part en w c m f1 f2 f3 f4 f0 = go (ℕ-discrete (length (w .page)) (lossSizeOf (factsOf part) (w .loss)))
+  where
+    go : Dec (PageLent part w) → G
+    go (yes l) = held-or-not part en c m f1 f2 (λ k h b. f3 k h (λ z. b (z .0))) (λ n h. f4 n l h) (λ r. f0 (r, l))
+    go (no l) =
+        held-or-not part en c m f1 f2 (λ k h b. f3 k h (λ z. l (z .1)))
+        (λ n h. f3 (n .known) (n .enabled) (λ z. l (z .1))) (λ r. f3 (r .named .known) (r .named .enabled) (λ z. l (z .1)))
+
 -- the first event below n that the part does not take, or none
 first-wrong : {G : Type 0} (part : ℕ) (es : List ℕ) (n : ℕ) → (TakenTo part n es → G)
     → ((k : ℕ) → k < n → TakenTo part k es → eventRightOf (factsOf part .pin) (getD es k 0) ≡ false → G) → G
@@ -314,51 +385,51 @@ one-deliver D E p q part m =
     (λ k. lent-or-not part 0 chip₀ m (λ l. p .none part m k l ∙ sym (q .none part m k l)) (λ w. p .wrong-buffer part m k w ∙ sym (q .wrong-buffer part m k w)))
 
 one-step : (S T : Step) → StepNumbers S → StepNumbers T
-    → (part en : ℕ) (c : Chip) (m : Mem) (e : ℕ) → stepNumber S part en c m e ≡ stepNumber T part en c m e
-one-step S T p q part en c m e =
-    let a = p part en c m e in
-    let b = q part en c m e in
-    held-or-not part en c m (λ h. a .no-part h ∙ sym (b .no-part h)) (λ k h. a .wrong-enable k h ∙ sym (b .wrong-enable k h))
-    (λ k h w. a .wrong-buffer k h w ∙ sym (b .wrong-buffer k h w)) (λ n h. a .bad-state n h ∙ sym (b .bad-state n h))
+    → (part en : ℕ) (w : PowerCut) (c : Chip) (m : Mem) (e : ℕ) → stepNumber S part en w c m e ≡ stepNumber T part en w c m e
+one-step S T p q part en w c m e =
+    let a = p part en w c m e in
+    let b = q part en w c m e in
+    cut-or-not part en w c m (λ h. a .no-part h ∙ sym (b .no-part h)) (λ k h. a .wrong-enable k h ∙ sym (b .wrong-enable k h))
+    (λ k h l. a .wrong-buffer k h l ∙ sym (b .wrong-buffer k h l)) (λ n l h. a .bad-state n l h ∙ sym (b .bad-state n l h))
     (λ r. go r (eventRightOf (factsOf part .pin) e) refl)
   where
-    go : Ready part en c m → (x : Bool) → eventRightOf (factsOf part .pin) e ≡ x → stepNumber S part en c m e ≡ stepNumber T part en c m e
-    go r true h = p part en c m e .none r h ∙ sym (q part en c m e .none r h)
-    go r false h = p part en c m e .bad-event r h ∙ sym (q part en c m e .bad-event r h)
+    go : ReadyWith part en w c m → (x : Bool) → eventRightOf (factsOf part .pin) e ≡ x → stepNumber S part en w c m e ≡ stepNumber T part en w c m e
+    go r true h = p part en w c m e .none r h ∙ sym (q part en w c m e .none r h)
+    go r false h = p part en w c m e .bad-event r h ∙ sym (q part en w c m e .bad-event r h)
 
-module _ (R Q : Run) (p : RunNumbers R) (q : RunNumbers Q) (part en : ℕ) (c : Chip) (m : Mem) (es a : List ℕ) where
+module _ (R Q : Run) (p : RunNumbers R) (q : RunNumbers Q) (part en : ℕ) (w : PowerCut) (c : Chip) (m : Mem) (es a : List ℕ) where
   abbrev Same : Type 0
   Same =
-      (runNumber R part en c m es a ≡ runNumber Q part en c m es a)
-      × (runNumber R part en c m es a ≡ 5 → verdictPlaceOf (runVerdictBy R part en c m es a) ≡ verdictPlaceOf (runVerdictBy Q part en c m es a))
+      (runNumber R part en w c m es a ≡ runNumber Q part en w c m es a)
+      × (runNumber R part en w c m es a ≡ 5 → verdictPlaceOf (runVerdictBy R part en w c m es a) ≡ verdictPlaceOf (runVerdictBy Q part en w c m es a))
 
   -- another number than 5
-  not-5 : (k : ℕ) → (k ≡ 5 → ⊥) → runNumber R part en c m es a ≡ k → runNumber Q part en c m es a ≡ k → Same
+  not-5 : (k : ℕ) → (k ≡ 5 → ⊥) → runNumber R part en w c m es a ≡ k → runNumber Q part en w c m es a ≡ k → Same
   not-5 k n x y = (x ∙ sym y, λ z. absurd (n (sym x ∙ z)))
 
-  same-room : Ready part en c m → length es ≤ 32768 → TakenTo part (length es) es → Dec (length a < length es) → Same
-  same-room r l t (yes h) = not-5 6 (λ e. omega (arith, e)) (p part en c m es a .short-buffer r l t h) (q part en c m es a .short-buffer r l t h)
+  same-room : ReadyWith part en w c m → length es ≤ 32768 → TakenTo part (length es) es → Dec (length a < length es) → Same
+  same-room r l t (yes h) = not-5 6 (λ e. omega (arith, e)) (p part en w c m es a .short-buffer r l t h) (q part en w c m es a .short-buffer r l t h)
   same-room r l t (no h) =
-      not-5 0 (λ e. omega (arith, e)) (p part en c m es a .none r l t (omega (arith, h))) (q part en c m es a .none r l t (omega (arith, h)))
+      not-5 0 (λ e. omega (arith, e)) (p part en w c m es a .none r l t (omega (arith, h))) (q part en w c m es a .none r l t (omega (arith, h)))
 
-  same-events : Ready part en c m → Dec (32768 < length es) → Same
-  same-events r (yes h) = not-5 13 (λ e. omega (arith, e)) (p part en c m es a .too-many r h) (q part en c m es a .too-many r h)
+  same-events : ReadyWith part en w c m → Dec (32768 < length es) → Same
+  same-events r (yes h) = not-5 13 (λ e. omega (arith, e)) (p part en w c m es a .too-many r h) (q part en w c m es a .too-many r h)
   same-events r (no h) =
       let l : length es ≤ 32768 = omega (arith, h) in
       first-wrong part es (length es) (λ t. same-room r l t (decLt (length a) (length es)))
       (λ k i t e.
-      let x = p part en c m es a .bad-event k r l i t e in
-      let y = q part en c m es a .bad-event k r l i t e in
+      let x = p part en w c m es a .bad-event k r l i t e in
+      let y = q part en w c m es a .bad-event k r l i t e in
       (x .0 ∙ sym (y .0), λ _. x .1 ∙ sym (y .1)))
 
   one-run : Same
   one-run =
-      let x = p part en c m es a in
-      let y = q part en c m es a in
-      held-or-not part en c m (λ h. not-5 1 (λ e. omega (arith, e)) (x .no-part h) (y .no-part h))
+      let x = p part en w c m es a in
+      let y = q part en w c m es a in
+      cut-or-not part en w c m (λ h. not-5 1 (λ e. omega (arith, e)) (x .no-part h) (y .no-part h))
       (λ k h. not-5 2 (λ e. omega (arith, e)) (x .wrong-enable k h) (y .wrong-enable k h))
-      (λ k h w. not-5 3 (λ e. omega (arith, e)) (x .wrong-buffer k h w) (y .wrong-buffer k h w))
-      (λ n h. not-5 4 (λ e. omega (arith, e)) (x .bad-state n h) (y .bad-state n h)) (λ r. same-events r (decLt 32768 (length es)))
+      (λ k h l. not-5 3 (λ e. omega (arith, e)) (x .wrong-buffer k h l) (y .wrong-buffer k h l))
+      (λ n l h. not-5 4 (λ e. omega (arith, e)) (x .bad-state n l h) (y .bad-state n l h)) (λ r. same-events r (decLt 32768 (length es)))
 
 pub one-chip-number : OneChipNumber
 one-chip-number = record { deliver = one-deliver; step = one-step; run = one-run }

@@ -17,7 +17,9 @@ use Rattle.parts.specs.declared.Facts.{Facts}
 use Rattle.parts.specs.declared.Event.{Event}
 use Rattle.parts.specs.declared.Event.the-variants.{Clock, Start, Stop, Ends, PinLow, PinHigh, PinFloat, Reset, Unknown}
 use Rattle.parts.specs.Table.{factsOf, pagesOf}
-use Rattle.parts.specs.Events.{eventOf}
+use Rattle.parts.specs.declared.Loss.{Loss}
+use Rattle.parts.specs.declared.Loss.the-variants.{Old, Lent}
+use Rattle.parts.specs.Events.{eventWith}
 use Rattle.parts.specs.Bytes.{flagOf, sameOf}
 use Rattle.parts.proofs.Laws.{branch}
 use Rattle.parts.proofs.Bytes.{flag-below, same-eq}
@@ -37,10 +39,10 @@ use Rattle.line.specs.declared.CycleAsked.the-variants.{NoCycle, For}
 use Rattle.line.specs.Rules.{receivedOf, sentOf, clockedOf, startedOf, stoppedBy, begunBy, dueOf, placedOf, asksOf, stoppedOf, stopBegunOf, endedByOf, endedOf, pinnedOf, resetOf, nextOf, begunOf, takenOf}
 use Rattle.parts.specs.Sound.{Sound}
 use Rattle.state.specs.declared.Chip.{Chip}
-use Rattle.chip.specs.Memory.{Mem, mem, oneOf, enteredOf, counterPageOf, committedOf, cycleStoredOf, storedOf, storeOf, stateOf}
+use Rattle.chip.specs.Memory.{Mem, mem, oneOf, enteredOf, counterPageOf, committedOf, cycleStoredOf, storedOf, risenFrom, lostOf, storeWith, stateOf}
 use Rattle.chip.specs.Delivery.{standbyOf, deliveredOf}
 use Rattle.chip_promises.specs.States.{NotBusy}
-use Rattle.chip.specs.Model.{ours}
+use Rattle.chip.specs.Model.{PowerCut, oursWith}
 use Rattle.chip.specs.Calls.{deliverOf, stepOf, runOf}
 use Rattle.chip_promises.specs.Calls.{many, beforeCalls, afterRun, callBy, callsBy}
 use Rattle.chip_promises.specs.Pages.{pageOf, countOf, differingOf, PagesAtMostCycles, PagesFromDelivery, CallsPagesFromDelivery, CountsEveryPage, CoarseBreaks}
@@ -86,15 +88,15 @@ differing-none f m =
 
 -- ---- what entering a page leaves alone
 
-one-other : (s : List ℕ) (i x j : ℕ) → j ≢ i → getD (oneOf s i x) j 0 ≡ getD s j 0
+pub one-other : (s : List ℕ) (i x j : ℕ) → j ≢ i → getD (oneOf s i x) j 0 ≡ getD s j 0
 unfolding oneOf
 one-other s i x j d = branch (λ (l : List ℕ). getD l j 0 ≡ getD s j 0) (ltb x 256) (λ _. getD-set-other s i j x 0 d) (λ _. refl)
 
-entered-before : (s : List ℕ) (i : ℕ) (xs : List ℕ) (j : ℕ) → j < i → getD (enteredOf s i xs) j 0 ≡ getD s j 0
+pub entered-before : (s : List ℕ) (i : ℕ) (xs : List ℕ) (j : ℕ) → j < i → getD (enteredOf s i xs) j 0 ≡ getD s j 0
 entered-before s i [] j h = refl
 entered-before s i (x ∷ xs) j h = entered-before (oneOf s i x) (suc i) xs j (omega arith) ∙ one-other s i x j (omega arith)
 
-entered-past : (s : List ℕ) (i : ℕ) (xs : List ℕ) (j : ℕ) → i + length xs ≤ j → getD (enteredOf s i xs) j 0 ≡ getD s j 0
+pub entered-past : (s : List ℕ) (i : ℕ) (xs : List ℕ) (j : ℕ) → i + length xs ≤ j → getD (enteredOf s i xs) j 0 ≡ getD s j 0
 entered-past s i [] j h = refl
 entered-past s i (x ∷ xs) j h = entered-past (oneOf s i x) (suc i) xs j (omega arith) ∙ one-other s i x j (omega arith)
 
@@ -146,6 +148,11 @@ stored-one f l k m m₀ (Busy (Writing Array)) =
           (pagesOf f)
           (λ i d. ap (λ (s : List ℕ). not (sameOf s (pageOf (f .page) i (m₀ .cells)))) (page-other (f .page) i (l .core .counter / f .page) (take (f .page) k) (m .cells) (omega (arith, length-take (f .page) k)) d)),
     )
+
+lost-one : (f : Facts) (c : Chip) (page : List ℕ) (m m₀ : Mem) (w : Loss) → differingOf f (lostOf f c page m w) m₀ ≤ differingOf f m m₀ + running (c .line .phase)
+unfolding lostOf
+lost-one f c page m m₀ Old = omega arith
+lost-one f c page m m₀ (Lent lock) = stored-one f (c .line) (risenFrom (f .group) (c .latch) page 0 (f .page)) m m₀ (c .line .phase)
 
 received-running : (f : Facts) (en : ℕ) (l : Line) (v : Bool) (r : Recv) (n : ℕ) → running (receivedOf f en l v r n .phase) ≡ 0
 unfolding receivedOf
@@ -199,52 +206,52 @@ pinned-running l v (Send t) = refl
 pinned-running l v (Busy y) = refl
 
 -- one event: the pages that differ and the running cycle grow by no more than the cycles begun
-step-count : (f : Facts) (en : ℕ) (m₀ : Mem) (c : Chip) (m : Mem) (e : Event)
-    → differingOf f (storeOf f c m e) m₀ + running (nextOf f en (c .line) e .phase)
+step-count : (page : List ℕ) (f : Facts) (en : ℕ) (m₀ : Mem) (c : Chip) (m : Mem) (e : Event)
+    → differingOf f (storeWith page f c m e) m₀ + running (nextOf f en (c .line) e .phase)
     ≤ differingOf f m m₀ + running (c .line .phase) + begunOf (c .line) e
-unfolding nextOf storeOf begunOf resetOf
-step-count f en m₀ c m (Clock v) = omega (arith, clocked-running f en (c .line) v (c .line .phase))
-step-count f en m₀ c m Start = omega (arith, started-running (c .line) (c .line .phase))
-step-count f en m₀ c m Stop = omega (arith, stopped-running (c .line) (c .line .phase))
-step-count f en m₀ c m Ends =
+unfolding nextOf storeWith begunOf resetOf
+step-count page f en m₀ c m (Clock v) = omega (arith, clocked-running f en (c .line) v (c .line .phase))
+step-count page f en m₀ c m Start = omega (arith, started-running (c .line) (c .line .phase))
+step-count page f en m₀ c m Stop = omega (arith, stopped-running (c .line) (c .line .phase))
+step-count page f en m₀ c m Ends =
     omega (arith, ended-running f (c .line) (c .line .phase) refl, stored-one f (c .line) (c .latch) m m₀ (c .line .phase))
-step-count f en m₀ c m PinLow = omega (arith, pinned-running (c .line) Low (c .line .phase))
-step-count f en m₀ c m PinHigh = omega (arith, pinned-running (c .line) High (c .line .phase))
-step-count f en m₀ c m PinFloat = omega (arith, pinned-running (c .line) Floating (c .line .phase))
-step-count f en m₀ c m Reset = omega arith
-step-count f en m₀ c m Unknown = omega arith
+step-count page f en m₀ c m PinLow = omega (arith, pinned-running (c .line) Low (c .line .phase))
+step-count page f en m₀ c m PinHigh = omega (arith, pinned-running (c .line) High (c .line .phase))
+step-count page f en m₀ c m PinFloat = omega (arith, pinned-running (c .line) Floating (c .line .phase))
+step-count page f en m₀ c m (Reset w) = omega (arith, lost-one f c page m m₀ w)
+step-count page f en m₀ c m Unknown = omega arith
 
 -- ---- the promise
 
 abbrev Paid : Facts → Mem → Invariant
 Paid f m₀ c m n hs xs = differingOf f m m₀ + running (c .line .phase) ≤ n
 
-paid-step : (f : Facts) (en : ℕ) (m₀ : Mem) → Keeps (ours f en) Any (Paid f m₀)
+paid-step : (w : PowerCut) (f : Facts) (en : ℕ) (m₀ : Mem) → Keeps (oursWith w f en) Any (Paid f m₀)
 unfolding stateOf
-paid-step f en m₀ c m n hs xs e _ i = omega (arith, step-count f en m₀ c m (eventOf e))
+paid-step w f en m₀ c m n hs xs e _ i = omega (arith, step-count (w .page) f en m₀ c m (eventWith (w .loss) e))
 
 paid-first : (f : Facts) (c : Chip) (m : Mem) → NotBusy (c .line .phase) → Paid f m c m 0 [] []
 paid-first f c m h = omega (arith, differing-none f m, free-running (c .line .phase) h)
 
-pub pages-at-most-cycles : PagesAtMostCycles ours
-pages-at-most-cycles f en c m es h =
-    omega (arith, keeps (ours f en) Any (Paid f m) (paid-step f en m) es c m 0 [] [] (every es) (paid-first f c m h))
+pub pages-at-most-cycles : (w : PowerCut) → PagesAtMostCycles (oursWith w)
+pages-at-most-cycles w f en c m es h =
+    omega (arith, keeps (oursWith w f en) Any (Paid f m) (paid-step w f en m) es c m 0 [] [] (every es) (paid-first f c m h))
 
 standby-free : (f : Facts) (lock : Bool) → NotBusy (standbyOf f lock .line .phase)
 unfolding standbyOf
 standby-free f lock = tt
 
-pub pages-from-delivery : PagesFromDelivery ours
-pages-from-delivery part en es =
-    pages-at-most-cycles (factsOf part) en (standbyOf (factsOf part) false) (deliveredOf part) es (standby-free (factsOf part) false)
+pub pages-from-delivery : (w : PowerCut) → PagesFromDelivery (oursWith w)
+pages-from-delivery w part en es =
+    pages-at-most-cycles w (factsOf part) en (standbyOf (factsOf part) false) (deliveredOf part) es (standby-free (factsOf part) false)
 
 pub calls-pages : CallsPages stepOf runOf
 calls-pages part en c m xs h =
-    omega (arith, calls-keep part en Any (Paid (factsOf part) m) (paid-step (factsOf part) en m) xs (beforeCalls c m) (every-call xs) (paid-first (factsOf part) c m h))
+    omega (arith, calls-keep part en Any (Paid (factsOf part) m) (λ w. paid-step w (factsOf part) en m) xs (beforeCalls c m) (every-call xs) (paid-first (factsOf part) c m h))
 
 pub run-pages : RunPages runOf
 unfolding callsBy callBy afterRun
-run-pages part en c m es a h = rw zero-add at (calls-pages part en c m (many es a ∷ []) h)
+run-pages part en w c m es a h = rw zero-add at (calls-pages part en c m (many w es a ∷ []) h)
 
 pub calls-pages-from-delivery : CallsPagesFromDelivery deliverOf stepOf runOf
 calls-pages-from-delivery part en m xs e =

@@ -12,7 +12,9 @@ use Rattle.parts.specs.declared.Facts.{Facts}
 use Rattle.parts.specs.declared.Event.{Event}
 use Rattle.parts.specs.declared.Event.the-variants.{Clock, Start, Stop, Ends, PinLow, PinHigh, PinFloat, Reset, Unknown}
 use Rattle.parts.specs.Table.{factsOf}
-use Rattle.parts.specs.Events.{eventOf}
+use Rattle.parts.specs.declared.Loss.{Loss}
+use Rattle.parts.specs.declared.Loss.the-variants.{Old, Lent}
+use Rattle.parts.specs.Events.{eventWith}
 use Rattle.parts.proofs.Laws.{branch}
 use Rattle.parts.proofs.Tests.{both}
 use Rattle.line.specs.declared.Pin.{Pin}
@@ -25,19 +27,20 @@ use Rattle.line.specs.declared.Core.{Core}
 use Rattle.line.specs.declared.Line.{Line}
 use Rattle.line.specs.declared.After.{After}
 use Rattle.line.specs.declared.CycleAsked.{CycleAsked}
-use Rattle.line.specs.Rules.{isHigh, landed, takenOf, receivedOf, sentOf, clockedOf, startedOf, stoppedBy, begunBy, dueOf, placedOf, asksOf, stoppedOf, stopBegunOf, endedOf, pinnedOf, resetOf, nextOf, begunOf}
+use Rattle.line.specs.Rules.{isHigh, landed, takenOf, receivedOf, sentOf, clockedOf, startedOf, stoppedBy, begunBy, dueOf, placedOf, asksOf, stoppedOf, stopBegunOf, endedOf, pinnedOf, lockAtReset, resetOf, nextOf, begunOf}
 use Rattle.state.specs.declared.Chip.{Chip}
 use Rattle.state.specs.Range.{markRightOf, recvRightOf, phaseRightOf, inRangeOf}
-use Rattle.chip.specs.Memory.{Mem, storedOf, storeOf, stateOf}
+use Rattle.state.proofs.Laws.{accepted-phase}
+use Rattle.chip.specs.Memory.{Mem, storedOf, risenFrom, lostOf, storeWith, stateOf}
 use Rattle.chip_promises.specs.States.{NotBusy}
-use Rattle.chip.specs.Model.{ours}
+use Rattle.chip.specs.Model.{PowerCut, oursWith}
 use Rattle.chip.specs.Runs.{afterOf, memoryOf, cyclesOf}
 use Rattle.chip.specs.Calls.{stepOf, runOf}
 use Rattle.chip_promises.specs.Calls.{many, Ending, beforeCalls, afterRun, callBy, callsBy}
 use Rattle.chip_promises.specs.Pin.{StaysHigh, KeepsHigh, PinProtects, CallsPinProtects}
 use Rattle.chip_promises.specs.Forms.{RunPinProtects}
 use Rattle.chip_promises.proofs.Runs.{Invariant, Keeps, keeps, calls-keep}
-use Rattle.chip_promises.proofs.Steps.{taken-free, taken-kept, next-still, lockAfter, pinAfter, accepted-phase}
+use Rattle.chip_promises.proofs.Steps.{taken-free, taken-kept, next-still, lockAfter, pinAfter, any-loss}
 use Rattle.chip_promises.proofs.Refused.{calls-out}
 
 -- no cycle runs, and a transfer is marked
@@ -123,28 +126,41 @@ pinned-guarded l (Receive r) e o = subst (Guarded (l .core .inhibited || true)) 
 pinned-guarded l (Send t) e o = subst (Guarded (l .core .inhibited || true)) (sym e) tt
 pinned-guarded l (Busy y) e o = absurd o
 
-record Harmless (f : Facts) (en : ℕ) (c : Chip) (m : Mem) (e : Event) : Type 0 where
+-- no cycle runs that a loss of power could cut
+lost-guarded : (f : Facts) (c : Chip) (page : List ℕ) (m : Mem) (w : Loss) → Kind (c .line) → lostOf f c page m w ≡ m
+unfolding lostOf
+lost-guarded f c page m Old k = refl
+lost-guarded f c page m (Lent lock) k = ended-guarded f (c .line) (risenFrom (f .group) (c .latch) page 0 (f .page)) m (c .line .phase) k k .1
+
+lock-guarded : (w : Loss) (lock b : Bool) (ph : Phase) → Guarded b ph → lockAtReset w lock ph ≡ lock
+lock-guarded w lock b Idle o = refl
+lock-guarded w lock b (Receive r) o = refl
+lock-guarded w lock b (Send t) o = refl
+lock-guarded w lock b (Busy y) o = absurd o
+
+record Harmless (page : List ℕ) (f : Facts) (en : ℕ) (c : Chip) (m : Mem) (e : Event) : Type 0 where
   kind : Kind (nextOf f en (c .line) e)
-  same : storeOf f c m e ≡ m
+  same : storeWith page f c m e ≡ m
   lock : lockAfter (c .line .phase) e (c .line .core .locked) ≡ c .line .core .locked
   pin : pinAfter e High ≡ High
   none : begunOf (c .line) e ≡ 0
 
-harmless : (f : Facts) (en : ℕ) (c : Chip) (m : Mem) (e : Event) → c .line .core .pin ≡ High → Kind (c .line) → StaysHigh e → Harmless f en c m e
-unfolding nextOf storeOf begunOf resetOf
-harmless f en c m (Clock v) p k q = record { kind = clocked-guarded f en (c .line) v (c .line .phase) k k; same = refl; lock = refl; pin = refl; none = refl }
-harmless f en c m Start p k q = record { kind = started-guarded (c .line) (c .line .phase) p k; same = refl; lock = refl; pin = refl; none = refl }
-harmless f en c m Stop p k q =
+harmless : (page : List ℕ) (f : Facts) (en : ℕ) (c : Chip) (m : Mem) (e : Event) → c .line .core .pin ≡ High → Kind (c .line) → StaysHigh e → Harmless page f en c m e
+unfolding nextOf storeWith begunOf resetOf
+harmless page f en c m (Clock v) p k q = record { kind = clocked-guarded f en (c .line) v (c .line .phase) k k; same = refl; lock = refl; pin = refl; none = refl }
+harmless page f en c m Start p k q = record { kind = started-guarded (c .line) (c .line .phase) p k; same = refl; lock = refl; pin = refl; none = refl }
+harmless page f en c m Stop p k q =
     let r = stopped-guarded (c .line) (c .line .phase) k k in
     record { kind = r .0; same = refl; lock = refl; pin = refl; none = r .1 }
-harmless f en c m Ends p k q =
+harmless page f en c m Ends p k q =
     let r = ended-guarded f (c .line) (c .latch) m (c .line .phase) k k in
     record { kind = r .0; same = r .1; lock = r .2; pin = refl; none = refl }
-harmless f en c m PinLow p k q = absurd q
-harmless f en c m PinHigh p k q = record { kind = pinned-guarded (c .line) (c .line .phase) refl k; same = refl; lock = refl; pin = refl; none = refl }
-harmless f en c m PinFloat p k q = absurd q
-harmless f en c m Reset p k q = record { kind = tt; same = refl; lock = refl; pin = refl; none = refl }
-harmless f en c m Unknown p k q = record { kind = k; same = refl; lock = refl; pin = refl; none = refl }
+harmless page f en c m PinLow p k q = absurd q
+harmless page f en c m PinHigh p k q = record { kind = pinned-guarded (c .line) (c .line .phase) refl k; same = refl; lock = refl; pin = refl; none = refl }
+harmless page f en c m PinFloat p k q = absurd q
+harmless page f en c m (Reset w) p k q =
+    record { kind = tt; same = lost-guarded f c page m w k; lock = lock-guarded w (c .line .core .locked) (c .line .core .inhibited) (c .line .phase) k; pin = refl; none = refl }
+harmless page f en c m Unknown p k q = record { kind = k; same = refl; lock = refl; pin = refl; none = refl }
 
 -- ---- an accepted chip has it
 
@@ -175,20 +191,21 @@ record Held (lock₀ : Bool) (m₀ : Mem) (c : Chip) (m : Mem) (n : ℕ) : Type 
 abbrev Holding : Bool → Mem → Invariant
 Holding lock₀ m₀ c m n hs xs = Held lock₀ m₀ c m n
 
-held-step : (f : Facts) (en : ℕ) (lock₀ : Bool) (m₀ : Mem) → Keeps (ours f en) KeepsHigh (Holding lock₀ m₀)
+held-step : (w : PowerCut) (f : Facts) (en : ℕ) (lock₀ : Bool) (m₀ : Mem) → Keeps (oursWith w f en) KeepsHigh (Holding lock₀ m₀)
 unfolding stateOf
-held-step f en lock₀ m₀ c m n hs xs e q i =
-    let k = harmless f en c m (eventOf e) (i .pin) (i .kind) q in
-    let s = next-still f en (c .line) (eventOf e) in
-    record { pin = s .1 ∙ ap (pinAfter (eventOf e)) (i .pin) ∙ k .pin; kind = k .kind; same = k .same ∙ i .same; lock = s .0 ∙ k .lock ∙ i .lock; none = omega (arith, k .none, i .none) }
+held-step w f en lock₀ m₀ c m n hs xs e q i =
+    let d : Event = eventWith (w .loss) e in
+    let k = harmless (w .page) f en c m d (i .pin) (i .kind) (any-loss StaysHigh (λ v u h. h) Old (w .loss) e q) in
+    let s = next-still f en (c .line) d in
+    record { pin = s .1 ∙ ap (pinAfter d) (i .pin) ∙ k .pin; kind = k .kind; same = k .same ∙ i .same; lock = s .0 ∙ k .lock ∙ i .lock; none = omega (arith, k .none, i .none) }
 
 held-first : (f : Facts) (c : Chip) (m : Mem) → c .line .core .pin ≡ High → NotBusy (c .line .phase) → inRangeOf f c ≡ true → Held (c .line .core .locked) m c m 0
 held-first f c m p free a = record { pin = p; kind = accepted-guarded f c p free a; same = refl; lock = refl; none = refl }
 
-pub pin-protects : PinProtects ours
-pin-protects f en c m es a p free q =
-    let r : Held (c .line .core .locked) m (afterOf (ours f en) c es) (memoryOf (ours f en) c m es) (0 + cyclesOf (ours f en) c es) =
-    keeps (ours f en) KeepsHigh (Holding (c .line .core .locked) m) (held-step f en (c .line .core .locked) m) es c m 0 [] [] q (held-first f c m p free a) in
+pub pin-protects : (w : PowerCut) → PinProtects (oursWith w)
+pin-protects w f en c m es a p free q =
+    let r : Held (c .line .core .locked) m (afterOf (oursWith w f en) c es) (memoryOf (oursWith w f en) c m es) (0 + cyclesOf (oursWith w f en) c es) =
+    keeps (oursWith w f en) KeepsHigh (Holding (c .line .core .locked) m) (held-step w f en (c .line .core .locked) m) es c m 0 [] [] q (held-first f c m p free a) in
     (r .same, r .lock, omega (arith, r .none))
 
 pub calls-pin-protects : CallsPinProtects stepOf runOf
@@ -201,7 +218,7 @@ calls-pin-protects part en c m xs p free q = go (inRangeOf (factsOf part) c) ref
     go true a =
         let x : Ending = callsBy stepOf runOf part en (beforeCalls c m) xs in
         let r : Held (c .line .core .locked) m (x .chip) (x .mem) (x .cycles) =
-        calls-keep part en KeepsHigh (Holding (c .line .core .locked) m) (held-step (factsOf part) en (c .line .core .locked) m) xs (beforeCalls c m) q (held-first (factsOf part) c m p free a) in
+        calls-keep part en KeepsHigh (Holding (c .line .core .locked) m) (λ w. held-step w (factsOf part) en (c .line .core .locked) m) xs (beforeCalls c m) q (held-first (factsOf part) c m p free a) in
         (r .same, r .lock, r .none)
     go false a =
         let r : callsBy stepOf runOf part en (beforeCalls c m) xs ≡ beforeCalls c m = calls-out part en (beforeCalls c m) xs a in
@@ -209,6 +226,6 @@ calls-pin-protects part en c m xs p free q = go (inRangeOf (factsOf part) c) ref
 
 pub run-pin-protects : RunPinProtects runOf
 unfolding callsBy callBy afterRun
-run-pin-protects part en c m es a p free q =
-    let r = calls-pin-protects part en c m (many es a ∷ []) p free (q, tt) in
+run-pin-protects part en w c m es a p free q =
+    let r = calls-pin-protects part en c m (many w es a ∷ []) p free (q, tt) in
     (r .0, r .1, rw zero-add at (r .2))

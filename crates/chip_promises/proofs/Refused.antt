@@ -16,12 +16,12 @@ use Rattle.parts.specs.Table.{factsOf}
 use Rattle.parts.specs.Events.{eventRightOf}
 use Rattle.parts.specs.Refusals.{claimOf, soonerOf}
 use Rattle.parts.proofs.Claims.{sooner-fine}
-use Rattle.chip.proofs.Laws.{held-fine}
+use Rattle.chip.proofs.Laws.{cut-fine}
 use Rattle.state.specs.declared.Chip.{Chip}
 use Rattle.state.specs.Range.{inRangeOf}
 use Rattle.chip.specs.Memory.{Mem}
-use Rattle.chip.specs.Model.{Model, ours}
-use Rattle.chip.specs.Calls.{scanOf, heldVerdictOf, deliverVerdictOf, stepVerdictOf, runVerdictOf, deliverLeftOf, deliverOf, stepLeftOf, stepVerdict, stepOf, runLeftOf, runVerdict, runOf}
+use Rattle.chip.specs.Model.{Model, PowerCut, oursWith}
+use Rattle.chip.specs.Calls.{scanOf, cutVerdictOf, deliverVerdictOf, stepVerdictOf, runVerdictOf, deliverLeftOf, deliverOf, stepLeftOf, stepVerdict, stepOf, runLeftOf, runVerdict, runOf}
 use Rattle.chip_promises.specs.Calls.{Call, one, many, Ending, afterStep, afterRun, callBy, callsBy}
 use Rattle.chip_promises.specs.Refused.{DeliverRefusedChangesNothing, StepRefusedChangesNothing, RunRefusedChangesNothing, RefusedChangesNothing}
 
@@ -49,10 +49,10 @@ deliver-refused : DeliverRefusedChangesNothing deliverOf
 deliver-refused part m r e = deliver-left part m (deliverVerdictOf part (length (m .cells)) (length (m .ident))) r e
 
 step-refused : StepRefusedChangesNothing stepOf
-step-refused part en c m code r e = step-left (ours (factsOf part) en) c m code (stepVerdict part en c m code) r e
+step-refused part en w c m code r e = step-left (oursWith w (factsOf part) en) c m code (stepVerdict part en w c m code) r e
 
 run-refused : RunRefusedChangesNothing runOf
-run-refused part en c m es a r e = run-left (ours (factsOf part) en) c m es a (runVerdict part en c m es a) r e
+run-refused part en w c m es a r e = run-left (oursWith w (factsOf part) en) c m es a (runVerdict part en w c m es a) r e
 
 pub refused-changes-nothing : RefusedChangesNothing deliverOf stepOf runOf
 refused-changes-nothing = record { deliver = deliver-refused; step = step-refused; run = run-refused }
@@ -67,23 +67,23 @@ not-fine : (v : Verdict) → (v ≡ Fine → ⊥) → IsRefused v
 not-fine Fine h = h refl
 not-fine (Refused r) h = tt
 
-held-out : (part en : ℕ) (c : Chip) (n d : ℕ) → inRangeOf (factsOf part) c ≡ false → heldVerdictOf part en c n d ≡ Fine → ⊥
-held-out part en c n d e h =
-    let y : _≡_ {A = Bool} true false = sym (held-fine part en c n d h .ranged) ∙ e in
+cut-out : (part en : ℕ) (w : PowerCut) (c : Chip) (n d : ℕ) → inRangeOf (factsOf part) c ≡ false → cutVerdictOf part en w c n d ≡ Fine → ⊥
+cut-out part en w c n d e h =
+    let y : _≡_ {A = Bool} true false = sym (cut-fine part en w c n d h .1 .ranged) ∙ e in
     let z : _≡_ {A = ℕ} 0 1 = cc in
     omega arith
 
-run-out : (part en : ℕ) (c : Chip) (n d : ℕ) (es : List ℕ) (room : ℕ) → inRangeOf (factsOf part) c ≡ false → IsRefused (runVerdictOf part en c n d es room)
+run-out : (part en : ℕ) (w : PowerCut) (c : Chip) (n d : ℕ) (es : List ℕ) (room : ℕ) → inRangeOf (factsOf part) c ≡ false → IsRefused (runVerdictOf part en w c n d es room)
 unfolding runVerdictOf
-run-out part en c n d es room e =
+run-out part en w c n d es room e =
     let rest = soonerOf (claimOf (ltb 32768 (length es)) TooMany) (soonerOf (scanOf (factsOf part .pin) 0 es) (claimOf (ltb room (length es)) ShortBuffer)) in
-    not-fine (soonerOf (heldVerdictOf part en c n d) rest) (λ h. held-out part en c n d e (sooner-fine (heldVerdictOf part en c n d) rest h .0))
+    not-fine (soonerOf (cutVerdictOf part en w c n d) rest) (λ h. cut-out part en w c n d e (sooner-fine (cutVerdictOf part en w c n d) rest h .0))
 
-step-out : (part en : ℕ) (c : Chip) (n d code : ℕ) → inRangeOf (factsOf part) c ≡ false → IsRefused (stepVerdictOf part en c n d code)
+step-out : (part en : ℕ) (w : PowerCut) (c : Chip) (n d code : ℕ) → inRangeOf (factsOf part) c ≡ false → IsRefused (stepVerdictOf part en w c n d code)
 unfolding stepVerdictOf
-step-out part en c n d code e =
+step-out part en w c n d code e =
     let rest = claimOf (not (eventRightOf (factsOf part .pin) code)) (BadEvent 0) in
-    not-fine (soonerOf (heldVerdictOf part en c n d) rest) (λ h. held-out part en c n d e (sooner-fine (heldVerdictOf part en c n d) rest h .0))
+    not-fine (soonerOf (cutVerdictOf part en w c n d) rest) (λ h. cut-out part en w c n d e (sooner-fine (cutVerdictOf part en w c n d) rest h .0))
 
 after-step-out : (M : Model) (code : ℕ) (e : Ending) (v : Verdict) → IsRefused v → afterStep code (stepLeftOf M (e .chip) (e .mem) code v) e ≡ e
 unfolding afterStep
@@ -99,11 +99,11 @@ after-run-out M es a e (Refused r) o = rw add-zero
 pub calls-out : (part en : ℕ) (e : Ending) (xs : List Call) → inRangeOf (factsOf part) (e .chip) ≡ false → callsBy stepOf runOf part en e xs ≡ e
 unfolding callsBy callBy
 calls-out part en e [] o = refl
-calls-out part en e (one code ∷ xs) o =
+calls-out part en e (one w code ∷ xs) o =
     ap (λ (x : Ending). callsBy stepOf runOf part en x xs)
-    (after-step-out (ours (factsOf part) en) code e (stepVerdict part en (e .chip) (e .mem) code) (step-out part en (e .chip) (length (e .mem .cells)) (length (e .mem .ident)) code o))
+    (after-step-out (oursWith w (factsOf part) en) code e (stepVerdict part en w (e .chip) (e .mem) code) (step-out part en w (e .chip) (length (e .mem .cells)) (length (e .mem .ident)) code o))
     ∙ calls-out part en e xs o
-calls-out part en e (many es a ∷ xs) o =
+calls-out part en e (many w es a ∷ xs) o =
     ap (λ (x : Ending). callsBy stepOf runOf part en x xs)
-    (after-run-out (ours (factsOf part) en) es a e (runVerdict part en (e .chip) (e .mem) es a) (run-out part en (e .chip) (length (e .mem .cells)) (length (e .mem .ident)) es (length a) o))
+    (after-run-out (oursWith w (factsOf part) en) es a e (runVerdict part en w (e .chip) (e .mem) es a) (run-out part en w (e .chip) (length (e .mem .cells)) (length (e .mem .ident)) es (length a) o))
     ∙ calls-out part en e xs o

@@ -12,7 +12,7 @@ use Rattle.parts.specs.Table.{factsOf}
 use Rattle.chip.proofs.Laws.{levels-length}
 use Rattle.state.specs.declared.Chip.{Chip}
 use Rattle.chip.specs.Memory.{Mem}
-use Rattle.chip.specs.Model.{Model, ours}
+use Rattle.chip.specs.Model.{Model, PowerCut, oursWith}
 use Rattle.chip.specs.Runs.{afterOf, memoryOf, levelsOf, cyclesOf}
 use Rattle.chip_promises.specs.States.{Every}
 use Rattle.chip.specs.Calls.{stepLeftOf, stepVerdict, stepOf, runLeftOf, runVerdict, runOf}
@@ -66,15 +66,15 @@ module _ (M : Model) (Q : ℕ → Type 0) (I : Invariant) (step : Keeps M Q I) w
       rw answered (keeps M Q I step es c m (e .cycles) (e .events) (e .levels) q i)
   run-keeps es a e (Refused r) q i = rw add-zero i
 
--- a series of calls
-module _ (part en : ℕ) (Q : ℕ → Type 0) (I : Invariant) (step : Keeps (ours (factsOf part) en) Q I) where
+-- a series of calls, each with what it is given for a loss of power
+module _ (part en : ℕ) (Q : ℕ → Type 0) (I : Invariant) (step : (w : PowerCut) → Keeps (oursWith w (factsOf part) en) Q I) where
   pub calls-keep : (xs : List Call) (e : Ending) → EveryCall Q xs → Holds I e → Holds I (callsBy stepOf runOf part en e xs)
   unfolding callsBy callBy
   calls-keep [] e q i = i
-  calls-keep (one code ∷ xs) e q i =
-      calls-keep xs _ (q .1) (step-keeps (ours (factsOf part) en) Q I step code e (stepVerdict part en (e .chip) (e .mem) code) (q .0) i)
-  calls-keep (many es a ∷ xs) e q i =
-      calls-keep xs _ (q .1) (run-keeps (ours (factsOf part) en) Q I step es a e (runVerdict part en (e .chip) (e .mem) es a) (q .0) i)
+  calls-keep (one w code ∷ xs) e q i =
+      calls-keep xs _ (q .1) (step-keeps (oursWith w (factsOf part) en) Q I (step w) code e (stepVerdict part en w (e .chip) (e .mem) code) (q .0) i)
+  calls-keep (many w es a ∷ xs) e q i =
+      calls-keep xs _ (q .1) (run-keeps (oursWith w (factsOf part) en) Q I (step w) es a e (runVerdict part en w (e .chip) (e .mem) es a) (q .0) i)
 
 -- no condition on the events
 abbrev pub Any : ℕ → Type 0
@@ -86,5 +86,5 @@ every (e ∷ es) = (tt, every es)
 
 pub every-call : (xs : List Call) → EveryCall Any xs
 every-call [] = tt
-every-call (one code ∷ xs) = (tt, every-call xs)
-every-call (many es a ∷ xs) = (every es, every-call xs)
+every-call (one w code ∷ xs) = (tt, every-call xs)
+every-call (many w es a ∷ xs) = (every es, every-call xs)

@@ -1,14 +1,16 @@
 -- What an event leaves alone: facts of one step that several promises use.
 -- Assumes nothing.
-use mathlib.Core.Path.{_≡_, refl}
+use mathlib.Core.Path.{_≡_, refl, sym, ap, _∙_, subst}
 use Prim.Native.Nat.{ℕ, zero, suc, _+_, _*_}
 use mathlib.Core.Bool.{Bool, true, false}
-use lib.Dec.{ltb, leb}
+use lib.Dec.{eqb}
+use borrow.Author.Tests.{eqb-true}
 use Rattle.parts.specs.declared.Facts.{Facts}
+use Rattle.parts.specs.declared.Loss.{Loss}
 use Rattle.parts.specs.declared.Event.{Event}
 use Rattle.parts.specs.declared.Event.the-variants.{Clock, Start, Stop, Ends, PinLow, PinHigh, PinFloat, Reset, Unknown}
+use Rattle.parts.specs.Events.{eventWith}
 use Rattle.parts.proofs.Laws.{branch}
-use Rattle.parts.proofs.Tests.{both}
 use Rattle.line.specs.declared.Target.{Target}
 use Rattle.line.specs.declared.Target.the-variants.{Array, Ident}
 use Rattle.line.specs.declared.Recv.{Recv}
@@ -25,9 +27,7 @@ use Rattle.line.specs.declared.Selected.{Selected}
 use Rattle.line.specs.declared.Selected.the-variants.{Miss, Hit}
 use Rattle.line.specs.declared.Pin.{Pin}
 use Rattle.line.specs.declared.Pin.the-variants.{Low, High, Floating}
-use Rattle.line.specs.Rules.{decodeOf, selectedOf, loadArrayOf, loadIdOf, loadedOf, refusesOf, latchedOf, filledOf, lockedByOf, takenOf, movedOf, receivedOf, sentOf, clockedOf, startedOf, stoppedBy, dueOf, placedOf, asksOf, stoppedOf, endedByOf, endedOf, pinnedOf, resetOf, nextOf}
-use Rattle.state.specs.declared.Chip.{Chip}
-use Rattle.state.specs.Range.{marksRightOf, pinRightOf, lockRightOf, phaseRightOf, restRightOf, inRangeOf}
+use Rattle.line.specs.Rules.{decodeOf, selectedOf, loadArrayOf, loadIdOf, loadedOf, refusesOf, latchedOf, filledOf, lockedByOf, takenOf, movedOf, receivedOf, sentOf, clockedOf, startedOf, stoppedBy, dueOf, placedOf, asksOf, stoppedOf, endedByOf, endedOf, pinnedOf, lockAtReset, resetOf, nextOf}
 use Rattle.chip_promises.specs.States.{NotBusy}
 
 -- ---- no byte begins a cycle
@@ -129,7 +129,7 @@ stopped-still l (Receive r) = by-still (l .core) (dueOf (placedOf l) (asksOf r))
 stopped-still l (Send t) = (refl, refl)
 stopped-still l (Busy y) = (refl, refl)
 
--- set at the end of a locking cycle, and else as before
+-- set at the end of a locking cycle, left by a cut as it is given, and else as before
 abbrev pub lockAfter : Phase → Event → Bool → Bool
 lockAfter (Busy Locking) Ends l = true
 lockAfter (Busy (Writing t)) Ends l = l
@@ -142,7 +142,7 @@ lockAfter ph Stop l = l
 lockAfter ph PinLow l = l
 lockAfter ph PinHigh l = l
 lockAfter ph PinFloat l = l
-lockAfter ph Reset l = l
+lockAfter ph (Reset w) l = lockAtReset w l ph
 lockAfter ph Unknown l = l
 
 abbrev pub pinAfter : Event → Pin → Pin
@@ -153,7 +153,7 @@ pinAfter Ends p = p
 pinAfter PinLow p = Low
 pinAfter PinHigh p = High
 pinAfter PinFloat p = Floating
-pinAfter Reset p = p
+pinAfter (Reset w) p = p
 pinAfter Unknown p = p
 
 ended-still : (f : Facts) (l : Line) (ph : Phase)
@@ -183,16 +183,25 @@ next-still f en l Ends = ended-still f l (l .phase)
 next-still f en l PinLow = pinned-still l Low (l .phase)
 next-still f en l PinHigh = pinned-still l High (l .phase)
 next-still f en l PinFloat = pinned-still l Floating (l .phase)
-next-still f en l Reset = (refl, refl)
+next-still f en l (Reset w) = (refl, refl)
 next-still f en l Unknown = (refl, refl)
 
--- ---- what an accepted state says of its phase
+-- ---- what does not ask what a reset finds is the same whatever it finds
 
-pub accepted-phase : (f : Facts) (c : Chip) → inRangeOf f c ≡ true → phaseRightOf f (c .line .core) (c .latch) (c .line .left) (c .line .phase) ≡ true
-unfolding inRangeOf restRightOf
-accepted-phase f c e =
-    let counter = both (ltb (c .line .core .counter) (f .size)) _ e .1 in
-    let left = both (leb (c .line .left) 8) _ counter .1 in
-    let marks = both (marksRightOf f (c .latch)) _ left .1 in
-    let pin = both (pinRightOf f (c .line .core .pin)) _ marks .1 in
-    both (lockRightOf f (c .line .core)) (phaseRightOf f (c .line .core) (c .latch) (c .line .left) (c .line .phase)) pin .1
+other-loss : (v u : Loss) (e : ℕ) → eqb e 8 ≡ false → eventWith v e ≡ eventWith u e
+unfolding eventWith
+other-loss v u e t = rw t refl
+
+pub reset-code : (v : Loss) → eventWith v 8 ≡ Reset v
+unfolding eventWith
+reset-code v = refl
+
+pub any-loss : (Q : Event → Type 0) → ((v u : Loss) → Q (Reset v) → Q (Reset u)) → (v u : Loss) (e : ℕ) → Q (eventWith v e) → Q (eventWith u e)
+any-loss Q h v u e q = go (eqb e 8) refl
+  where
+    go : (b : Bool) → eqb e 8 ≡ b → Q (eventWith u e)
+    go false t = subst Q (other-loss v u e t) q
+    go true t =
+        let e8 : e ≡ 8 = eqb-true e 8 t in
+        let at : (w : Loss) → eventWith w e ≡ Reset w = (λ (w : Loss). ap (eventWith w) e8 ∙ reset-code w) in
+        subst Q (sym (at u)) (h v u (subst Q (at v) q))

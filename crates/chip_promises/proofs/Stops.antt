@@ -13,12 +13,14 @@ use lib.ListN.{length, drop, length-append}
 use lib.Dec.{eqb}
 use borrow.Author.Tests.{eqb-true, eq-eqb, ne-eqb}
 use Rattle.parts.specs.declared.Facts.{Facts}
+use Rattle.parts.specs.declared.Loss.{Loss}
+use Rattle.parts.specs.declared.Loss.the-variants.{Old}
 use Rattle.parts.specs.declared.Event.{Event}
 use Rattle.parts.specs.declared.Event.the-variants.{Clock, Start, Stop, Ends, PinLow, PinHigh, PinFloat, Reset, Unknown}
 use Rattle.parts.specs.declared.Verdict.{Verdict}
 use Rattle.parts.specs.declared.Verdict.the-variants.{Fine, Refused}
 use Rattle.parts.specs.Table.{factsOf, addressBytesOf}
-use Rattle.parts.specs.Events.{eventOf}
+use Rattle.parts.specs.Events.{eventWith, eventOf}
 use Rattle.parts.specs.Bytes.{flagOf}
 use Rattle.parts.proofs.Laws.{branch}
 use Rattle.parts.proofs.Bytes.{flag-below}
@@ -44,14 +46,14 @@ use Rattle.state.specs.declared.Chip.{Chip}
 use Rattle.chip.specs.Memory.{Mem, stateOf, chipLevelOf, seenOf}
 use Rattle.chip.specs.Delivery.{pinAtFirstOf, standbyOf, deliveredOf}
 use Rattle.chip_promises.specs.States.{NotBusy}
-use Rattle.chip.specs.Model.{ours}
+use Rattle.chip.specs.Model.{PowerCut, oursWith}
 use Rattle.chip.specs.Runs.{afterOf, levelsOf, cyclesOf}
 use Rattle.chip.specs.Calls.{deliverOf, stepOf, runLeftOf, runVerdict, runOf}
 use Rattle.chip_promises.specs.Calls.{Ending, beforeCalls, callsBy}
 use Rattle.chip_promises.specs.Stops.{Byte, seenByte, allAcked, addressIn, lockChosenOf, dataOf, writesOf, asksCycleOf, Seen, quiet, cycling, since, wellPlacedOf, startSeen, clockSeen, stopSeen, endSeen, pinSeen, Watch, watch, watchOf, stopOf, stopsOf, freshWatch, seenAt, watchAt, CyclesAreStops, CyclesAreStopsFromDelivery, CallsCyclesAreStops, CallsCyclesAreStopsFromDelivery}
 use Rattle.chip_promises.specs.Forms.{RunCyclesAreStops}
 use Rattle.chip_promises.proofs.Runs.{Invariant, Keeps, keeps, calls-keep, Any, every, every-call}
-use Rattle.chip_promises.proofs.Steps.{taken-free, Kept, taken-kept, next-still}
+use Rattle.chip_promises.proofs.Steps.{taken-free, Kept, taken-kept, next-still, any-loss}
 
 -- ---- what a phase still expects
 
@@ -438,7 +440,7 @@ together f en l b w PinHigh o =
     (record { pin = ap isHigh (sym (next-still f en l PinHigh .1)); side = pinned-side f l High (l .phase) (w .seen) refl (o .side) }, refl)
 together f en l b w PinFloat o =
     (record { pin = ap isHigh (sym (next-still f en l PinFloat .1)); side = pinned-side f l Floating (l .phase) (w .seen) refl (o .side) }, refl)
-together f en l b w Reset o = (record { pin = o .pin; side = tt }, refl)
+together f en l b w (Reset v) o = (record { pin = o .pin; side = tt }, refl)
 together f en l b w Unknown o = (o, refl)
 
 -- ---- the promise: chip and history go side by side, and the cycles so far are the Stops so far
@@ -480,13 +482,23 @@ record Told (f : Facts) (w : Watch) (c : Chip) (n : ℕ) (hs xs : List ℕ) : Ty
 abbrev Telling : Facts → Watch → Invariant
 Telling f w c m n hs xs = Told f w c n hs xs
 
-told-step : (f : Facts) (en : ℕ) (w : Watch) → Keeps (ours f en) Any (Telling f w)
+-- who watches does not see what a reset finds
+watch-any : (f : Facts) (v : Watch) (w : Loss) (e x : ℕ) → watchOf f v (eventWith w e) x ≡ watchOf f v (eventOf e) x
+unfolding watchOf
+watch-any f v w e x = any-loss (λ (z : Event). watchOf f v z x ≡ watchOf f v (eventOf e) x) (λ u u′ h. h) Old w e refl
+
+stop-any : (f : Facts) (s : Seen) (w : Loss) (e : ℕ) → stopOf f s (eventWith w e) ≡ stopOf f s (eventOf e)
+unfolding stopOf
+stop-any f s w e = any-loss (λ (z : Event). stopOf f s z ≡ stopOf f s (eventOf e)) (λ u u′ h. h) Old w e refl
+
+told-step : (w : PowerCut) (f : Facts) (en : ℕ) (w₀ : Watch) → Keeps (oursWith w f en) Any (Telling f w₀)
 unfolding stateOf chipLevelOf
-told-step f en w c m n hs xs e _ i =
-    let v : Watch = watchesOf f w hs xs in
-    let x : ℕ = chipLevelOf f en c m (eventOf e) in
-    let t = together f en (c .line) (seenOf f (c .line) m (c .line .phase)) v (eventOf e) (i .beside) in
-    record { size = omega (arith, length-append hs (e ∷ []), length-append xs (x ∷ []), i .size); beside = subst (λ (u : Watch). Beside f (nextOf f en (c .line) (eventOf e)) u) (sym (watches-more f w hs xs e x (i .size))) (t .0); sum = omega (arith, stops-more f w hs xs e x (i .size), t .1, i .sum) }
+told-step w f en w₀ c m n hs xs e _ i =
+    let v : Watch = watchesOf f w₀ hs xs in
+    let d : Event = eventWith (w .loss) e in
+    let x : ℕ = chipLevelOf f en c m d in
+    let t = together f en (c .line) (seenOf f (c .line) m (c .line .phase)) v d (i .beside) in
+    record { size = omega (arith, length-append hs (e ∷ []), length-append xs (x ∷ []), i .size); beside = subst (λ (u : Watch). Beside f (nextOf f en (c .line) d) u) (watch-any f v (w .loss) e x ∙ sym (watches-more f w₀ hs xs e x (i .size))) (t .0); sum = omega (arith, stops-more f w₀ hs xs e x (i .size), t .1, stop-any f (v .seen) (w .loss) e, i .sum) }
 
 beside-at : (f : Facts) (c : Chip) → NoTransfer (c .line .phase) → Beside f (c .line) (watchAt c)
 beside-at f c h = record { pin = refl; side = go (c .line .phase) h }
@@ -501,17 +513,17 @@ told-first : (f : Facts) (c : Chip) → NoTransfer (c .line .phase) → Told f (
 unfolding stopsOf
 told-first f c h = record { size = refl; beside = beside-at f c h; sum = refl }
 
-pub cycles-are-stops : CyclesAreStops ours
-cycles-are-stops f en c m es h =
-    let r : Told f (watchAt c) (afterOf (ours f en) c es) (0 + cyclesOf (ours f en) c es) ([] ++ es) ([] ++ levelsOf (ours f en) c m es) =
-    keeps (ours f en) Any (Telling f (watchAt c)) (told-step f en (watchAt c)) es c m 0 [] [] (every es) (told-first f c h) in
+pub cycles-are-stops : (w : PowerCut) → CyclesAreStops (oursWith w)
+cycles-are-stops w f en c m es h =
+    let r : Told f (watchAt c) (afterOf (oursWith w f en) c es) (0 + cyclesOf (oursWith w f en) c es) ([] ++ es) ([] ++ levelsOf (oursWith w f en) c m es) =
+    keeps (oursWith w f en) Any (Telling f (watchAt c)) (told-step w f en (watchAt c)) es c m 0 [] [] (every es) (told-first f c h) in
     omega (arith, r .sum)
 
 pub calls-cycles-are-stops : CallsCyclesAreStops stepOf runOf
 calls-cycles-are-stops part en c m xs h =
     let e : Ending = callsBy stepOf runOf part en (beforeCalls c m) xs in
     let r : Told (factsOf part) (watchAt c) (e .chip) (e .cycles) (e .events) (e .levels) =
-    calls-keep part en Any (Telling (factsOf part) (watchAt c)) (told-step (factsOf part) en (watchAt c)) xs (beforeCalls c m) (every-call xs) (told-first (factsOf part) c h) in
+    calls-keep part en Any (Telling (factsOf part) (watchAt c)) (λ w. told-step w (factsOf part) en (watchAt c)) xs (beforeCalls c m) (every-call xs) (told-first (factsOf part) c h) in
     r .sum
 
 -- ---- from delivery
@@ -524,12 +536,12 @@ pub standby-still : (f : Facts) → NoTransfer (standbyOf f false .line .phase)
 unfolding standbyOf
 standby-still f = tt
 
-pub cycles-are-stops-from-delivery : CyclesAreStopsFromDelivery ours
-cycles-are-stops-from-delivery part en es =
+pub cycles-are-stops-from-delivery : (w : PowerCut) → CyclesAreStopsFromDelivery (oursWith w)
+cycles-are-stops-from-delivery w part en es =
     let f : Facts = factsOf part in
     let c : Chip = standbyOf f false in
-    cycles-are-stops f en c (deliveredOf part) es (standby-still f)
-    ∙ ap (λ (w : Watch). stopsOf f w es (levelsOf (ours f en) c (deliveredOf part) es)) (fresh-is f)
+    cycles-are-stops w f en c (deliveredOf part) es (standby-still f)
+    ∙ ap (λ (v : Watch). stopsOf f v es (levelsOf (oursWith w f en) c (deliveredOf part) es)) (fresh-is f)
 
 pub calls-cycles-are-stops-from-delivery : CallsCyclesAreStopsFromDelivery deliverOf stepOf runOf
 calls-cycles-are-stops-from-delivery part en m xs e =
@@ -541,13 +553,13 @@ calls-cycles-are-stops-from-delivery part en m xs e =
 
 -- ---- one call of `run`
 
-left-stops : (f : Facts) (en : ℕ) (c : Chip) (m : Mem) (es a : List ℕ) (v : Verdict) → NoTransfer (c .line .phase)
-    → runLeftOf (ours f en) c m es a v .answer .verdict ≡ Fine
-    → runLeftOf (ours f en) c m es a v .answer .cycles ≡ stopsOf f (watchAt c) es (runLeftOf (ours f en) c m es a v .answers)
-left-stops f en c m es a Fine h e =
-    cycles-are-stops f en c m es h
-    ∙ sym (stops-past f (watchAt c) es (levelsOf (ours f en) c m es) (drop (length es) a) (sym (levels-length (ours f en) c m es)))
-left-stops f en c m es a (Refused r) h e = cc
+left-stops : (w : PowerCut) (f : Facts) (en : ℕ) (c : Chip) (m : Mem) (es a : List ℕ) (v : Verdict) → NoTransfer (c .line .phase)
+    → runLeftOf (oursWith w f en) c m es a v .answer .verdict ≡ Fine
+    → runLeftOf (oursWith w f en) c m es a v .answer .cycles ≡ stopsOf f (watchAt c) es (runLeftOf (oursWith w f en) c m es a v .answers)
+left-stops w f en c m es a Fine h e =
+    cycles-are-stops w f en c m es h
+    ∙ sym (stops-past f (watchAt c) es (levelsOf (oursWith w f en) c m es) (drop (length es) a) (sym (levels-length (oursWith w f en) c m es)))
+left-stops w f en c m es a (Refused r) h e = cc
 
 pub run-cycles-are-stops : RunCyclesAreStops runOf
-run-cycles-are-stops part en c m es a h e = left-stops (factsOf part) en c m es a (runVerdict part en c m es a) h e
+run-cycles-are-stops part en w c m es a h e = left-stops w (factsOf part) en c m es a (runVerdict part en w c m es a) h e

@@ -8,6 +8,7 @@ use Rattle.parts.specs.declared.Verdict.{Verdict}
 use Rattle.parts.specs.declared.Verdict.the-variants.{Fine, Refused}
 use Rattle.state.specs.declared.Chip.{Chip}
 use Rattle.chip.specs.Memory.{Mem}
+use Rattle.chip.specs.Model.{PowerCut}
 use Rattle.chip.specs.Calls.{DeliverLeft, StepLeft, RunLeft}
 use Rattle.chip_promises.specs.States.{Every}
 
@@ -15,21 +16,21 @@ use Rattle.chip_promises.specs.States.{Every}
 abbrev pub Deliver : Type 0
 Deliver = ℕ → Mem → DeliverLeft
 
--- `step`: part, enable, chip, the two lent buffers, one event code
+-- `step`: part, enable, what is given for a loss of power, chip, the two lent buffers, one event code
 abbrev pub Step : Type 0
-Step = ℕ → ℕ → Chip → Mem → ℕ → StepLeft
+Step = ℕ → ℕ → PowerCut → Chip → Mem → ℕ → StepLeft
 
--- `run`: part, enable, chip, the two lent buffers, event codes, the lent answer buffer
+-- `run`: part, enable, what is given for a loss of power, chip, the two lent buffers, event codes, the lent answer buffer
 abbrev pub Run : Type 0
-Run = ℕ → ℕ → Chip → Mem → List ℕ → List ℕ → RunLeft
+Run = ℕ → ℕ → PowerCut → Chip → Mem → List ℕ → List ℕ → RunLeft
 
 -- ---- a series of calls of `step` and `run` on one chip and its buffers. One call of `run` takes at most 32,768 events, a series any
 -- number; refused calls may be among them
 
--- one event by `step`, or a list of them by `run` with an answer buffer of its own
+-- one event by `step`, or a list of them by `run` with an answer buffer of its own; each call is given its own for a loss of power
 pub data Call : Type 0 where
-  one : ℕ → Call
-  many : List ℕ → List ℕ → Call
+  one : PowerCut → ℕ → Call
+  many : PowerCut → List ℕ → List ℕ → Call
 
 -- the chip and its memory, the cycles that the calls reported, and the history: the events of the calls that were not refused, with
 -- the levels they answered
@@ -56,8 +57,8 @@ afterRun es x e =
     record { chip = x .answer .chip; mem = x .mem; cycles = e .cycles + x .answer .cycles; events = noted (x .answer .verdict) (e .events) es; levels = noted (x .answer .verdict) (e .levels) (take (length es) (x .answers)) }
 
 unfoldable pub callBy : Step → Run → ℕ → ℕ → Ending → Call → Ending
-callBy S R part enable e (one code) = afterStep code (S part enable (e .chip) (e .mem) code) e
-callBy S R part enable e (many es a) = afterRun es (R part enable (e .chip) (e .mem) es a) e
+callBy S R part enable e (one w code) = afterStep code (S part enable w (e .chip) (e .mem) code) e
+callBy S R part enable e (many w es a) = afterRun es (R part enable w (e .chip) (e .mem) es a) e
 
 unfoldable pub callsBy : Step → Run → ℕ → ℕ → Ending → List Call → Ending
 callsBy S R part enable e [] = e
@@ -65,8 +66,8 @@ callsBy S R part enable e (x ∷ xs) = callsBy S R part enable (callBy S R part 
 
 -- a condition on every event of every call
 abbrev pub InCall : (ℕ → Type 0) → Call → Type 0
-InCall Q (one code) = Q code
-InCall Q (many es a) = Every Q es
+InCall Q (one w code) = Q code
+InCall Q (many w es a) = Every Q es
 
 abbrev pub EveryCall : (ℕ → Type 0) → List Call → Type 0
 EveryCall Q [] = Unit {0}

@@ -9,6 +9,7 @@ use Rattle.parts.specs.Table.{factsOf}
 use Rattle.line.specs.declared.Pin.the-variants.{High}
 use Rattle.state.specs.declared.Chip.{Chip}
 use Rattle.chip.specs.Memory.{Mem}
+use Rattle.chip.specs.Model.{PowerCut}
 use Rattle.line.specs.Rules.{NoTransfer}
 use Rattle.chip_promises.specs.States.{NotBusy, Every}
 use Rattle.chip_promises.specs.Calls.{Step, Run, Call, beforeCalls, callsBy}
@@ -20,8 +21,8 @@ use Rattle.chip_promises.specs.Stops.{watchAt, stopsOf}
 -- One call of `run`, from any chip in which no cycle runs, against the buffers as they were.
 abbrev pub RunPages : Run → Type 0
 RunPages R =
-    (part enable : ℕ) (c : Chip) (m : Mem) (es answers : List ℕ) → NotBusy (c .line .phase)
-    → differingOf (factsOf part) (R part enable c m es answers .mem) m ≤ R part enable c m es answers .answer .cycles
+    (part enable : ℕ) (w : PowerCut) (c : Chip) (m : Mem) (es answers : List ℕ) → NotBusy (c .line .phase)
+    → differingOf (factsOf part) (R part enable w c m es answers .mem) m ≤ R part enable w c m es answers .answer .cycles
 
 -- Any series of calls, from any chip in which no cycle runs, against the buffers as they were before the first.
 abbrev pub CallsPages : Step → Run → Type 0
@@ -33,22 +34,22 @@ CallsPages S R =
 -- identification buffer keeps its bytes.
 abbrev pub RunLockHolds : Run → Type 0
 RunLockHolds R =
-    (part enable : ℕ) (c : Chip) (m : Mem) (es answers : List ℕ) → Locked c
-    → Locked (R part enable c m es answers .answer .chip) × (R part enable c m es answers .mem .ident ≡ m .ident)
+    (part enable : ℕ) (w : PowerCut) (c : Chip) (m : Mem) (es answers : List ℕ) → Locked c
+    → Locked (R part enable w c m es answers .answer .chip) × (R part enable w c m es answers .mem .ident ≡ m .ident)
 
 -- One call of any function that is called as `run` is, on such a chip, accepted or not: both buffers keep their bytes, the lock is as
 -- before, and no cycle is reported.
 abbrev pub RunPinProtects : Run → Type 0
 RunPinProtects R =
-    (part enable : ℕ) (c : Chip) (m : Mem) (es answers : List ℕ)
+    (part enable : ℕ) (w : PowerCut) (c : Chip) (m : Mem) (es answers : List ℕ)
     → c .line .core .pin ≡ High → NotBusy (c .line .phase) → Every KeepsHigh es
-    → (R part enable c m es answers .mem ≡ m)
-    × (R part enable c m es answers .answer .chip .line .core .locked ≡ c .line .core .locked)
-    × (R part enable c m es answers .answer .cycles ≡ 0)
+    → (R part enable w c m es answers .mem ≡ m)
+    × (R part enable w c m es answers .answer .chip .line .core .locked ≡ c .line .core .locked)
+    × (R part enable w c m es answers .answer .cycles ≡ 0)
 
 -- One call of `run`: the field `cycles` of its answer, by the levels that it leaves in the answer buffer.
 abbrev pub RunCyclesAreStops : Run → Type 0
 RunCyclesAreStops R =
-    (part enable : ℕ) (c : Chip) (m : Mem) (es answers : List ℕ) → NoTransfer (c .line .phase)
-    → R part enable c m es answers .answer .verdict ≡ Fine
-    → R part enable c m es answers .answer .cycles ≡ stopsOf (factsOf part) (watchAt c) es (R part enable c m es answers .answers)
+    (part enable : ℕ) (w : PowerCut) (c : Chip) (m : Mem) (es answers : List ℕ) → NoTransfer (c .line .phase)
+    → R part enable w c m es answers .answer .verdict ≡ Fine
+    → R part enable w c m es answers .answer .cycles ≡ stopsOf (factsOf part) (watchAt c) es (R part enable w c m es answers .answers)

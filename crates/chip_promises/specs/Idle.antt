@@ -18,7 +18,7 @@ use Rattle.chip.specs.Memory.{Mem}
 use Rattle.chip.specs.Delivery.{standbyOf}
 use Rattle.chip.specs.Calls.{deliverVerdictOf, stepVerdict, runVerdict}
 use Rattle.chip_promises.specs.Calls.{Deliver, Step, Run}
-use Rattle.chip.specs.Model.{Model, ours}
+use Rattle.chip.specs.Model.{Model, PowerCut, ours}
 use Rattle.chip.specs.Runs.{levelsOf}
 use Rattle.chip_promises.specs.Histories.{S, byteSent, itemCodesOf}
 
@@ -26,19 +26,19 @@ use Rattle.chip_promises.specs.Histories.{S, byteSent, itemCodesOf}
 
 pub record RefusesByTable (D : Deliver) (T : Step) (R : Run) : Type 0 where
   pub deliver : (part : ℕ) (m : Mem) → D part m .answer .verdict ≡ deliverVerdictOf part (length (m .cells)) (length (m .ident))
-  pub step : (part enable : ℕ) (c : Chip) (m : Mem) (code : ℕ) → T part enable c m code .answer .verdict ≡ stepVerdict part enable c m code
-  pub run : (part enable : ℕ) (c : Chip) (m : Mem) (es a : List ℕ)
-      → R part enable c m es a .answer .verdict ≡ runVerdict part enable c m es a
+  pub step : (part enable : ℕ) (w : PowerCut) (c : Chip) (m : Mem) (code : ℕ) → T part enable w c m code .answer .verdict ≡ stepVerdict part enable w c m code
+  pub run : (part enable : ℕ) (w : PowerCut) (c : Chip) (m : Mem) (es a : List ℕ)
+      → R part enable w c m es a .answer .verdict ≡ runVerdict part enable w c m es a
 
 -- each answers one refusal to everything, and changes nothing
 abbrev pub refusingDeliver : Refusal → Deliver
 refusingDeliver r part m = record { answer = record { verdict = Refused r; chip = standbyOf (factsOf part) false }; mem = m }
 
 abbrev pub refusingStep : Refusal → Step
-refusingStep r part enable c m code = record { answer = record { verdict = Refused r; level = 2; cycles = 0; chip = c }; mem = m }
+refusingStep r part enable w c m code = record { answer = record { verdict = Refused r; level = 2; cycles = 0; chip = c }; mem = m }
 
 abbrev pub refusingRun : Refusal → Run
-refusingRun r part enable c m es a = record { answer = record { verdict = Refused r; cycles = 0; chip = c }; mem = m; answers = a }
+refusingRun r part enable w c m es a = record { answer = record { verdict = Refused r; cycles = 0; chip = c }; mem = m; answers = a }
 
 -- whichever refusal it is, and whatever the two others do
 pub record RefusingBreaks : Type 0 where
@@ -65,7 +65,7 @@ always v Ends = 2
 always v PinLow = 2
 always v PinHigh = 2
 always v PinFloat = 2
-always v Reset = 2
+always v (Reset w) = 2
 always v Unknown = 2
 
 -- ours but for the level

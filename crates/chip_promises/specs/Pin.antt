@@ -24,7 +24,7 @@ StaysHigh Ends = Unit {0}
 StaysHigh PinLow = ⊥
 StaysHigh PinHigh = Unit {0}
 StaysHigh PinFloat = ⊥
-StaysHigh Reset = Unit {0}
+StaysHigh (Reset w) = Unit {0}
 StaysHigh Unknown = Unit {0}
 
 abbrev pub KeepsHigh : ℕ → Type 0

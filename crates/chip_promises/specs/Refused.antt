@@ -7,6 +7,7 @@ use Rattle.parts.specs.declared.Refusal.{Refusal}
 use Rattle.parts.specs.declared.Verdict.the-variants.{Refused}
 use Rattle.state.specs.declared.Chip.{Chip}
 use Rattle.chip.specs.Memory.{Mem}
+use Rattle.chip.specs.Model.{PowerCut}
 use Rattle.chip_promises.specs.Calls.{Deliver, Step, Run}
 
 -- For each function: on any input, if the answer is a refusal, whichever, then every lent byte is as before, the chip that is answered
@@ -18,19 +19,19 @@ DeliverRefusedChangesNothing D =
 
 abbrev pub StepRefusedChangesNothing : Step → Type 0
 StepRefusedChangesNothing S =
-    (part enable : ℕ) (c : Chip) (m : Mem) (code : ℕ) (r : Refusal) → S part enable c m code .answer .verdict ≡ Refused r
-    → (S part enable c m code .mem ≡ m)
-    × (S part enable c m code .answer .chip ≡ c)
-    × (S part enable c m code .answer .cycles ≡ 0)
-    × (S part enable c m code .answer .level ≡ 2)
+    (part enable : ℕ) (w : PowerCut) (c : Chip) (m : Mem) (code : ℕ) (r : Refusal) → S part enable w c m code .answer .verdict ≡ Refused r
+    → (S part enable w c m code .mem ≡ m)
+    × (S part enable w c m code .answer .chip ≡ c)
+    × (S part enable w c m code .answer .cycles ≡ 0)
+    × (S part enable w c m code .answer .level ≡ 2)
 
 abbrev pub RunRefusedChangesNothing : Run → Type 0
 RunRefusedChangesNothing R =
-    (part enable : ℕ) (c : Chip) (m : Mem) (es answers : List ℕ) (r : Refusal) → R part enable c m es answers .answer .verdict ≡ Refused r
-    → (R part enable c m es answers .mem ≡ m)
-    × (R part enable c m es answers .answer .chip ≡ c)
-    × (R part enable c m es answers .answer .cycles ≡ 0)
-    × (R part enable c m es answers .answers ≡ answers)
+    (part enable : ℕ) (w : PowerCut) (c : Chip) (m : Mem) (es answers : List ℕ) (r : Refusal) → R part enable w c m es answers .answer .verdict ≡ Refused r
+    → (R part enable w c m es answers .mem ≡ m)
+    × (R part enable w c m es answers .answer .chip ≡ c)
+    × (R part enable w c m es answers .answer .cycles ≡ 0)
+    × (R part enable w c m es answers .answers ≡ answers)
 
 -- every public function of the chip at once
 pub record RefusedChangesNothing (D : Deliver) (S : Step) (R : Run) : Type 0 where

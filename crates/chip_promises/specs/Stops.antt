@@ -130,7 +130,7 @@ watchOf f w Ends level = watch (w .pin) (endSeen (w .seen))
 watchOf f w PinLow level = watch false (pinSeen false (w .seen))
 watchOf f w PinHigh level = watch true (pinSeen true (w .seen))
 watchOf f w PinFloat level = watch false (pinSeen false (w .seen))
-watchOf f w Reset level = watch (w .pin) quiet
+watchOf f w (Reset v) level = watch (w .pin) quiet
 watchOf f w Unknown level = w
 
 unfoldable pub stopOf : Facts → Seen → Event → ℕ
@@ -141,7 +141,7 @@ stopOf f s Ends = 0
 stopOf f s PinLow = 0
 stopOf f s PinHigh = 0
 stopOf f s PinFloat = 0
-stopOf f s Reset = 0
+stopOf f s (Reset v) = 0
 stopOf f s Unknown = 0
 
 -- how many well-placed Stops stand in a list of event codes, each with the level that was answered to it

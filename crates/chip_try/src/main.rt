@@ -4,6 +4,7 @@ mod images;
 
 use cases::more;
 use libc::STDIN_FILENO;
+use parts::Loss;
 use parts::Refusal;
 use parts::Verdict;
 use state::Chip;
@@ -149,6 +150,8 @@ fn step(v: [usize; 16], held: &[u8], array: &mut [u8], id: &mut [u8]) -> Tried {
     let s = chip::step(
         narrow(v[PART]),
         narrow(v[ENABLE]),
+        Loss::Old,
+        b"",
         pack_chip::unpack(held),
         fitted::first(array, v[ARRAY]),
         fitted::first(id, v[ID]),
@@ -179,6 +182,8 @@ fn run(
     let r = chip::run(
         narrow(v[PART]),
         narrow(v[ENABLE]),
+        Loss::Old,
+        b"",
         pack_chip::unpack(held),
         fitted::first(array, v[ARRAY]),
         fitted::first(id, v[ID]),

@@ -31,7 +31,9 @@ use Rattle.determined.specs.Functions.{
   BuffersRightDetermined,
   AddressBytesDetermined,
   EnableRightDetermined,
-  EventOfDetermined,
+  EventWithDetermined,
+  LossSizeDetermined,
+  AllBelowDetermined,
   EventRightDetermined,
   FlagDetermined,
   ByteAtDetermined,
@@ -42,6 +44,7 @@ use Rattle.determined.specs.Functions.{
   ClaimDetermined,
   SoonerDetermined,
   LentVerdictDetermined,
+  LossVerdictDetermined,
   HeldVerdictDetermined,
   TextWideDetermined,
   TextNarrowDetermined,
@@ -109,8 +112,14 @@ address-bytes-determined = plainly (λ κs a u v. refl)
 pub enable-right-determined : EnableRightDetermined
 enable-right-determined = plainly (λ κs a u v. refl)
 
-pub event-of-determined : EventOfDetermined
-event-of-determined = plainly (λ κs a u v. refl)
+pub event-with-determined : EventWithDetermined
+event-with-determined = plainly (λ κs a u v. refl)
+
+pub loss-size-determined : LossSizeDetermined
+loss-size-determined = plainly (λ κs a u v. refl)
+
+pub all-below-determined : AllBelowDetermined
+all-below-determined = plainly (λ κs a u v. refl)
 
 pub event-right-determined : EventRightDetermined
 event-right-determined = plainly (λ κs a u v. refl)
@@ -141,6 +150,9 @@ sooner-determined = plainly (λ κs a u v. refl)
 
 pub lent-verdict-determined : LentVerdictDetermined
 lent-verdict-determined = plainly (λ κs a u v. refl)
+
+pub loss-verdict-determined : LossVerdictDetermined
+loss-verdict-determined = plainly (λ κs a u v. refl)
 
 pub held-verdict-determined : HeldVerdictDetermined
 held-verdict-determined = plainly (λ κs a u v. refl)

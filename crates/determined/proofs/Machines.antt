@@ -9,10 +9,10 @@ pub deliver-is : DeliverIs
 deliver-is = λ κs a x p. same (p .0) (λ i. (tt, (p .1 .0 i, (p .1 .1 i, tt))))
 
 pub step-is : StepIs
-step-is = λ κs a x p. same (p .0) (λ i. (tt, (tt, (tt, (p .1 .0 i, (p .1 .1 i, (tt, tt)))))))
+step-is = λ κs a x p. same (p .0) (λ i. (tt, (tt, (tt, (tt, (tt, (p .1 .0 i, (p .1 .1 i, (tt, tt)))))))))
 
 pub run-is : RunIs
-run-is = λ κs a x p. same (p .0) (λ i. (tt, (tt, (tt, (p .1 .0 i .cells, (p .1 .0 i .ident, (tt, (p .1 .1 i, tt))))))))
+run-is = λ κs a x p. same (p .0) (λ i. (tt, (tt, (tt, (tt, (tt, (p .1 .0 i .cells, (p .1 .0 i .ident, (tt, (p .1 .1 i, tt))))))))))
 
 pub save-is : SaveIs
 save-is = λ κs a x p. same (p .0) (λ i. (tt, (tt, (tt, (tt, (p .1 i, tt))))))
@@ -54,10 +54,10 @@ pub sapwoodle-deliver-is : SapwoodleDeliverIs
 sapwoodle-deliver-is = λ κs a x p. same (p .0) (λ i. (tt, (p .1 .0 i, (p .1 .1 .0 i, (p .1 .1 .1 i, tt)))))
 
 pub sapwoodle-step-is : SapwoodleStepIs
-sapwoodle-step-is = λ κs a x p. same (p .0) (λ i. (tt, (tt, (p .1 .0 i, (p .1 .1 .0 i, (p .1 .1 .1 .0 i, (tt, (p .1 .1 .1 .1 .0 i, (p .1 .1 .1 .1 .1 i, tt)))))))))
+sapwoodle-step-is = λ κs a x p. same (p .0) (λ i. (tt, (tt, (tt, (tt, (p .1 .0 i, (p .1 .1 .0 i, (p .1 .1 .1 .0 i, (tt, (p .1 .1 .1 .1 .0 i, (p .1 .1 .1 .1 .1 i, tt)))))))))))
 
 pub sapwoodle-run-is : SapwoodleRunIs
-sapwoodle-run-is = λ κs a x p. same (p .0) (λ i. (tt, (tt, (p .1 .0 i, (p .1 .1 .0 i .cells, (p .1 .1 .0 i .ident, (tt, (p .1 .1 .1 .0 i, (p .1 .1 .1 .1 .0 i, (p .1 .1 .1 .1 .1 i, tt))))))))))
+sapwoodle-run-is = λ κs a x p. same (p .0) (λ i. (tt, (tt, (tt, (tt, (p .1 .0 i, (p .1 .1 .0 i .cells, (p .1 .1 .0 i .ident, (tt, (p .1 .1 .1 .0 i, (p .1 .1 .1 .1 .0 i, (p .1 .1 .1 .1 .1 i, tt))))))))))))
 
 pub sapwoodle-save-is : SapwoodleSaveIs
 sapwoodle-save-is = λ κs a x p. same (p .0) (λ i. (tt, (tt, (tt, (tt, (p .1 .0 i, (p .1 .1 i, tt)))))))

@@ -7,8 +7,10 @@ use Rattle.parts.proofs.id_size as id-size
 use Rattle.parts.proofs.buffers_right as buffers-right
 use Rattle.parts.proofs.address_bytes as address-bytes
 use Rattle.parts.proofs.enable_right as enable-right
-use Rattle.parts.proofs.event_of as event-of
+use Rattle.parts.proofs.event_with as event-with
 use Rattle.parts.proofs.event_right as event-right
+use Rattle.parts.proofs.loss_size as loss-size
+use Rattle.parts.proofs.all_below as all-below
 use Rattle.parts.proofs.flag as flag
 use Rattle.parts.proofs.byte_at as byte-at
 use Rattle.parts.proofs.number as number
@@ -18,6 +20,7 @@ use Rattle.parts.proofs.verdict_place as verdict-place
 use Rattle.parts.proofs.claim as claim
 use Rattle.parts.proofs.sooner as sooner
 use Rattle.parts.proofs.lent_verdict as lent-verdict
+use Rattle.parts.proofs.loss_verdict as loss-verdict
 use Rattle.text.proofs.wide as text-wide
 use Rattle.text.proofs.narrow as text-narrow
 use Rattle.text.proofs.hex as text-hex
@@ -107,8 +110,14 @@ AddressBytesDetermined = Determined address-bytes.ended address-bytes.Reads.Aske
 abbrev pub EnableRightDetermined : Type 0
 EnableRightDetermined = Determined enable-right.ended enable-right.Reads.Asked enable-right.Reads.Learnt
 
-abbrev pub EventOfDetermined : Type 0
-EventOfDetermined = Determined event-of.ended event-of.Reads.Asked event-of.Reads.Learnt
+abbrev pub EventWithDetermined : Type 0
+EventWithDetermined = Determined event-with.ended event-with.Reads.Asked event-with.Reads.Learnt
+
+abbrev pub LossSizeDetermined : Type 0
+LossSizeDetermined = Determined loss-size.ended loss-size.Reads.Asked loss-size.Reads.Learnt
+
+abbrev pub AllBelowDetermined : Type 0
+AllBelowDetermined = Determined all-below.ended all-below.Reads.Asked all-below.Reads.Learnt
 
 abbrev pub EventRightDetermined : Type 0
 EventRightDetermined = Determined event-right.ended event-right.Reads.Asked event-right.Reads.Learnt
@@ -139,6 +148,9 @@ SoonerDetermined = Determined sooner.ended sooner.Reads.Asked sooner.Reads.Learn
 
 abbrev pub LentVerdictDetermined : Type 0
 LentVerdictDetermined = Determined lent-verdict.ended lent-verdict.Reads.Asked lent-verdict.Reads.Learnt
+
+abbrev pub LossVerdictDetermined : Type 0
+LossVerdictDetermined = Determined loss-verdict.ended loss-verdict.Reads.Asked loss-verdict.Reads.Learnt
 
 -- ---- text
 

@@ -8,6 +8,7 @@ use denote.Triple.Entry.{Args}
 use denote.Triple.Clauses.{Ended}
 use Rattle.parts.specs.Refusals.{verdictNumberOf}
 use Rattle.chip.specs.Memory.{mem}
+use Rattle.chip.specs.Model.{cutBy}
 use Rattle.chip.specs.Calls.{deliverOf, stepOf, runOf}
 use Rattle.image.specs.Calls.{saving, loading}
 use Rattle.hexfile.specs.Calls.{readingOf, writingOf}
@@ -74,15 +75,17 @@ abbrev pub StepIs : Type 0
 StepIs =
     Is step.ended step.Reads.Learnt
     (λ κs a.
-    let m = stepOf (a .0) (a .1 .0) (a .1 .1 .0) (mem (a .1 .1 .1 .0 .now) (a .1 .1 .1 .1 .0 .now)) (a .1 .1 .1 .1 .1 .0) in
-    record { result = m .answer; left = (tt, (tt, (tt, (m .mem .cells, (m .mem .ident, (tt, tt)))))) })
+    let m = stepOf (a .0) (a .1 .0) (cutBy (a .1 .1 .0) (a .1 .1 .1 .0 .now)) (a .1 .1 .1 .1 .0) (mem (a .1 .1 .1 .1 .1 .0 .now) (a .1 .1 .1 .1 .1 .1 .0 .now)) (a .1 .1 .1 .1 .1 .1 .1 .0) in
+    record { result = m .answer; left = (tt, (tt, (tt, (tt, (tt, (m .mem .cells, (m .mem .ident, (tt, tt)))))))) })
 
 abbrev pub RunIs : Type 0
 RunIs =
     Is chip-run.ended chip-run.Reads.Learnt
     (λ κs a.
-    let m = runOf (a .0) (a .1 .0) (a .1 .1 .0) (mem (a .1 .1 .1 .0 .now) (a .1 .1 .1 .1 .0 .now)) (a .1 .1 .1 .1 .1 .0 .now) (a .1 .1 .1 .1 .1 .1 .0 .now) in
-    record { result = m .answer; left = (tt, (tt, (tt, (m .mem .cells, (m .mem .ident, (tt, (m .answers, tt))))))) })
+    let m =
+    runOf (a .0) (a .1 .0) (cutBy (a .1 .1 .0) (a .1 .1 .1 .0 .now)) (a .1 .1 .1 .1 .0) (mem (a .1 .1 .1 .1 .1 .0 .now) (a .1 .1 .1 .1 .1 .1 .0 .now))
+    (a .1 .1 .1 .1 .1 .1 .1 .0 .now) (a .1 .1 .1 .1 .1 .1 .1 .1 .0 .now) in
+    record { result = m .answer; left = (tt, (tt, (tt, (tt, (tt, (m .mem .cells, (m .mem .ident, (tt, (m .answers, tt))))))))) })
 
 -- ---- image, Intel HEX, captures and trace
 
@@ -190,15 +193,15 @@ abbrev pub SapwoodleStepIs : Type 0
 SapwoodleStepIs =
     Is sapwoodle-step.ended sapwoodle-step.Reads.Learnt
     (λ κs a.
-    let m = stepping (a .0) (a .1 .0) (a .1 .1 .0 .now) (mem (a .1 .1 .1 .0 .now) (a .1 .1 .1 .1 .0 .now)) (a .1 .1 .1 .1 .1 .0) in
-    record { result = m .number; left = (tt, (tt, (m .state, (m .stored .cells, (m .stored .ident, (tt, (m .level, (m .cycles, tt)))))))) })
+    let m = stepping (a .0) (a .1 .0) (a .1 .1 .0 .now) (a .1 .1 .1 .0) (a .1 .1 .1 .1 .0 .now) (mem (a .1 .1 .1 .1 .1 .0 .now) (a .1 .1 .1 .1 .1 .1 .0 .now)) (a .1 .1 .1 .1 .1 .1 .1 .0) in
+    record { result = m .number; left = (tt, (tt, (tt, (tt, (m .state, (m .stored .cells, (m .stored .ident, (tt, (m .level, (m .cycles, tt)))))))))) })
 
 abbrev pub SapwoodleRunIs : Type 0
 SapwoodleRunIs =
     Is sapwoodle-run.ended sapwoodle-run.Reads.Learnt
     (λ κs a.
-    let m = running (a .0) (a .1 .0) (a .1 .1 .0 .now) (mem (a .1 .1 .1 .0 .now) (a .1 .1 .1 .1 .0 .now)) (a .1 .1 .1 .1 .1 .0 .now) (a .1 .1 .1 .1 .1 .1 .0 .now) in
-    record { result = m .number; left = (tt, (tt, (m .state, (m .stored .cells, (m .stored .ident, (tt, (m .answers, (m .cycles, (m .place, tt))))))))) })
+    let m = running (a .0) (a .1 .0) (a .1 .1 .0 .now) (a .1 .1 .1 .0) (a .1 .1 .1 .1 .0 .now) (mem (a .1 .1 .1 .1 .1 .0 .now) (a .1 .1 .1 .1 .1 .1 .0 .now)) (a .1 .1 .1 .1 .1 .1 .1 .0 .now) (a .1 .1 .1 .1 .1 .1 .1 .1 .0 .now) in
+    record { result = m .number; left = (tt, (tt, (tt, (tt, (m .state, (m .stored .cells, (m .stored .ident, (tt, (m .answers, (m .cycles, (m .place, tt))))))))))) })
 
 abbrev pub SapwoodleSaveIs : Type 0
 SapwoodleSaveIs =

@@ -6,7 +6,7 @@ ghost use mathlib.Core.Bool.{false};
 ghost use lib.ListN.{length};
 ghost use Rattle.parts.specs.Table.{factsOf, idSizeOf};
 ghost use Rattle.parts.specs.declared.Verdict.the-variants.{Fine};
-ghost use Rattle.chip.specs.Model.{ours};
+ghost use Rattle.chip.specs.Model.{old, ours};
 ghost use Rattle.chip.specs.Memory.{mem};
 ghost use Rattle.chip.specs.Delivery.{standbyOf, deliveredOf};
 ghost use Rattle.chip.specs.Runs.{levelsOf, cyclesOf};
@@ -18,6 +18,7 @@ use line::Line;
 use line::Phase;
 use line::Recv;
 use line::Target;
+use parts::Loss;
 use parts::Refusal;
 use parts::Verdict;
 use state::Chip;
@@ -301,12 +302,12 @@ fn turn(
     array: &mut [u8],
     id: &mut [u8],
 ) -> Told
-    ensures answer { λ r. ⌜ r .stepped ≡ stepOf part enable held (mem (now (array .entry)) (now (id .entry))) code .answer ⌝ }
-    ensures cells { λ _. ⌜ now (array .exit) ≡ stepOf part enable held (mem (now (array .entry)) (now (id .entry))) code .mem .cells ⌝ }
-    ensures ident { λ _. ⌜ now (id .exit) ≡ stepOf part enable held (mem (now (array .entry)) (now (id .entry))) code .mem .ident ⌝ }
+    ensures answer { λ r. ⌜ r .stepped ≡ stepOf part enable old held (mem (now (array .entry)) (now (id .entry))) code .answer ⌝ }
+    ensures cells { λ _. ⌜ now (array .exit) ≡ stepOf part enable old held (mem (now (array .entry)) (now (id .entry))) code .mem .cells ⌝ }
+    ensures ident { λ _. ⌜ now (id .exit) ≡ stepOf part enable old held (mem (now (array .entry)) (now (id .entry))) code .mem .ident ⌝ }
 {
     let before = held.line;
-    let stepped = chip::step(part, enable, held, array, id, code);
+    let stepped = chip::step(part, enable, Loss::Old, b"", held, array, id, code);
     let next = tell(part, note, place, before, code, stepped);
     Told {
         stepped: stepped,
@@ -325,9 +326,9 @@ fn follow(
     levels: &mut [u8],
 ) -> usize
     requires { ⌜ (length (now letters) ≤ 32768) × (length (now levels) ≡ length (now letters)) ⌝ }
-    ensures count { λ n. ⌜ n ≡ stepsOf part enable first (mem (now (array .entry)) (now (id .entry))) (codesOf (now (letters .entry))) .cycles ⌝ }
+    ensures count { λ n. ⌜ n ≡ stepsOf part enable old first (mem (now (array .entry)) (now (id .entry))) (codesOf (now (letters .entry))) .cycles ⌝ }
     ensures levels { λ _. ⌜ now (levels .exit)
-        ≡ stepsOf part enable first (mem (now (array .entry)) (now (id .entry))) (codesOf (now (letters .entry))) .levels ⌝ }
+        ≡ stepsOf part enable old first (mem (now (array .entry)) (now (id .entry))) (codesOf (now (letters .entry))) .levels ⌝ }
 {
     let mut held = first;
     let mut note = nothing(0);

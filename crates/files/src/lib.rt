@@ -7,6 +7,7 @@ ghost use lib.ListN.{length};
 use hexfile::HexRead;
 use libc::STDERR_FILENO;
 use libc::STDIN_FILENO;
+use parts::Loss;
 use parts::Refusal;
 use parts::Verdict;
 use words::Job;
@@ -289,7 +290,16 @@ fn pinned(
     array: &mut [u8],
     id: &mut [u8],
 ) -> Verdict {
-    let s = chip::step(part, enable, pack_chip::unpack(held), array, id, pin);
+    let s = chip::step(
+        part,
+        enable,
+        Loss::Old,
+        b"",
+        pack_chip::unpack(held),
+        array,
+        id,
+        pin,
+    );
     pack_chip::pack(s.chip, held);
     s.verdict
 }

@@ -2,17 +2,27 @@
 -- Assumes nothing.
 use Prim.Native.Nat.{ℕ, _≤_}
 use mathlib.Core.Path.{_≡_, _∙_, sym, ap, refl}
-use mathlib.Core.Bool.{Bool, true}
+use mathlib.Core.Bool.{Bool, true, not}
 use mathlib.Core.List.{List, _++_}
 use lib.ListN.{length, take, drop}
 use lib.Seq.{take-at}
+use Rattle.parts.specs.declared.Facts.{Facts}
 use Rattle.parts.specs.declared.Verdict.{Verdict}
 use Rattle.parts.specs.declared.Verdict.the-variants.{Fine, Refused}
 use Rattle.parts.specs.Table.{factsOf, enableRightOf}
+use Rattle.parts.specs.declared.Loss.the-variants.{Old}
 use Rattle.parts.proofs.Laws.{sound}
-use Rattle.line.specs.Rules.{nextOf, actOf, resetOf}
+use Rattle.parts.proofs.Tests.{both}
+use borrow.Author.Tests.{not-true}
+use Rattle.line.specs.declared.Target.the-variants.{Ident}
+use Rattle.line.specs.declared.Cycle.the-variants.{Writing, Locking}
+use Rattle.line.specs.declared.Phase.{Phase}
+use Rattle.line.specs.declared.Phase.the-variants.{Idle, Receive, Send, Busy}
+use Rattle.line.specs.declared.Core.{Core}
+use Rattle.line.specs.Rules.{lockAtReset, nextOf, actOf, resetOf}
 use Rattle.state.specs.declared.Chip.{Chip}
-use Rattle.state.specs.Range.{inRangeOf}
+use Rattle.state.specs.Range.{locationRightOf, unlockedRightOf, cycleRightOf, phaseRightOf, inRangeOf}
+use Rattle.state.proofs.Laws.{accepted-phase}
 use Rattle.chip.specs.Memory.{Mem, stateOf}
 use Rattle.chip.specs.Delivery.{standbyOf}
 use Rattle.image.specs.Layout.{imageOf, imageLengthOf, partIn, lockIn, storedIn}
@@ -81,6 +91,16 @@ pub saves-lock-only : SavesLockOnly saving
 saves-lock-only part c e m out a b h =
     rw (same-verdict part c e (length (m .cells)) (length (m .ident)) (length out) a b, same-out part c e m out (saveVerdictOf part e (length (m .cells)) (length (m .ident)) (length out)) h)
 
+-- a page that is being locked is not locked yet
+lock-old : (f : Facts) (c : Core) (k : List ℕ) (left : ℕ) (ph : Phase) → phaseRightOf f c k left ph ≡ true → c .locked ≡ lockAtReset Old (c .locked) ph
+unfolding phaseRightOf cycleRightOf unlockedRightOf
+lock-old f c k left Idle e = refl
+lock-old f c k left (Receive r) e = refl
+lock-old f c k left (Send t) e = refl
+lock-old f c k left (Busy (Writing t)) e = refl
+lock-old f c k left (Busy Locking) e = not-true (c .locked) (both (locationRightOf f c Ident) (not (c .locked)) e .1)
+
 pub as-after-reset : AsAfterReset
 unfolding standbyOf stateOf nextOf actOf resetOf
-as-after-reset f enable c = refl
+as-after-reset f enable c h =
+    ap (λ (b : Bool). standbyOf f b) (lock-old f (c .line .core) (c .latch) (c .line .left) (c .line .phase) (accepted-phase f c h))

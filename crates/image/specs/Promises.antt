@@ -6,6 +6,7 @@ use mathlib.Core.Path.{_≡_}
 use mathlib.Core.Bool.{Bool, true}
 use mathlib.Core.List.{List, _++_}
 use lib.ListN.{length, take, drop}
+use Rattle.parts.specs.declared.Loss.the-variants.{Old}
 use Rattle.parts.specs.declared.Event.the-variants.{Reset}
 use Rattle.parts.specs.declared.Facts.{Facts}
 use Rattle.parts.specs.declared.Verdict.the-variants.{Fine}
@@ -88,6 +89,7 @@ abbrev pub floated : Facts → Chip → Chip
 floated f c =
     record { line = record { core = record { counter = c .line .core .counter; pin = pinAtFirstOf f; inhibited = c .line .core .inhibited; locked = c .line .core .locked }; phase = c .line .phase; left = c .line .left; shift = c .line .shift }; latch = c .latch }
 
--- "a standby chip as after reset, pin floating": what is given back is the chip that was saved, reset
+-- "a standby chip as after reset, pin floating": what is given back is the chip that was saved, reset; a cycle that it was in is given up
+-- with the old contents and no lock
 abbrev pub AsAfterReset : Type 0
-AsAfterReset = (f : Facts) (enable : ℕ) (c : Chip) → standbyOf f (c .line .core .locked) ≡ stateOf f enable (floated f c) Reset
+AsAfterReset = (f : Facts) (enable : ℕ) (c : Chip) → inRangeOf f c ≡ true → standbyOf f (c .line .core .locked) ≡ stateOf f enable (floated f c) (Reset Old)

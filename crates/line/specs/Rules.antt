@@ -8,6 +8,8 @@ use lib.Dec.{eqb}
 use Rattle.parts.specs.declared.Facts.{Facts}
 use Rattle.parts.specs.declared.ArrayAddress.{ArrayAddress}
 use Rattle.parts.specs.declared.IdLocation.{IdLocation}
+use Rattle.parts.specs.declared.Loss.{Loss}
+use Rattle.parts.specs.declared.Loss.the-variants.{Old, Lent}
 use Rattle.parts.specs.declared.Event.{Event}
 use Rattle.parts.specs.declared.Event.the-variants.{Clock, Start, Stop, Ends, PinLow, PinHigh, PinFloat, Reset, Unknown}
 use Rattle.parts.specs.Bytes.{flagOf}
@@ -312,10 +314,25 @@ pinnedOf l v (Receive r) = markedIn l v
 pinnedOf l v (Send t) = markedIn l v
 pinnedOf l v (Busy y) = marked l v (l .core .inhibited)
 
--- ---- rule 9: standby, counter 0, latches dropped, pin kept; the lock survives
+-- ---- rule 9: standby, counter 0, latches dropped, pin kept; the lock survives. Document 02, §5: "a cycle that was locking leaves the lock
+-- as a given flag says"
 
-unfoldable pub resetOf : Core → Line
-resetOf c = at record { counter = 0; pin = c .pin; inhibited = false; locked = c .locked } Idle
+abbrev pub lockLeft : Loss → Bool
+lockLeft Old = false
+lockLeft (Lent lock) = lock
+
+abbrev pub lockCut : Loss → Bool → Cycle → Bool
+lockCut w lock (Writing t) = lock
+lockCut w lock Locking = lockLeft w
+
+abbrev pub lockAtReset : Loss → Bool → Phase → Bool
+lockAtReset w lock Idle = lock
+lockAtReset w lock (Receive r) = lock
+lockAtReset w lock (Send t) = lock
+lockAtReset w lock (Busy y) = lockCut w lock y
+
+unfoldable pub resetOf : Loss → Core → Phase → Line
+resetOf w c ph = at record { counter = 0; pin = c .pin; inhibited = false; locked = lockAtReset w (c .locked) ph } Idle
 
 -- ---- an event
 
@@ -327,7 +344,7 @@ nextOf f enable l Ends = endedOf f l (l .phase)
 nextOf f enable l PinLow = pinnedOf l Low (l .phase)
 nextOf f enable l PinHigh = pinnedOf l High (l .phase)
 nextOf f enable l PinFloat = pinnedOf l Floating (l .phase)
-nextOf f enable l Reset = resetOf (l .core)
+nextOf f enable l (Reset w) = resetOf w (l .core) (l .phase)
 nextOf f enable l Unknown = l
 
 unfoldable pub actOf : Facts → ℕ → Line → Event → Act
@@ -338,7 +355,7 @@ actOf f enable l Ends = endActOf (l .phase)
 actOf f enable l PinLow = Keep
 actOf f enable l PinHigh = Keep
 actOf f enable l PinFloat = Keep
-actOf f enable l Reset = Drop
+actOf f enable l (Reset w) = Drop
 actOf f enable l Unknown = Keep
 
 -- 0 pulls low, 1 releases, 2 no level; `b` is the byte at the counter
@@ -350,7 +367,7 @@ levelOf f enable l b Ends = 2
 levelOf f enable l b PinLow = 2
 levelOf f enable l b PinHigh = 2
 levelOf f enable l b PinFloat = 2
-levelOf f enable l b Reset = 2
+levelOf f enable l b (Reset w) = 2
 levelOf f enable l b Unknown = 2
 
 -- cycles begun are well-placed Stops
@@ -362,7 +379,7 @@ begunOf l Ends = 0
 begunOf l PinLow = 0
 begunOf l PinHigh = 0
 begunOf l PinFloat = 0
-begunOf l Reset = 0
+begunOf l (Reset w) = 0
 begunOf l Unknown = 0
 
 -- no level, no cycle

@@ -2,10 +2,11 @@
 ghost use mathlib.Core.Path.{_≡_};
 ghost use Prim.Native.Nat.{_+_, _*_, _<_};
 ghost use Rattle.parts.specs.Table.{factsOf};
-ghost use Rattle.line.specs.Rules.{isHigh, at, givenUp, rollOf, beforeOf, onwardOf, enabledOf, namedOf, decodeOf, addressStartOf, selectedOf, arrayAddressOf, locationOf, asksLockOf, loadArrayOf, loadIdOf, loadedOf, refusesOf, latchedOf, takenOf, filledOf, lockedByOf, endedByOf, markedIn, receivedOf, receiveActOf, receiveLevelOf, releasedIn, movedOf, sentOf, sendLevelOf, clockedOf, clockActOf, clockLevelOf, startedOf, startActOf, asksOf, placedOf, dueOf, stoppedOf, stopActOf, stopBegunOf, endedOf, endActOf, pinnedOf, resetOf, opened, marked, quietly, moveOf};
+ghost use Rattle.line.specs.Rules.{isHigh, at, givenUp, rollOf, beforeOf, onwardOf, enabledOf, namedOf, decodeOf, addressStartOf, selectedOf, arrayAddressOf, locationOf, asksLockOf, loadArrayOf, loadIdOf, loadedOf, refusesOf, latchedOf, takenOf, filledOf, lockedByOf, endedByOf, markedIn, receivedOf, receiveActOf, receiveLevelOf, releasedIn, movedOf, sentOf, sendLevelOf, clockedOf, clockActOf, clockLevelOf, startedOf, startActOf, asksOf, placedOf, dueOf, stoppedOf, stopActOf, stopBegunOf, endedOf, endActOf, pinnedOf, lockLeft, lockCut, lockAtReset, resetOf, opened, marked, quietly, moveOf};
 use parts::ArrayAddress;
 use parts::Event;
 use parts::IdLocation;
+use parts::Loss;
 
 pub enum Pin {
     // The part has no pin.
@@ -779,12 +780,43 @@ fn set_pin(line: Line, pin: Pin) -> Line
     }
 }
 
-fn reset(core: Core) -> Line
-    ensures { λ r. ⌜ r ≡ resetOf core ⌝ }
+// Whether a cycle that was locking leaves the lock set.
+fn lock_left(loss: Loss) -> bool
+    ensures { λ r. ⌜ r ≡ lockLeft loss ⌝ }
+{
+    match loss {
+        Loss::Old => false,
+        Loss::Lent(lock) => lock,
+    }
+}
+
+fn lock_cut(loss: Loss, lock: bool, cycle: Cycle) -> bool
+    ensures { λ r. ⌜ r ≡ lockCut loss lock cycle ⌝ }
+{
+    match cycle {
+        Cycle::Writing(_) => lock,
+        Cycle::Locking => lock_left(loss),
+    }
+}
+
+fn lock_at_reset(loss: Loss, lock: bool, phase: Phase) -> bool
+    ensures { λ r. ⌜ r ≡ lockAtReset loss lock phase ⌝ }
+{
+    match phase {
+        Phase::Idle => lock,
+        Phase::Receive(_) => lock,
+        Phase::Send(_) => lock,
+        Phase::Busy(y) => lock_cut(loss, lock, y),
+    }
+}
+
+fn reset(loss: Loss, core: Core, phase: Phase) -> Line
+    ensures { λ r. ⌜ r ≡ resetOf loss core phase ⌝ }
 {
     let cleared = Core {
         counter: 0,
         inhibited: false,
+        locked: lock_at_reset(loss, core.locked, phase),
         ..core
     };
     at_phase(cleared, Phase::Idle)
@@ -811,9 +843,10 @@ pub fn advance(part: u8, enable: u8, line: Line, byte: u8, event: Event) -> Line
             let next = set_pin(line, Pin::Floating);
             quiet(next, Act::Keep)
         }
-        Event::Reset => {
+        Event::Reset(loss) => {
             let core = line.core;
-            let next = reset(core);
+            let phase = line.phase;
+            let next = reset(loss, core, phase);
             quiet(next, Act::Drop)
         }
         Event::Unknown => quiet(line, Act::Keep),

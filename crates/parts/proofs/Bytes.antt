@@ -1,16 +1,17 @@
 -- Laws of flags as numbers, and of bytes.
 -- Assumes nothing.
-use Prim.Native.Nat.{ℕ, zero, suc, _≤_, _<_}
+use Prim.Native.Nat.{ℕ, zero, suc, _+_, _≤_, _<_}
 use mathlib.Core.Path.{_≡_, _∙_, refl}
-use mathlib.Core.Bool.{Bool, true, false}
+use mathlib.Core.Bool.{Bool, true, false, _&&_}
 use mathlib.Core.List.{List, [], _∷_, _++_, append-nil}
 use native.Mathlib.Nat.{zero-add}
+use native.Mathlib.Numerals.{add-one}
 use native.Mathlib.Omega.{arith}
 use lib.ListN.{length, getD, take, drop, drop-of-length-le}
-use lib.Seq.{sets, sets-eq}
-use lib.Dec.{eqb}
+use lib.Seq.{sets, sets-eq, drop-cons}
+use lib.Dec.{eqb, ltb}
 use borrow.Author.Tests.{eqb-true}
-use Rattle.parts.specs.Bytes.{flagOf, AllBelow, sameOf}
+use Rattle.parts.specs.Bytes.{flagOf, AllBelow, sameOf, allBelowOf}
 use Rattle.parts.proofs.Tests.{and-both}
 
 pub flag-below : (b : Bool) → flagOf b < 2
@@ -49,6 +50,30 @@ pub below-drop : (n i : ℕ) (l : List ℕ) → AllBelow n l → AllBelow n (dro
 below-drop n zero l h = h
 below-drop n (suc i) [] h = tt
 below-drop n (suc i) (x ∷ l) h = below-drop n i l (h .1)
+
+pub below-left : (n : ℕ) (k l : List ℕ) → AllBelow n (k ++ l) → AllBelow n k
+below-left n [] l h = tt
+below-left n (x ∷ k) l h = (h .0, below-left n k l (h .1))
+
+pub below-right : (n : ℕ) (k l : List ℕ) → AllBelow n (k ++ l) → AllBelow n l
+below-right n [] l h = h
+below-right n (x ∷ k) l h = below-right n k l (h .1)
+
+-- ---- whether all are below
+
+pub low-before : (n : ℕ) (low : Bool) (l : List ℕ) → allBelowOf n low l ≡ true → low ≡ true
+unfolding allBelowOf
+low-before n low [] h = h
+low-before n true (x ∷ l) h = refl
+low-before n false (x ∷ l) h = low-before n false l h
+
+pub low-step : (n : ℕ) (low : Bool) (i : ℕ) (l : List ℕ) → i < length l → allBelowOf n (low && ltb (getD l i 0) n) (drop (i + 1) l) ≡ allBelowOf n low (drop i l)
+unfolding allBelowOf
+low-step n low i l h = rw (add-one, drop-cons l i 0) refl
+
+pub low-end : (n : ℕ) (low : Bool) (i : ℕ) (l : List ℕ) → length l ≤ i → allBelowOf n low (drop i l) ≡ low
+unfolding allBelowOf
+low-end n low i l h = rw (drop-of-length-le l h) refl
 
 pub same-eq : (k l : List ℕ) → sameOf k l ≡ true → k ≡ l
 unfolding sameOf

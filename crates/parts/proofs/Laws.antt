@@ -9,9 +9,11 @@ use lib.ListN.{length}
 use borrow.Author.Tests.{eq-eqb, ne-eqb, eqb-true, eqb-false}
 use Rattle.parts.specs.declared.Facts.{Facts}
 use Rattle.parts.specs.declared.Part.{Part}
+use Rattle.parts.specs.declared.Loss.{Loss}
+use Rattle.parts.specs.declared.Loss.the-variants.{Old}
 use Rattle.parts.specs.declared.Event.the-variants.{Clock}
 use Rattle.parts.specs.Table.{tableOf, factsOf, nameOf, idSizeOf, buffersRightOf}
-use Rattle.parts.specs.Events.{eventOf}
+use Rattle.parts.specs.Events.{eventWith, eventOf}
 use Rattle.parts.specs.Sound.{Sound, OneOrder}
 use Rattle.parts.specs.declared.Refusal.{Refusal}
 use Rattle.parts.specs.declared.Refusal.the-variants.{NoPart, WrongEnable, WrongBuffer, BadState, BadEvent, ShortBuffer, Beyond, BadLimit, NoSelect, NoData, PollsUsed, BadImage, TooMany, NoFirst, NoSecond, BadRecord, BadSum, Misplaced, NoEnd, BadSample}
@@ -107,11 +109,14 @@ passed false r v h = (refl, h)
 -- ---- events and buffers
 
 -- 0 and 1 are clocks
+pub clock-with : (w : Loss) (e : ℕ) → e < 2 → eventWith w e ≡ Clock (eqb e 1)
+unfolding eventWith
+clock-with w zero h = refl
+clock-with w (suc zero) h = refl
+clock-with w (suc (suc e)) h = absurd (omega arith)
+
 pub clock-code : (e : ℕ) → e < 2 → eventOf e ≡ Clock (eqb e 1)
-unfolding eventOf
-clock-code zero h = refl
-clock-code (suc zero) h = refl
-clock-code (suc (suc e)) h = absurd (omega arith)
+clock-code = clock-with Old
 
 pub buffers-right : (f : Facts) (n d : ℕ) → n ≡ f .size → d ≡ idSizeOf f → buffersRightOf f n d ≡ true
 unfolding buffersRightOf

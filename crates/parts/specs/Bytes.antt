@@ -3,7 +3,7 @@
 use Prim.Native.Nat.{ℕ, _<_}
 use mathlib.Core.Bool.{Bool, true, false, _&&_}
 use mathlib.Core.List.{List, [], _∷_}
-use lib.Dec.{eqb}
+use lib.Dec.{eqb, ltb}
 
 -- a flag, or the level of a clock: 1 for yes, and for a line that is high
 abbrev pub flagOf : Bool → ℕ
@@ -21,3 +21,8 @@ sameOf [] [] = true
 sameOf [] (y ∷ ys) = false
 sameOf (x ∷ xs) [] = false
 sameOf (x ∷ xs) (y ∷ ys) = eqb x y && sameOf xs ys
+
+-- whether every number of a list is below n, and `low` holds of what stood before it
+unfoldable pub allBelowOf : ℕ → Bool → List ℕ → Bool
+allBelowOf n low [] = low
+allBelowOf n low (x ∷ xs) = allBelowOf n (low && ltb x n) xs

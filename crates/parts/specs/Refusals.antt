@@ -1,9 +1,10 @@
--- Document 01, 'Refusal numbers', and document 02, §1 to §3: number, rank and place of each refusal, and which of several is given.
+-- Document 01, 'Refusal numbers', and document 02, §1 to §3 and §5: number, rank and place of each refusal, and which of several is given.
 -- Assumes nothing.
 use Prim.Native.Nat.{ℕ}
 use mathlib.Core.Bool.{Bool, true, false, not, cond}
-use lib.Dec.{ltb}
+use lib.Dec.{ltb, eqb}
 use Rattle.parts.specs.declared.Facts.{Facts}
+use Rattle.parts.specs.declared.Loss.{Loss}
 use Rattle.parts.specs.declared.Refusal.{Refusal}
 use Rattle.parts.specs.declared.Refusal.the-variants.{NoPart, WrongEnable, WrongBuffer, BadState, BadEvent, ShortBuffer, Beyond, BadLimit, NoSelect, NoData, PollsUsed, BadImage, TooMany, NoFirst, NoSecond, BadRecord, BadSum, Misplaced, NoEnd, BadSample}
 use Rattle.parts.specs.declared.Spot.{Spot}
@@ -12,6 +13,7 @@ use Rattle.parts.specs.declared.Entry.{Entry}
 use Rattle.parts.specs.declared.Verdict.{Verdict}
 use Rattle.parts.specs.declared.Verdict.the-variants.{Fine, Refused}
 use Rattle.parts.specs.Table.{buffersRightOf}
+use Rattle.parts.specs.Events.{lossSizeOf}
 
 -- a refusal's number, its rank and its place
 abbrev entry : ℕ → ℕ → Spot → Entry
@@ -88,3 +90,7 @@ soonerOf (Refused r) (Refused s) = cond (ltb (rankOf s) (rankOf r)) (Refused s) 
 -- 1 and 3: no such part, or lent buffers that are not the part's
 unfoldable pub lentVerdictOf : Facts → ℕ → ℕ → Verdict
 lentVerdictOf f array id = soonerOf (claimOf (not (f .known)) NoPart) (claimOf (not (buffersRightOf f array id)) WrongBuffer)
+
+-- §5: "3 also for that page's length"
+unfoldable pub lossVerdictOf : Facts → Loss → ℕ → Verdict
+lossVerdictOf f w page = claimOf (not (eqb page (lossSizeOf f w))) WrongBuffer

@@ -4,9 +4,10 @@ ghost use Prim.Native.Nat.{_≤_};
 ghost use lib.ListN.{length, getD};
 ghost use Rattle.parts.specs.Table.{rowOf, noPart, tableOf, factsOf, nameOf, idSizeOf, buffersRightOf, addressBytesOf, enableRightOf};
 ghost use Rattle.parts.specs.Sound.{Sound};
-ghost use Rattle.parts.specs.Events.{eventOf, eventRightOf};
-ghost use Rattle.parts.specs.Refusals.{entryOf, numberOf, rankOf, spotOf, placeTold, verdictNumberOf, verdictPlaceOf, claimOf, soonerOf, lentVerdictOf};
-ghost use Rattle.parts.specs.Bytes.{flagOf};
+ghost use Rattle.parts.specs.Events.{eventWith, eventRightOf, lossSizeOf};
+ghost use Rattle.parts.specs.Refusals.{entryOf, numberOf, rankOf, spotOf, placeTold, verdictNumberOf, verdictPlaceOf, claimOf, soonerOf, lentVerdictOf, lossVerdictOf};
+ghost use Rattle.parts.specs.Bytes.{flagOf, allBelowOf};
+ghost use mathlib.Core.Bool.{true};
 
 // The address of a byte of the array.
 pub struct ArrayAddress(pub usize);
@@ -182,6 +183,14 @@ pub fn enable_right(f: Facts, enable: u8) -> bool
     enable < f.enables
 }
 
+// What a reset finds where it cuts a cycle (document 02, §5).
+pub enum Loss {
+    // The old contents, and no lock: no page is lent.
+    Old,
+    // The bytes of a lent page, and the lock as the flag says.
+    Lent(bool),
+}
+
 pub enum Event {
     Clock(bool),
     Start,
@@ -190,13 +199,14 @@ pub enum Event {
     PinLow,
     PinHigh,
     PinFloat,
-    Reset,
+    Reset(Loss),
     // A code above 8: refused before it is taken.
     Unknown,
 }
 
-pub fn event_of(code: u8) -> Event
-    ensures { λ r. ⌜ r ≡ eventOf code ⌝ }
+// The event of a code; a reset comes with the loss that the call was given.
+pub fn event_with(loss: Loss, code: u8) -> Event
+    ensures { λ r. ⌜ r ≡ eventWith loss code ⌝ }
 {
     match code {
         0 => Event::Clock(false),
@@ -207,7 +217,7 @@ pub fn event_of(code: u8) -> Event
         5 => Event::PinLow,
         6 => Event::PinHigh,
         7 => Event::PinFloat,
-        8 => Event::Reset,
+        8 => Event::Reset(loss),
         _ => Event::Unknown,
     }
 }
@@ -226,6 +236,29 @@ pub fn event_right(pin: bool, code: u8) -> bool
         return true;
     }
     code == 8
+}
+
+// The bytes of the page that is lent for a loss of power: 0 for the old contents.
+pub fn loss_size(f: Facts, loss: Loss) -> usize
+    ensures { λ r. ⌜ r ≡ lossSizeOf f loss ⌝ }
+{
+    match loss {
+        Loss::Old => 0,
+        Loss::Lent(_) => f.page,
+    }
+}
+
+// Whether each byte is below a limit. One test a byte and no way out: the usual case of a longer look.
+pub fn all_below(limit: u8, bytes: &[u8]) -> bool
+    ensures { λ r. ⌜ r ≡ allBelowOf limit true (now (bytes .entry)) ⌝ }
+{
+    let mut low = true;
+    let mut i = 0;
+    while i < bytes.len() {
+        low = low & (bytes[i] < limit);
+        i += 1;
+    }
+    low
 }
 
 // The byte of a buffer, and 0 beyond its end.
@@ -407,4 +440,12 @@ pub fn lent_verdict(f: Facts, array: usize, id: usize) -> Verdict
         claim(!known, Refusal::NoPart),
         claim(!lent, Refusal::WrongBuffer),
     )
+}
+
+// Refusal 3, for the page that is lent for a loss of power.
+pub fn loss_verdict(f: Facts, loss: Loss, page: usize) -> Verdict
+    ensures { λ v. ⌜ v ≡ lossVerdictOf f loss page ⌝ }
+{
+    let wanted = loss_size(f, loss);
+    claim(page != wanted, Refusal::WrongBuffer)
 }

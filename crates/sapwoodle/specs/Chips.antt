@@ -1,20 +1,34 @@
 -- What the functions of the chip leave: the number answered, and each lent byte. A state is bytes (`unpackedChipOf`, `packInto`).
 -- Assumes nothing.
 use Prim.Native.Nat.{ℕ}
-use mathlib.Core.Bool.{false, cond}
+use mathlib.Core.Bool.{true, false, cond}
 use mathlib.Core.List.{List}
 use lib.ListN.{length}
 use lib.Dec.{eqb}
+use Rattle.parts.specs.declared.Loss.{Loss}
+use Rattle.parts.specs.declared.Loss.the-variants.{Old, Lent}
 use Rattle.parts.specs.declared.Verdict.{Verdict}
 use Rattle.parts.specs.Table.{factsOf}
 use Rattle.parts.specs.Refusals.{verdictNumberOf, verdictPlaceOf}
 use Rattle.chip.specs.Memory.{Mem}
+use Rattle.chip.specs.Model.{PowerCut, cutBy}
 use Rattle.chip.specs.Delivery.{standbyOf}
 use Rattle.chip.specs.Calls.{deliverVerdictOf, deliverMem, stepOf, runOf}
 use Rattle.pack_chip.specs.Layout.{chipLength, unpackedChipOf}
 use Rattle.sapwoodle.specs.Answers.{chipBytesAfter, unheldOf}
 
--- ---- what a call answers, and each lent byte after it: of the part, the enable, the state's bytes, what is stored, and the rest
+-- ---- what is given for a loss of power (document 02, §5): "a lent page of P bytes" and "a given flag", 0 no, 1 and more yes
+
+-- of the page's length and the flag: no page and flag 0 are the old contents and no lock. Anything else is a lent page, so that a flag
+-- without one is judged as a page of length 0 is, by refusal 3
+unfoldable pub lossFrom : ℕ → ℕ → Loss
+lossFrom n lock = cond (eqb lock 0) (cond (eqb n 0) Old (Lent false)) (Lent true)
+
+abbrev pub cutFrom : List ℕ → ℕ → PowerCut
+cutFrom page lock = cutBy (lossFrom (length page) lock) page
+
+-- ---- what a call answers, and each lent byte after it: of the part, the enable, the lent page and its flag, the state's bytes, what is
+-- stored, and the rest
 
 pub record BytesAfterStep : Type 0 where
   pub number : ℕ
@@ -38,27 +52,27 @@ pub record BytesAfterDeliver : Type 0 where
 
 -- ---- one event
 
-abbrev pub stepping : ℕ → ℕ → List ℕ → Mem → ℕ → BytesAfterStep
-stepping part enable s m e =
+abbrev pub stepping : ℕ → ℕ → List ℕ → ℕ → List ℕ → Mem → ℕ → BytesAfterStep
+stepping part enable page lock s m e =
     record {
-      number = verdictNumberOf (stepOf part enable (unpackedChipOf s) m e .answer .verdict);
-      level = stepOf part enable (unpackedChipOf s) m e .answer .level;
-      cycles = stepOf part enable (unpackedChipOf s) m e .answer .cycles;
-      state = chipBytesAfter (stepOf part enable (unpackedChipOf s) m e .answer .verdict) (stepOf part enable (unpackedChipOf s) m e .answer .chip) s;
-      stored = stepOf part enable (unpackedChipOf s) m e .mem;
+      number = verdictNumberOf (stepOf part enable (cutFrom page lock) (unpackedChipOf s) m e .answer .verdict);
+      level = stepOf part enable (cutFrom page lock) (unpackedChipOf s) m e .answer .level;
+      cycles = stepOf part enable (cutFrom page lock) (unpackedChipOf s) m e .answer .cycles;
+      state = chipBytesAfter (stepOf part enable (cutFrom page lock) (unpackedChipOf s) m e .answer .verdict) (stepOf part enable (cutFrom page lock) (unpackedChipOf s) m e .answer .chip) s;
+      stored = stepOf part enable (cutFrom page lock) (unpackedChipOf s) m e .mem;
     }
 
 -- ---- a list of events
 
-abbrev pub running : ℕ → ℕ → List ℕ → Mem → List ℕ → List ℕ → BytesAfterRun
-running part enable s m es a =
+abbrev pub running : ℕ → ℕ → List ℕ → ℕ → List ℕ → Mem → List ℕ → List ℕ → BytesAfterRun
+running part enable page lock s m es a =
     record {
-      number = verdictNumberOf (runOf part enable (unpackedChipOf s) m es a .answer .verdict);
-      cycles = runOf part enable (unpackedChipOf s) m es a .answer .cycles;
-      place = verdictPlaceOf (runOf part enable (unpackedChipOf s) m es a .answer .verdict);
-      state = chipBytesAfter (runOf part enable (unpackedChipOf s) m es a .answer .verdict) (runOf part enable (unpackedChipOf s) m es a .answer .chip) s;
-      stored = runOf part enable (unpackedChipOf s) m es a .mem;
-      answers = runOf part enable (unpackedChipOf s) m es a .answers;
+      number = verdictNumberOf (runOf part enable (cutFrom page lock) (unpackedChipOf s) m es a .answer .verdict);
+      cycles = runOf part enable (cutFrom page lock) (unpackedChipOf s) m es a .answer .cycles;
+      place = verdictPlaceOf (runOf part enable (cutFrom page lock) (unpackedChipOf s) m es a .answer .verdict);
+      state = chipBytesAfter (runOf part enable (cutFrom page lock) (unpackedChipOf s) m es a .answer .verdict) (runOf part enable (cutFrom page lock) (unpackedChipOf s) m es a .answer .chip) s;
+      stored = runOf part enable (cutFrom page lock) (unpackedChipOf s) m es a .mem;
+      answers = runOf part enable (cutFrom page lock) (unpackedChipOf s) m es a .answers;
     }
 
 -- ---- delivery

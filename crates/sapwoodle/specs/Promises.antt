@@ -2,19 +2,21 @@
 -- `loadingOf`, `beginning`, `asking` and `benching`, which the contracts cite, keep it: proofs/chips/Kept.antt and so on. What an image holds
 -- is promised in the crate `image`, what the driver does to the chip in the crate `bench_promises`.
 -- Assumes nothing.
-use Prim.Native.Nat.{ℕ, _<_}
+use Prim.Native.Nat.{ℕ, _+_, _<_}
 use mathlib.Core.Path.{_≡_}
 use mathlib.Core.Bool.{Bool, true, false}
-use mathlib.Core.List.{List}
+use mathlib.Core.List.{List, []}
 use lib.ListN.{length}
 use Rattle.parts.specs.declared.Refusal.{Refusal}
-use Rattle.parts.specs.declared.Refusal.the-variants.{BadState, BadEvent}
+use Rattle.parts.specs.declared.Refusal.the-variants.{WrongBuffer, BadState, BadEvent}
 use Rattle.parts.specs.declared.Verdict.the-variants.{Refused as Judged}
 use Rattle.parts.specs.Table.{factsOf, idSizeOf, enableRightOf}
+use Rattle.parts.specs.Events.{lossSizeOf}
 use Rattle.parts.specs.Refusals.{numberOf, verdictNumberOf, verdictPlaceOf}
 use Rattle.parts.specs.Bytes.{AllBelow}
 use Rattle.state.specs.declared.Chip.{Chip}
 use Rattle.chip.specs.Memory.{Mem}
+use Rattle.chip.specs.Model.{PowerCut, old}
 use Rattle.chip.specs.Delivery.{standbyOf}
 use Rattle.chip.specs.Calls.{stepOf, runOf}
 use Rattle.capture.specs.Calls.{seeingOf}
@@ -28,7 +30,7 @@ use Rattle.bench.specs.Calls.{benchVerdict, benchOf}
 use Rattle.pack_chip.specs.Layout.{packedChipOf, holdsChipOf, unpackedChipOf}
 use Rattle.pack_chip.specs.Promises.{ChipFits}
 use Rattle.pack_driver.specs.Layout.{driverLength, holdsDriverOf, unpackedDriverOf}
-use Rattle.sapwoodle.specs.Chips.{BytesAfterStep, BytesAfterRun, BytesAfterDeliver, stepping, running, delivering}
+use Rattle.sapwoodle.specs.Chips.{BytesAfterStep, BytesAfterRun, BytesAfterDeliver, lossFrom, cutFrom, stepping, running, delivering}
 use Rattle.sapwoodle.specs.Images.{BytesAfterSave, BytesAfterLoad, savingBytes, loadingBytes}
 use Rattle.sapwoodle.specs.Hexes.{BytesAfterHexRead, BytesAfterHexWrite, hexReading, hexWriting}
 use Rattle.sapwoodle.specs.Captures.{BytesAfterCapture, BytesAfterEvents, BytesAfterTally, capturedBytes, capturing, listing, tallying}
@@ -37,13 +39,13 @@ use Rattle.sapwoodle.specs.Runs.{BytesAfterBench, benching}
 
 -- ======== the chip
 
--- of the part, the enable, the state's bytes, what is stored, and the event
+-- of the part, the enable, the page lent for a loss of power and its flag, the state's bytes, what is stored, and the event
 abbrev pub Stepping : Type 0
-Stepping = ℕ → ℕ → List ℕ → Mem → ℕ → BytesAfterStep
+Stepping = ℕ → ℕ → List ℕ → ℕ → List ℕ → Mem → ℕ → BytesAfterStep
 
 -- likewise with the events and the answer buffer
 abbrev pub Running : Type 0
-Running = ℕ → ℕ → List ℕ → Mem → List ℕ → List ℕ → BytesAfterRun
+Running = ℕ → ℕ → List ℕ → ℕ → List ℕ → Mem → List ℕ → List ℕ → BytesAfterRun
 
 abbrev pub Delivering : Type 0
 Delivering = ℕ → List ℕ → Mem → BytesAfterDeliver
@@ -52,16 +54,16 @@ Delivering = ℕ → List ℕ → Mem → BytesAfterDeliver
 
 abbrev pub StepKeeps : Stepping → Type 0
 StepKeeps step =
-    (part enable : ℕ) (s : List ℕ) (m : Mem) (e : ℕ) → (step part enable s m e .number ≡ 0 → ⊥)
-    → (step part enable s m e .state ≡ s) × (step part enable s m e .stored ≡ m)
-    × (step part enable s m e .level ≡ 2) × (step part enable s m e .cycles ≡ 0)
+    (part enable : ℕ) (page : List ℕ) (lock : ℕ) (s : List ℕ) (m : Mem) (e : ℕ) → (step part enable page lock s m e .number ≡ 0 → ⊥)
+    → (step part enable page lock s m e .state ≡ s) × (step part enable page lock s m e .stored ≡ m)
+    × (step part enable page lock s m e .level ≡ 2) × (step part enable page lock s m e .cycles ≡ 0)
 
 abbrev pub RunKeeps : Running → Type 0
 RunKeeps run =
-    (part enable : ℕ) (s : List ℕ) (m : Mem) (es a : List ℕ) → (run part enable s m es a .number ≡ 0 → ⊥)
-    → (run part enable s m es a .state ≡ s) × (run part enable s m es a .stored ≡ m) × (run part enable s m es a .answers ≡ a)
-    × (run part enable s m es a .cycles ≡ 0)
-    × ((run part enable s m es a .number ≡ numberOf (BadEvent 0) → ⊥) → run part enable s m es a .place ≡ 0)
+    (part enable : ℕ) (page : List ℕ) (lock : ℕ) (s : List ℕ) (m : Mem) (es a : List ℕ) → (run part enable page lock s m es a .number ≡ 0 → ⊥)
+    → (run part enable page lock s m es a .state ≡ s) × (run part enable page lock s m es a .stored ≡ m) × (run part enable page lock s m es a .answers ≡ a)
+    × (run part enable page lock s m es a .cycles ≡ 0)
+    × ((run part enable page lock s m es a .number ≡ numberOf (BadEvent 0) → ⊥) → run part enable page lock s m es a .place ≡ 0)
 
 abbrev pub DeliverKeeps : Delivering → Type 0
 DeliverKeeps deliver =
@@ -69,30 +71,38 @@ DeliverKeeps deliver =
 
 -- ---- on the bytes of a state a call is the chip's own, and leaves the bytes of the state after it
 
+-- of the part, the enable, what is given for a loss of power, the chip, what is stored and the event
+abbrev pub stepBytes : ℕ → ℕ → PowerCut → Chip → Mem → ℕ → BytesAfterStep
+stepBytes part enable w c m e =
+    record {
+      number = verdictNumberOf (stepOf part enable w c m e .answer .verdict);
+      level = stepOf part enable w c m e .answer .level;
+      cycles = stepOf part enable w c m e .answer .cycles;
+      state = packedChipOf (stepOf part enable w c m e .answer .chip);
+      stored = stepOf part enable w c m e .mem;
+    }
+
 abbrev pub StepIsChips : Stepping → Type 0
 StepIsChips step =
-    (part enable : ℕ) (c : Chip) (m : Mem) (e : ℕ) → ChipFits c
-    → step part enable (packedChipOf c) m e
-    ≡ record {
-      number = verdictNumberOf (stepOf part enable c m e .answer .verdict);
-      level = stepOf part enable c m e .answer .level;
-      cycles = stepOf part enable c m e .answer .cycles;
-      state = packedChipOf (stepOf part enable c m e .answer .chip);
-      stored = stepOf part enable c m e .mem;
+    (part enable : ℕ) (page : List ℕ) (lock : ℕ) (c : Chip) (m : Mem) (e : ℕ) → ChipFits c
+    → step part enable page lock (packedChipOf c) m e ≡ stepBytes part enable (cutFrom page lock) c m e
+
+-- likewise with the events and the answer buffer
+abbrev pub runBytes : ℕ → ℕ → PowerCut → Chip → Mem → List ℕ → List ℕ → BytesAfterRun
+runBytes part enable w c m es a =
+    record {
+      number = verdictNumberOf (runOf part enable w c m es a .answer .verdict);
+      cycles = runOf part enable w c m es a .answer .cycles;
+      place = verdictPlaceOf (runOf part enable w c m es a .answer .verdict);
+      state = packedChipOf (runOf part enable w c m es a .answer .chip);
+      stored = runOf part enable w c m es a .mem;
+      answers = runOf part enable w c m es a .answers;
     }
 
 abbrev pub RunIsChips : Running → Type 0
 RunIsChips run =
-    (part enable : ℕ) (c : Chip) (m : Mem) (es a : List ℕ) → ChipFits c
-    → run part enable (packedChipOf c) m es a
-    ≡ record {
-      number = verdictNumberOf (runOf part enable c m es a .answer .verdict);
-      cycles = runOf part enable c m es a .answer .cycles;
-      place = verdictPlaceOf (runOf part enable c m es a .answer .verdict);
-      state = packedChipOf (runOf part enable c m es a .answer .chip);
-      stored = runOf part enable c m es a .mem;
-      answers = runOf part enable c m es a .answers;
-    }
+    (part enable : ℕ) (page : List ℕ) (lock : ℕ) (c : Chip) (m : Mem) (es a : List ℕ) → ChipFits c
+    → run part enable page lock (packedChipOf c) m es a ≡ runBytes part enable (cutFrom page lock) c m es a
 
 -- what is delivered is held
 abbrev pub DeliverHolds : Delivering → Type 0
@@ -100,27 +110,59 @@ DeliverHolds deliver =
     (part : ℕ) (s : List ℕ) (m : Mem) → deliver part s m .number ≡ 0
     → (holdsChipOf (deliver part s m .state) ≡ true) × (unpackedChipOf (deliver part s m .state) ≡ standbyOf (factsOf part) false)
 
+-- ---- what is given for a loss of power (document 02, §5)
+
+-- no page and flag 0: "the old contents and no lock"
+abbrev pub StepOld : Stepping → Type 0
+StepOld step =
+    (part enable : ℕ) (c : Chip) (m : Mem) (e : ℕ) → ChipFits c → step part enable [] 0 (packedChipOf c) m e ≡ stepBytes part enable old c m e
+
+abbrev pub RunOld : Running → Type 0
+RunOld run =
+    (part enable : ℕ) (c : Chip) (m : Mem) (es a : List ℕ) → ChipFits c → run part enable [] 0 (packedChipOf c) m es a ≡ runBytes part enable old c m es a
+
+-- "3 also for that page's length": any but P bytes, and so a flag without a page, unless 1 or 2 is given
+abbrev pub StepRefuses3 : Stepping → Type 0
+StepRefuses3 step =
+    (part enable : ℕ) (page : List ℕ) (lock : ℕ) (s : List ℕ) (m : Mem) (e : ℕ)
+    → factsOf part .known ≡ true
+    → enableRightOf (factsOf part) enable ≡ true
+    → (length page + lock ≡ 0 → ⊥)
+    → (length page ≡ factsOf part .page → ⊥)
+    → step part enable page lock s m e .number ≡ numberOf WrongBuffer
+
+abbrev pub RunRefuses3 : Running → Type 0
+RunRefuses3 run =
+    (part enable : ℕ) (page : List ℕ) (lock : ℕ) (s : List ℕ) (m : Mem) (es a : List ℕ)
+    → factsOf part .known ≡ true
+    → enableRightOf (factsOf part) enable ≡ true
+    → (length page + lock ≡ 0 → ⊥)
+    → (length page ≡ factsOf part .page → ⊥)
+    → run part enable page lock s m es a .number ≡ numberOf WrongBuffer
+
 -- ---- bytes that hold no state are refused with 4, unless 1, 2 or 3 is given
 
 abbrev pub StepRefuses4 : Stepping → Type 0
 StepRefuses4 step =
-    (part enable : ℕ) (s : List ℕ) (m : Mem) (e : ℕ)
+    (part enable : ℕ) (page : List ℕ) (lock : ℕ) (s : List ℕ) (m : Mem) (e : ℕ)
     → factsOf part .known ≡ true
     → enableRightOf (factsOf part) enable ≡ true
     → length (m .cells) ≡ factsOf part .size
     → length (m .ident) ≡ idSizeOf (factsOf part)
+    → length page ≡ lossSizeOf (factsOf part) (lossFrom (length page) lock)
     → holdsChipOf s ≡ false
-    → step part enable s m e .number ≡ numberOf BadState
+    → step part enable page lock s m e .number ≡ numberOf BadState
 
 abbrev pub RunRefuses4 : Running → Type 0
 RunRefuses4 run =
-    (part enable : ℕ) (s : List ℕ) (m : Mem) (es a : List ℕ)
+    (part enable : ℕ) (page : List ℕ) (lock : ℕ) (s : List ℕ) (m : Mem) (es a : List ℕ)
     → factsOf part .known ≡ true
     → enableRightOf (factsOf part) enable ≡ true
     → length (m .cells) ≡ factsOf part .size
     → length (m .ident) ≡ idSizeOf (factsOf part)
+    → length page ≡ lossSizeOf (factsOf part) (lossFrom (length page) lock)
     → holdsChipOf s ≡ false
-    → run part enable s m es a .number ≡ numberOf BadState
+    → run part enable page lock s m es a .number ≡ numberOf BadState
 
 -- ======== the image
 

@@ -1,8 +1,9 @@
 // The chip: a state is lent as bytes, and further results are stored where asked.
 ghost use mathlib.Core.Path.{_≡_};
 ghost use Rattle.chip.specs.Memory.{mem};
-ghost use Rattle.sapwoodle.specs.Chips.{stepping, running, delivering};
+ghost use Rattle.sapwoodle.specs.Chips.{lossFrom, stepping, running, delivering};
 use crate::answers;
+use parts::Loss;
 
 // A part as delivered.
 #[no_mangle]
@@ -27,11 +28,26 @@ pub extern "C" fn sapwoodle_deliver(
     answers::settle(verdict, chip, state)
 }
 
+// What is given for a loss of power (document 02, §5): no page and flag 0 are the old contents and no lock.
+fn loss_from(length: usize, lock: u8) -> Loss
+    ensures { λ r. ⌜ r ≡ lossFrom length lock ⌝ }
+{
+    if lock != 0 {
+        return Loss::Lent(true);
+    }
+    if length == 0 {
+        return Loss::Old;
+    }
+    Loss::Lent(false)
+}
+
 // One event. A refused call answers level 2 and no cycles.
 #[no_mangle]
 pub extern "C" fn sapwoodle_step(
     part: u8,
     enable: u8,
+    page: &[u8],
+    lock: u8,
     state: &mut [u8],
     array: &mut [u8],
     id: &mut [u8],
@@ -39,15 +55,16 @@ pub extern "C" fn sapwoodle_step(
     level: &mut u8,
     cycles: &mut usize,
 ) -> u8
-    ensures answer { λ r. ⌜ r ≡ stepping part enable (now (state .entry)) (mem (now (array .entry)) (now (id .entry))) event .number ⌝ }
-    ensures state { λ _. ⌜ now (state .exit) ≡ stepping part enable (now (state .entry)) (mem (now (array .entry)) (now (id .entry))) event .state ⌝ }
-    ensures cells { λ _. ⌜ now (array .exit) ≡ stepping part enable (now (state .entry)) (mem (now (array .entry)) (now (id .entry))) event .stored .cells ⌝ }
-    ensures ident { λ _. ⌜ now (id .exit) ≡ stepping part enable (now (state .entry)) (mem (now (array .entry)) (now (id .entry))) event .stored .ident ⌝ }
-    ensures level { λ _. ⌜ now (level .exit) ≡ stepping part enable (now (state .entry)) (mem (now (array .entry)) (now (id .entry))) event .level ⌝ }
-    ensures cycles { λ _. ⌜ now (cycles .exit) ≡ stepping part enable (now (state .entry)) (mem (now (array .entry)) (now (id .entry))) event .cycles ⌝ }
+    ensures answer { λ r. ⌜ r ≡ stepping part enable (now (page .entry)) lock (now (state .entry)) (mem (now (array .entry)) (now (id .entry))) event .number ⌝ }
+    ensures state { λ _. ⌜ now (state .exit) ≡ stepping part enable (now (page .entry)) lock (now (state .entry)) (mem (now (array .entry)) (now (id .entry))) event .state ⌝ }
+    ensures cells { λ _. ⌜ now (array .exit) ≡ stepping part enable (now (page .entry)) lock (now (state .entry)) (mem (now (array .entry)) (now (id .entry))) event .stored .cells ⌝ }
+    ensures ident { λ _. ⌜ now (id .exit) ≡ stepping part enable (now (page .entry)) lock (now (state .entry)) (mem (now (array .entry)) (now (id .entry))) event .stored .ident ⌝ }
+    ensures level { λ _. ⌜ now (level .exit) ≡ stepping part enable (now (page .entry)) lock (now (state .entry)) (mem (now (array .entry)) (now (id .entry))) event .level ⌝ }
+    ensures cycles { λ _. ⌜ now (cycles .exit) ≡ stepping part enable (now (page .entry)) lock (now (state .entry)) (mem (now (array .entry)) (now (id .entry))) event .cycles ⌝ }
 {
     let chip = pack_chip::unpack(state);
-    let s = chip::step(part, enable, chip, array, id, event);
+    let loss = loss_from(page.len(), lock);
+    let s = chip::step(part, enable, loss, page, chip, array, id, event);
     let verdict = s.verdict;
     let next = s.chip;
     *level = s.level;
@@ -60,6 +77,8 @@ pub extern "C" fn sapwoodle_step(
 pub extern "C" fn sapwoodle_run(
     part: u8,
     enable: u8,
+    page: &[u8],
+    lock: u8,
     state: &mut [u8],
     array: &mut [u8],
     id: &mut [u8],
@@ -69,20 +88,21 @@ pub extern "C" fn sapwoodle_run(
     at: &mut usize,
 ) -> u8
     ensures answer { λ r. ⌜ r
-        ≡ running part enable (now (state .entry)) (mem (now (array .entry)) (now (id .entry))) (now (events .entry)) (now (answers .entry)) .number ⌝ }
+        ≡ running part enable (now (page .entry)) lock (now (state .entry)) (mem (now (array .entry)) (now (id .entry))) (now (events .entry)) (now (answers .entry)) .number ⌝ }
     ensures state { λ _. ⌜ now (state .exit)
-        ≡ running part enable (now (state .entry)) (mem (now (array .entry)) (now (id .entry))) (now (events .entry)) (now (answers .entry)) .state ⌝ }
+        ≡ running part enable (now (page .entry)) lock (now (state .entry)) (mem (now (array .entry)) (now (id .entry))) (now (events .entry)) (now (answers .entry)) .state ⌝ }
     ensures stored { λ _. ⌜ mem (now (array .exit)) (now (id .exit))
-        ≡ running part enable (now (state .entry)) (mem (now (array .entry)) (now (id .entry))) (now (events .entry)) (now (answers .entry)) .stored ⌝ }
+        ≡ running part enable (now (page .entry)) lock (now (state .entry)) (mem (now (array .entry)) (now (id .entry))) (now (events .entry)) (now (answers .entry)) .stored ⌝ }
     ensures levels { λ _. ⌜ now (answers .exit)
-        ≡ running part enable (now (state .entry)) (mem (now (array .entry)) (now (id .entry))) (now (events .entry)) (now (answers .entry)) .answers ⌝ }
+        ≡ running part enable (now (page .entry)) lock (now (state .entry)) (mem (now (array .entry)) (now (id .entry))) (now (events .entry)) (now (answers .entry)) .answers ⌝ }
     ensures cycles { λ _. ⌜ now (cycles .exit)
-        ≡ running part enable (now (state .entry)) (mem (now (array .entry)) (now (id .entry))) (now (events .entry)) (now (answers .entry)) .cycles ⌝ }
+        ≡ running part enable (now (page .entry)) lock (now (state .entry)) (mem (now (array .entry)) (now (id .entry))) (now (events .entry)) (now (answers .entry)) .cycles ⌝ }
     ensures place { λ _. ⌜ now (at .exit)
-        ≡ running part enable (now (state .entry)) (mem (now (array .entry)) (now (id .entry))) (now (events .entry)) (now (answers .entry)) .place ⌝ }
+        ≡ running part enable (now (page .entry)) lock (now (state .entry)) (mem (now (array .entry)) (now (id .entry))) (now (events .entry)) (now (answers .entry)) .place ⌝ }
 {
     let chip = pack_chip::unpack(state);
-    let r = chip::run(part, enable, chip, array, id, events, answers);
+    let loss = loss_from(page.len(), lock);
+    let r = chip::run(part, enable, loss, page, chip, array, id, events, answers);
     let verdict = r.verdict;
     let next = r.chip;
     *cycles = r.cycles;

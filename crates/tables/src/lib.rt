@@ -6,6 +6,7 @@ use driver::Place;
 use driver::Request;
 use parts::ArrayAddress;
 use parts::Facts;
+use parts::Loss;
 use parts::Refusal;
 use parts::Spot;
 use state::Chip;
@@ -214,7 +215,17 @@ fn play(
     levels: &mut [u8],
 ) -> Played {
     let d = chip::deliver(part, array, id);
-    let r = chip::run(part, enable, d.chip, array, id, events, levels);
+    let r = chip::run(
+        part,
+        enable,
+        Loss::Old,
+        b"",
+        d.chip,
+        array,
+        id,
+        events,
+        levels,
+    );
     Played {
         cycles: r.cycles,
         locked: is_locked(r.chip),
@@ -262,7 +273,7 @@ fn clocks_after(e: u8, clocks: usize) -> usize {
 // A cycle that runs ends before the next Start.
 fn rested(part: u8, enable: u8, c: Chip, e: u8, array: &mut [u8], id: &mut [u8]) -> Chip {
     if e == START {
-        let s = chip::step(part, enable, c, array, id, ENDS);
+        let s = chip::step(part, enable, Loss::Old, b"", c, array, id, ENDS);
         return s.chip;
     }
     c
@@ -271,7 +282,7 @@ fn rested(part: u8, enable: u8, c: Chip, e: u8, array: &mut [u8], id: &mut [u8])
 fn sent(r: Request, l: Lossy, e: u8, lost: usize, array: &mut [u8], id: &mut [u8]) -> Lossy {
     let driver = l.driver;
     let c = rested(r.part, r.enable, l.chip, e, array, id);
-    let s = chip::step(r.part, r.enable, c, array, id, e);
+    let s = chip::step(r.part, r.enable, Loss::Old, b"", c, array, id, e);
     let chip = s.chip;
     Lossy {
         driver,

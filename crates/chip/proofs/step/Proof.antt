@@ -12,8 +12,8 @@ enum-told : tie.Need-enum-told
 enum-told c = search needs
 
 -- src/lib.rt:497:26
-take-requires : tie.Need-take-requires
-take-requires c κs = search needs
+take-with-requires : tie.Need-take-with-requires
+take-with-requires c κs = search needs
 
 -- src/lib.rt:498:26
 enum-known-verdict : tie.Need-enum-known-verdict
@@ -29,7 +29,7 @@ same-length-2 c = search needs
 
 -- src/lib.rt:490:1
 returns : tie.Need-returns
-returns c = let v = sym (c .before .before .before .before .before .before .before .before .before .step-verdict .ensures) ∙ c .before .before .before .before .before .before .before .enum-told .given .1 in let t = c .before .before .before .before .take .ensures in (rw v (t .0), (rw v (t .1 .0), rw v (t .1 .1)))
+returns c = let v = sym (c .before .before .before .before .before .before .before .before .before .step-verdict .ensures) ∙ c .before .before .before .before .before .before .before .enum-told .given .1 in let t = c .before .before .before .before .take-with .ensures in (rw v (t .0), (rw v (t .1 .0), rw v (t .1 .1)))
 
 -- src/lib.rt:490:1
 returns-2 : tie.Need-returns-2
@@ -41,7 +41,7 @@ step-spec =
     (tie.spec
     step-verdict-requires
     enum-told
-    take-requires
+    take-with-requires
     enum-known-verdict
     same-length
     same-length-2

@@ -1,3 +1,4 @@
+use Rattle.chip.specs.Model.{old}
 use Rattle.trace.proofs.Texts.{each-length}
 use Rattle.trace.proofs.Laws.{each-at}
 use Rattle.trace.specs.Trace.{codeOf}
@@ -66,9 +67,9 @@ loop-again c =
     let room : l .i < length (l .levels) = omega (arith, there, l .inv .3, c .before .before .before .before .before .before .before .before .before .before .before .before .before .before .before .before .before .before .before .before .pre .1) in
     let code = c .before .before .before .before .before .before .before .before .before .before .before .code-of .ensures ∙ sym (each-at codeOf (now (a .letters)) (l .i) there) in
     let on = turn-on (a .part) (a .enable) es (a .first) (mem (now (a .array)) (now (a .id))) (l .held) (mem (l .array) (l .id)) (l .levels) (l .cycles) (l .i) (t .result .stepped) _ _ far room
-    (t .ensures .0 ∙ ap (λ (x : ℕ). stepOf (a .part) (a .enable) (l .held) (mem (l .array) (l .id)) x .answer) code)
-    (t .ensures .1 .0 ∙ ap (λ (x : ℕ). stepOf (a .part) (a .enable) (l .held) (mem (l .array) (l .id)) x .mem .cells) code)
-    (t .ensures .1 .1 ∙ ap (λ (x : ℕ). stepOf (a .part) (a .enable) (l .held) (mem (l .array) (l .id)) x .mem .ident) code) (l .inv .5) in
+    (t .ensures .0 ∙ ap (λ (x : ℕ). stepOf (a .part) (a .enable) old (l .held) (mem (l .array) (l .id)) x .answer) code)
+    (t .ensures .1 .0 ∙ ap (λ (x : ℕ). stepOf (a .part) (a .enable) old (l .held) (mem (l .array) (l .id)) x .mem .cells) code)
+    (t .ensures .1 .1 ∙ ap (λ (x : ℕ). stepOf (a .part) (a .enable) old (l .held) (mem (l .array) (l .id)) x .mem .ident) code) (l .inv .5) in
     (omega arith, t .kept .1 .1 .1 .1 .1 .1 .0 ∙ l .inv .1, t .kept .1 .1 .1 .1 .1 .1 .1 .0 ∙ l .inv .2, simp length-set (l .inv .3), omega (arith, c .struct-known .given, l .inv .4), on)
 
 same-length : tie.Need-same-length Inv-loop μ-loop

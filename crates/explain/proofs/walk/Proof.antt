@@ -1,3 +1,4 @@
+use Rattle.chip.specs.Model.{old}
 use Rattle.trace.proofs.Promises.{few-letters}
 use Rattle.explain.proofs.Laws.{steps-run}
 use Rattle.trace.specs.Trace.{codesOf}
@@ -36,7 +37,7 @@ returns c =
     let here = mem (d .last .1 .0) (d .last .1 .1 .0) in
     let stands = ap (λ (x : Delivered). x .chip) (d .ensures .0) in
     let run = steps-run (s .args .part) (s .args .enable) es (d .last .1 .0) (d .last .1 .1 .0) (mem (now (s .args .array)) (now (s .args .id))) (length (now (s .args .array))) (length (now (s .args .id))) (s .pre .0) (s .pre .2) (s .pre .3) (d .kept .1 .0) (d .kept .1 .1 .0) (d .ensures .1 .0) (d .ensures .1 .1) in
-    (f .ensures .0 ∙ ap (λ (x : Chip). stepsOf (s .args .part) (s .args .enable) x here es .cycles) stands ∙ run .0, f .ensures .1 ∙ ap (λ (x : Chip). stepsOf (s .args .part) (s .args .enable) x here es .levels) stands ∙ run .1)
+    (f .ensures .0 ∙ ap (λ (x : Chip). stepsOf (s .args .part) (s .args .enable) old x here es .cycles) stands ∙ run .0, f .ensures .1 ∙ ap (λ (x : Chip). stepsOf (s .args .part) (s .args .enable) old x here es .levels) stands ∙ run .1)
 
 pub walk-spec : {M : Type 1} → statement M
 walk-spec =

@@ -17,11 +17,11 @@ Inv-loop samples low i₀ i = (i ≤ length samples) × (judgeFrom i (drop i sam
 abbrev μ-loop : tie.MeasureT-loop
 μ-loop samples low i₀ i = length samples - i
 
-all-low-requires : tie.Need-all-low-requires Inv-loop μ-loop
-all-low-requires c κs = search needs
+all-below-requires : tie.Need-all-below-requires Inv-loop μ-loop
+all-below-requires c κs = search needs
 
 returns : tie.Need-returns Inv-loop μ-loop
-returns c = judge-clear (now (c .before .before .before .args .samples)) (sym (c .before .all-low .ensures) ∙ c .if1 .taken)
+returns c = judge-clear (now (c .before .before .before .args .samples)) (sym (c .before .all-below .ensures) ∙ c .if1 .taken)
 
 loop-holds : tie.Need-loop-holds Inv-loop μ-loop
 loop-holds c = (omega arith, refl)
@@ -58,7 +58,7 @@ judge-spec =
     (tie.spec
     Inv-loop
     μ-loop
-    all-low-requires
+    all-below-requires
     returns
     loop-holds
     shared-slice-read-if2

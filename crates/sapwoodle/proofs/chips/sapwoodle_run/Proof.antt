@@ -6,6 +6,9 @@ use Rattle.sapwoodle.proofs.chips.sapwoodle_run.Tie as tie
 unpack-requires : tie.Need-unpack-requires
 unpack-requires c κs = search needs
 
+loss-from-requires : tie.Need-loss-from-requires
+loss-from-requires c κs = search needs
+
 run-requires : tie.Need-run-requires
 run-requires c κs = search needs
 
@@ -29,16 +32,18 @@ same-length-4 c = search needs
 
 returns : tie.Need-returns
 returns c =
-    let u = c .before .before .before .before .before .before .before .before .before .before .before .before .before .before .before .before .unpack .ensures in
+    let u = c .before .before .before .before .before .before .before .before .before .before .before .before .before .before .before .before .before .unpack .ensures in
+    let l = c .before .before .before .before .before .before .before .before .before .before .before .before .before .before .before .before .loss-from .ensures in
     let s = c .before .before .before .before .before .before .before .before .before .before .before .before .run .ensures in
     let k = c .before .before .settle .ensures in
-    (rw (k .0, s .0, u) refl, (rw (k .1, s .0, u) refl, (rw (s .1 .0, u) refl, (rw (s .1 .1, u) refl, (rw (s .0, u) refl, rw (c .before .before .before .before .verdict-place .ensures, s .0, u) refl)))))
+    (rw (k .0, s .0, l, u) refl, (rw (k .1, s .0, l, u) refl, (rw (s .1 .0, l, u) refl, (rw (s .1 .1, l, u) refl, (rw (s .0, l, u) refl, rw (c .before .before .before .before .verdict-place .ensures, s .0, l, u) refl)))))
 
 pub sapwoodle-run-spec : {M : Type 1} → statement M
 sapwoodle-run-spec =
     tie.close
     (tie.spec
     unpack-requires
+    loss-from-requires
     run-requires
     verdict-place-requires
     settle-requires
