@@ -12,3 +12,5 @@ pub mod Invented
 pub mod Idle
 pub mod Reached
 pub mod Cut
+pub mod Power
+pub mod WrongCuts

@@ -2,6 +2,15 @@
 -- Assumes nothing.
 use Rattle.driver.specs.Machine.{ourDriver}
 use Rattle.chip_laws.proofs.Roll.{page-rule}
+use Rattle.chip_laws.proofs.Runs.{run-is-steps}
+use Rattle.chip_promises.proofs.Numbers.{step-numbers, run-numbers}
+use Rattle.chip_promises.proofs.Pages.{calls-pages-from-delivery}
+use Rattle.chip_promises.proofs.Stops.{calls-cycles-are-stops-from-delivery}
+use Rattle.chip_promises.proofs.Lock.{calls-lock-holds}
+use Rattle.chip_promises.proofs.Pin.{calls-pin-protects}
+use Rattle.chip_promises.proofs.Power.{group-sizes, cut-spoils-groups, spoils-one-way, step-spoils, lock-as-flag, reset-stands, cut-only-in-cycle, old-is-own-page}
+use Rattle.chip_promises.proofs.WrongCuts.{wrong-cuts}
+use Rattle.trace.proofs.Promises.{prints-as-judged}
 use Rattle.driver_promises.proofs.Promises.{promises}
 use Rattle.driver_promises.proofs.Which.{refused-says, one-address-byte, faulty-line}
 use Rattle.bench_promises.proofs.Answered.{address-answered, addressed-kept, reset-breaks}
@@ -80,4 +89,23 @@ requests =
             bytes = (capture-is-chips, capture-refuses-4);
           };
       fourth = record { turns = page-rule };
+      fifth =
+          record {
+            spoils = cut-spoils-groups;
+            one-way = spoils-one-way;
+            called = step-spoils;
+            lock = lock-as-flag;
+            groups = group-sizes;
+            whole-run = run-is-steps;
+            stands = reset-stands;
+            only = cut-only-in-cycle;
+            program = prints-as-judged;
+            old-contents = old-is-own-page;
+            pages = calls-pages-from-delivery;
+            cycles = calls-cycles-are-stops-from-delivery;
+            lock-holds = calls-lock-holds;
+            pin = calls-pin-protects;
+            numbers = (step-numbers, run-numbers);
+            wrong = wrong-cuts;
+          };
     }

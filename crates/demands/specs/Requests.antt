@@ -1,8 +1,19 @@
 -- The change requests of document 02, each sentence quoted above what says it; the same of the code as in specs/Demands.antt. One theorem,
 -- `requests` in proofs/Requests.antt, is of all that have landed.
 -- Assumes nothing.
-use Rattle.chip.specs.Model.{ours}
+use Rattle.chip.specs.Model.{ours, oursWith}
+use Rattle.chip.specs.Calls.{deliverOf, stepOf, runOf}
+use Rattle.chip_laws.specs.Runs.{RunIsSteps}
 use Rattle.chip_laws.specs.Roll.{PageRule}
+use Rattle.chip_promises.specs.Numbers.{StepNumbers, RunNumbers}
+use Rattle.chip_promises.specs.Pages.{CallsPagesFromDelivery}
+use Rattle.chip_promises.specs.Stops.{CallsCyclesAreStopsFromDelivery}
+use Rattle.chip_promises.specs.Lock.{CallsLockHolds}
+use Rattle.chip_promises.specs.Pin.{CallsPinProtects}
+use Rattle.chip_promises.specs.Power.{GroupSizes, CutSpoilsGroups, SpoilsOneWay, StepSpoils, LockAsFlag, ResetStands, CutOnlyInCycle, OldIsOwnPage}
+use Rattle.chip_promises.specs.WrongCuts.{WrongCuts}
+use Rattle.trace.specs.Trace.{textJudgedOf}
+use Rattle.trace.specs.Promises.{PrintsAsJudged}
 use Rattle.driver.specs.Machine.{ourDriver}
 use Rattle.driver_promises.specs.Promises.{Promises}
 use Rattle.driver_promises.specs.Which.{SaysWhichKept, OneAddressByte, FaultyLine}
@@ -120,8 +131,41 @@ pub record Request4 : Type 0 where
   -- page's last place it is the page's first
   pub turns : PageRule
 
+-- §5, "Power lost in a write cycle is not harmless.": of `oursWith`, the chip for each page and flag that it is given, which `code` of
+-- specs/Demands.antt says `chip::step` and `chip::run` are
+pub record Request5 : Type 0 where
+  -- "each error-correction group with a latched byte comes up holding those bytes, every other byte is as before", "Prove that a cut at any event
+  -- spoils at most the groups of the one page": after any events, from any state, over any memory; and nothing is left open
+  pub spoils : CutSpoilsGroups oursWith
+  pub one-way : SpoilsOneWay
+  -- the same of a call, wherever a series of calls has come to
+  pub called : StepSpoils stepOf
+  -- "and a cycle that was locking leaves the lock as a given flag says"
+  pub lock : LockAsFlag oursWith
+  -- "Groups are four aligned bytes on parts 2 to 5 and one byte on 0 and 1"
+  pub groups : GroupSizes
+  -- "One page and flag serve a whole run": a run is its steps, each with them
+  pub whole-run : RunIsSteps
+  -- "Rule 9's second sentence goes": its first stays, and outside a cycle what is given moves nothing
+  pub stands : ResetStands oursWith
+  pub only : CutOnlyInCycle oursWith
+  -- "the program's `R` uses the old contents and no lock": it prints a run with these (`ranTextOf` is over `ours`); they are what lending the page's
+  -- own bytes and no lock leaves
+  pub program : PrintsAsJudged textJudgedOf
+  pub old-contents : OldIsOwnPage oursWith
+  -- "Demand 3 still counts cycles begun, cut ones too": its promises over series of calls, each with a page and a flag of its own
+  pub pages : CallsPagesFromDelivery deliverOf stepOf runOf
+  pub cycles : CallsCyclesAreStopsFromDelivery deliverOf stepOf runOf
+  pub lock-holds : CallsLockHolds stepOf runOf
+  pub pin : CallsPinProtects stepOf runOf
+  -- "Refusals: 3 also for that page's length": in its place among the others
+  pub numbers : StepNumbers stepOf × RunNumbers runOf
+  -- cuts that change nothing, spoil the whole page or the latched bytes alone, store them, or leave the lock as it was break these
+  pub wrong : WrongCuts
+
 pub record Requests : Type 0 where
   pub first : Request1
   pub second : Request2
   pub third : Request3
   pub fourth : Request4
+  pub fifth : Request5
