@@ -1,6 +1,6 @@
-// The product and the plain C model in one process: first the same events to both, every level, every stored byte and the
-// cycles compared, the same Intel HEX texts to both readers and the same captures to both; then the events, bytes of text and samples per second
-// of each. Prints a line for each workload, and ends with 1 where they differ.
+// The product and the plain C model in one process: first the same events to both, with power lost in cycles and pages lent for that, every
+// level, every stored byte, the lock, the counter and the cycles compared, the same Intel HEX texts to both readers and the same captures to
+// both; then the events, bytes of text and samples per second of each. Prints a line for each workload, and ends with 1 where they differ.
 #include "capture.h"
 #include "hex.h"
 #include "product.h"
@@ -26,6 +26,12 @@ struct world {
     size_t cycles;
 };
 static struct world plain, product;
+static uint8_t state[SAPWOODLE_STATE_LENGTH];
+
+// What is given for a loss of power: a page and a flag, or no page and flag 0.
+static uint8_t lent[64];
+static size_t lent_length;
+static unsigned lock;
 
 // ---- events
 
@@ -74,6 +80,14 @@ static size_t page_writes(unsigned part) {
     return l.n;
 }
 
+// The same, but power is lost in each cycle.
+static size_t cuts(unsigned part) {
+    size_t n = page_writes(part);
+    for (size_t i = 0; i < n; i++)
+        if (events[i] == 4) events[i] = 8;
+    return n;
+}
+
 // One long read.
 static size_t long_read(unsigned part) {
     struct list l = {0, ROOM};
@@ -102,20 +116,21 @@ static size_t polling(unsigned part) {
     return l.n;
 }
 
-// Transfers of every kind, cut and disturbed at random: what the comparison runs on.
-static size_t disturbed(unsigned part, unsigned enable, unsigned often) {
+// Transfers of every kind, cut and disturbed at random: what the comparison runs on. Some cycles are cut by a reset.
+static size_t disturbed(unsigned part, unsigned enable, unsigned often, int resets) {
     static const uint8_t loose[] = {0, 1, 2, 3, 4, 8, 5, 6, 7};
     unsigned kinds = model_has_pin(part) ? 9 : 6;
     struct list l = {0, ROOM};
     while (l.n < ROOM) {
-        unsigned read = random_below(3) == 0, ident = random_below(3) == 0, bytes = random_below(2 * page_of(part) + 2);
+        unsigned read = random_below(3) == 0, ident = random_below(3) == 0, locks = ident && random_below(3) == 0;
+        unsigned bytes = locks ? 1 : random_below(random_below(2) ? 8 : 2 * page_of(part) + 2);
         unsigned code = (ident ? 0xB0 : 0xA0) | (random_below(8) ? enable : random_below(8)) << 1;
         size_t begin = l.n;
         if (random_below(4)) {
             put(&l, 2);
             put_byte(&l, code, 1);
-            if (part >= 2) put_byte(&l, random_below(256), 1);
-            put_byte(&l, random_below(256), 1);
+            if (part >= 2) put_byte(&l, random_below(256) | (locks ? 4 : 0), 1);
+            put_byte(&l, random_below(256) | (locks ? 128 : 0), 1);
         }
         if (read) {
             put(&l, 2);
@@ -123,7 +138,7 @@ static size_t disturbed(unsigned part, unsigned enable, unsigned often) {
         }
         for (unsigned i = 0; i < bytes; i++) put_byte(&l, read ? 0xFF : random_below(256), read ? i + 1 == bytes : 1);
         if (random_below(4)) put(&l, 3);
-        if (random_below(3)) put(&l, 4);
+        if (random_below(3)) put(&l, resets && random_below(2) ? 8 : 4);
         for (size_t i = begin; i < l.n; i++)
             if (random_below(often) == 0) events[i] = loose[random_below(kinds)];
     }
@@ -137,12 +152,32 @@ static void fresh(unsigned part) {
     product_deliver((uint8_t)part, product.array, product.id);
 }
 
+static void lend(unsigned part, int whether) {
+    lent_length = whether ? page_of(part) : 0;
+    lock = whether ? random_below(3) : 0;
+    for (unsigned i = 0; i < sizeof lent; i++) lent[i] = (uint8_t)random_below(256);
+}
+
 static void run_plain(unsigned part, unsigned enable, size_t n) {
-    plain.cycles = model_run(part, enable, &plain.chip, plain.array, plain.id, events, n, plain.answers);
+    plain.cycles = model_run(part, enable, lent_length ? lent : 0, (int)lock, &plain.chip, plain.array, plain.id, events, n, plain.answers);
 }
 
 static void run_product(unsigned part, unsigned enable, size_t n) {
-    product.cycles = product_run((uint8_t)part, (uint8_t)enable, product.array, product.id, events, n, product.answers);
+    product.cycles = product_run((uint8_t)part, (uint8_t)enable, lent, lent_length, (uint8_t)lock, state, product.array, product.id, events,
+                                 n, product.answers);
+}
+
+// How many of the resets cut a write cycle, and how many a locking cycle: that the comparison had some of each.
+static size_t cut_writes, cut_locks;
+
+static void count_cuts(unsigned part, unsigned enable, size_t n) {
+    static struct world w;
+    model_deliver(part, &w.chip, w.array, w.id);
+    for (size_t i = 0; i < n; i++) {
+        if (events[i] == 8 && w.chip.phase == WRITING) cut_writes++;
+        if (events[i] == 8 && w.chip.phase == LOCKING) cut_locks++;
+        model_run(part, enable, lent_length ? lent : 0, (int)lock, &w.chip, w.array, w.id, events + i, 1, w.answers);
+    }
 }
 
 static int same(unsigned part, unsigned enable, size_t n, const char *what) {
@@ -155,11 +190,25 @@ static int same(unsigned part, unsigned enable, size_t n, const char *what) {
                    product.answers[i]);
             return 0;
         }
-    if (plain.cycles == product.cycles && memcmp(plain.array, product.array, model_size(part)) == 0 &&
-        memcmp(plain.id, product.id, model_id_size(part)) == 0)
+    if (plain.cycles == product.cycles && plain.chip.locked == state[4] && plain.chip.counter == state[0] * 256 + state[1] &&
+        memcmp(plain.array, product.array, model_size(part)) == 0 && memcmp(plain.id, product.id, model_id_size(part)) == 0)
         return 1;
-    printf("differ %s part %u enable %u: stored bytes or cycles\n", what, part, enable);
+    printf("differ %s part %u enable %u: stored bytes, lock, counter or cycles\n", what, part, enable);
     return 0;
+}
+
+// Refusal 3: a page of another length, or a flag without one.
+static int same_refused(unsigned part) {
+    static const uint8_t flags[] = {0, 1, 2, 255};
+    static uint8_t room[65];
+    for (unsigned length = 0; length <= sizeof room; length++)
+        for (unsigned k = 0; k < sizeof flags; k++) {
+            unsigned wanted = (length == 0 && flags[k] == 0) || length == page_of(part) ? 0 : 3;
+            if (product_lent((uint8_t)part, room, length, flags[k], product.array, product.id) == wanted) continue;
+            printf("differ part %u, a page of %u bytes, flag %u: not %u\n", part, length, flags[k], wanted);
+            return 0;
+        }
+    return 1;
 }
 
 // ---- Intel HEX
@@ -285,7 +334,6 @@ static size_t draw(size_t n) {
 }
 
 static int same_seen(unsigned part, unsigned enable, int bus, size_t n) {
-    uint8_t state[SAPWOODLE_STATE_LENGTH];
     fresh(part);
     struct seen a = capture_run(part, enable, &plain.chip, plain.array, plain.id, bus, wires, n);
     struct seen b = product_capture((uint8_t)part, (uint8_t)enable, state, product.array, product.id, (uint8_t)bus, wires, n);
@@ -305,7 +353,7 @@ static size_t same_captures(unsigned part) {
     size_t compared = 0;
     for (unsigned k = 0; k < 40; k++) {
         unsigned enable = part < 2 ? 0 : random_below(8);
-        size_t n = disturbed(part, enable, k % 4 == 0 ? 1000000 : 1u << (k % 12));
+        size_t n = disturbed(part, enable, k % 4 == 0 ? 1000000 : 1u << (k % 12), 0);
         fresh(part);
         run_plain(part, enable, n);
         n = draw(n);
@@ -321,7 +369,6 @@ static void seen_plain(unsigned part, unsigned enable, size_t n) {
 }
 
 static void seen_product(unsigned part, unsigned enable, size_t n) {
-    uint8_t state[SAPWOODLE_STATE_LENGTH];
     product.cycles = product_capture((uint8_t)part, (uint8_t)enable, state, product.array, product.id, 1, wires, n).cycles;
 }
 
@@ -368,23 +415,28 @@ static void measure(const char *name, const char *unit, unsigned part, size_t n,
 
 int main(int argc, char **argv) {
     unsigned part = argc > 1 ? (unsigned)(argv[1][0] - '0') : 5;
-    static size_t (*const make[3])(unsigned) = {page_writes, long_read, polling};
-    static const char *const name[3] = {"page_writes", "long_read", "polling"};
+    static size_t (*const make[4])(unsigned) = {page_writes, long_read, polling, cuts};
+    static const char *const name[4] = {"page_writes", "long_read", "polling", "cuts"};
     size_t compared = 0;
     for (unsigned p = 0; p < 6; p++) {
-        for (int w = 0; w < 3; w++) {
+        for (int w = 0; w < 4; w++) {
             size_t n = make[w](p);
+            lend(p, w == 3);
             if (!same(p, 0, n, name[w])) return 1;
             compared += n;
         }
-        for (unsigned k = 0; k < 40; k++) {
+        for (unsigned k = 0; k < 80; k++) {
             unsigned enable = p < 2 ? 0 : random_below(8);
-            size_t n = disturbed(p, enable, k % 4 == 0 ? 1000000 : 1u << (k % 12));
+            size_t n = disturbed(p, enable, k % 4 == 0 ? 1000000 : 1u << (k % 12), 1);
+            lend(p, k % 3 != 0);
             if (!same(p, enable, n, "disturbed")) return 1;
+            if (lent_length) count_cuts(p, enable, n);
             compared += n;
         }
+        if (!same_refused(p)) return 1;
     }
-    printf("compared events=%zu parts=6 same=yes\n", compared);
+    lend(part, 0);
+    printf("compared events=%zu cut_writes=%zu cut_locks=%zu parts=6 same=yes\n", compared, cut_writes, cut_locks);
     size_t texts = 0;
     for (unsigned p = 0; p < 6; p++) {
         size_t n = same_texts(p);
@@ -400,11 +452,13 @@ int main(int argc, char **argv) {
     }
     printf("compared samples=%zu parts=6 same=yes\n", samples);
     if (part > 5) return 1;
-    for (int w = 0; w < 3; w++) {
+    for (int w = 0; w < 4; w++) {
         size_t n = make[w](part);
+        lend(part, w == 3);
         fresh(part);
         measure(name[w], "events", part, n, run_plain, run_product);
     }
+    lend(part, 0);
     size_t n = same_written(part);
     measure("hex_read", "bytes", part, n, read_plain, read_product);
     measure("hex_write", "bytes", part, n, write_plain, write_product);

@@ -1,5 +1,5 @@
-// A plain C model of the six parts: document 01, 'How the chip goes', rules 1 to 9. It refuses nothing: events, buffers and
-// state are taken as they are given.
+// A plain C model of the six parts: document 01, 'How the chip goes', rules 1 to 9, and document 02, §5. It refuses nothing: events, buffers
+// and state are taken as they are given.
 #include "model.h"
 
 struct part {
@@ -11,11 +11,13 @@ struct part {
     uint8_t pin;
     // The address bit that chooses between identification page and lock.
     uint16_t lock;
+    // Bytes of an error-correction group.
+    uint8_t group;
 };
 
 static const struct part parts[6] = {
-    {2048, 16, 0, 1, 0, 128},  {2048, 16, 0, 1, 1, 128},   {8192, 32, 1, 0, 1, 1024},
-    {8192, 32, 1, 1, 1, 1024}, {32768, 64, 1, 0, 1, 1024}, {32768, 64, 1, 1, 1, 1024},
+    {2048, 16, 0, 1, 0, 128, 1},  {2048, 16, 0, 1, 1, 128, 1},   {8192, 32, 1, 0, 1, 1024, 4},
+    {8192, 32, 1, 1, 1, 1024, 4}, {32768, 64, 1, 0, 1, 1024, 4}, {32768, 64, 1, 1, 1, 1024, 4},
 };
 
 enum event { CLOCK_0, CLOCK_1, START, STOP, END, PIN_LOW, PIN_HIGH, PIN_FLOAT, RESET };
@@ -163,13 +165,18 @@ static unsigned stopped(struct model *m) {
     return 0;
 }
 
+// The page that is being written.
+static uint8_t *written(struct model *m, const struct part *p, uint8_t *array, uint8_t *id) {
+    return m->ident ? id : array + (m->counter & ~(p->page - 1));
+}
+
 // Rule 7.
 static void ended(struct model *m, const struct part *p, uint8_t *array, uint8_t *id) {
     if (!busy(m)) return;
     if (m->phase == LOCKING) {
         m->locked = 1;
     } else {
-        uint8_t *page = m->ident ? id : array + (m->counter & ~(p->page - 1));
+        uint8_t *page = written(m, p, array, id);
         for (unsigned i = 0; i < p->page; i++)
             if (m->latched >> i & 1) page[i] = m->latch[i];
         if (!m->ident) m->counter = (uint16_t)((before(p, m->counter) + 1) & (p->size - 1));
@@ -183,8 +190,26 @@ static void pinned(struct model *m, uint8_t high) {
     if (high && in_transfer(m)) m->inhibited = 1;
 }
 
-size_t model_run(unsigned part, unsigned enable, struct model *m, uint8_t *array, uint8_t *id, const uint8_t *events, size_t n,
-                 uint8_t *answers) {
+// §5: each group with a latched byte comes up as the lent page has it.
+static void spoiled(struct model *m, const struct part *p, uint8_t *page, const uint8_t *lent) {
+    uint64_t group = ((uint64_t)1 << p->group) - 1;
+    for (unsigned i = 0; i < p->page; i += p->group)
+        if (m->latched >> i & group)
+            for (unsigned k = i; k < i + p->group; k++) page[k] = lent[k];
+}
+
+// Rule 9, and §5 where it cuts a cycle.
+static void reset(struct model *m, const struct part *p, uint8_t *array, uint8_t *id, const uint8_t *lent, int lock) {
+    if (lent && m->phase == WRITING) spoiled(m, p, written(m, p, array, id), lent);
+    if (lent && m->phase == LOCKING) m->locked = lock != 0;
+    m->counter = 0;
+    m->inhibited = 0;
+    m->latched = 0;
+    go(m, IDLE);
+}
+
+size_t model_run(unsigned part, unsigned enable, const uint8_t *lent, int lock, struct model *m, uint8_t *array, uint8_t *id,
+                 const uint8_t *events, size_t n, uint8_t *answers) {
     const struct part *p = &parts[part];
     size_t cycles = 0;
     for (size_t i = 0; i < n; i++) {
@@ -198,12 +223,7 @@ size_t model_run(unsigned part, unsigned enable, struct model *m, uint8_t *array
         case PIN_LOW:
         case PIN_FLOAT: pinned(m, 0); break;
         case PIN_HIGH: pinned(m, 1); break;
-        case RESET:
-            m->counter = 0;
-            m->inhibited = 0;
-            m->latched = 0;
-            go(m, IDLE);
-            break;
+        case RESET: reset(m, p, array, id, lent, lock); break;
         default: break;
         }
         answers[i] = level;

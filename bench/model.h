@@ -37,8 +37,9 @@ int model_has_pin(unsigned part);
 // A part as delivered.
 void model_deliver(unsigned part, struct model *m, uint8_t *array, uint8_t *id);
 
-// A list of events: a level for each (0 low, 1 released, 2 none). Answers the cycles begun.
-size_t model_run(unsigned part, unsigned enable, struct model *m, uint8_t *array, uint8_t *id, const uint8_t *events, size_t n,
-                 uint8_t *answers);
+// A list of events: a level for each (0 low, 1 released, 2 none). Answers the cycles begun. A reset in a cycle finds the lent page and the
+// flag, or with a null pointer the old contents and no lock.
+size_t model_run(unsigned part, unsigned enable, const uint8_t *lent, int lock, struct model *m, uint8_t *array, uint8_t *id,
+                 const uint8_t *events, size_t n, uint8_t *answers);
 
 #endif

@@ -16,14 +16,26 @@ static void product_deliver(uint8_t part, uint8_t *array, uint8_t *id) {
 }
 
 // The events on such a state and what is stored. Answers the cycles begun.
-static size_t product_run(uint8_t part, uint8_t enable, uint8_t *array, uint8_t *id, const uint8_t *events, size_t n,
-                          uint8_t *answers) {
-    uint8_t state[SAPWOODLE_STATE_LENGTH];
+static size_t product_run(uint8_t part, uint8_t enable, const uint8_t *lent, size_t lent_length, uint8_t lock, uint8_t *state,
+                          uint8_t *array, uint8_t *id, const uint8_t *events, size_t n, uint8_t *answers) {
     size_t cycles = 0, place = 0;
-    memcpy(state, delivered, sizeof state);
-    sapwoodle_run(part, enable, state, sizeof state, array, model_size(part), id, model_id_size(part), events, n, answers, n,
-                  &cycles, &place);
+    memcpy(state, delivered, sizeof delivered);
+    sapwoodle_run(part, enable, lent, lent_length, lock, state, sizeof delivered, array, model_size(part), id, model_id_size(part),
+                  events, n, answers, n, &cycles, &place);
     return cycles;
+}
+
+// How a step and a run answer to a page and a flag; 255 where they differ.
+static unsigned product_lent(uint8_t part, const uint8_t *lent, size_t length, uint8_t lock, uint8_t *array, uint8_t *id) {
+    uint8_t state[SAPWOODLE_STATE_LENGTH], level = 0;
+    size_t cycles = 0, place = 0;
+    product_deliver(part, array, id);
+    memcpy(state, delivered, sizeof state);
+    unsigned a = sapwoodle_step(part, 0, lent, length, lock, state, sizeof state, array, model_size(part), id, model_id_size(part),
+                                SAPWOODLE_RESET, &level, &cycles);
+    unsigned b = sapwoodle_run(part, 0, lent, length, lock, state, sizeof state, array, model_size(part), id, model_id_size(part), &level, 0,
+                               &level, 0, &cycles, &place);
+    return a == b ? a : 255;
 }
 
 static struct hex_answer product_hex_read(uint8_t part, const uint8_t *text, size_t n, uint8_t *array) {

@@ -1,8 +1,8 @@
 /* A driver and a chip on two wires, as on a bench: one side sets SCL and SDA and reads SDA, the other watches the wires and pulls SDA.
  * Neither knows of the other but by the wires, so either can be replaced by the reader's own.
  *
- * It writes a page and reads it back through the wires, then shows what a late Stop does, and which byte went unanswered where the straps are
- * wrong and where the line fails. examples/run builds and runs it. */
+ * It writes a page and reads it back through the wires, then shows what a late Stop does, which bytes come up spoiled where power is lost in a
+ * write cycle, and which byte went unanswered where the straps are wrong and where the line fails. examples/run builds and runs it. */
 #include "../include/sapwoodle.h"
 
 /* The toolchain has the C library, but no headers of it. */
@@ -32,12 +32,14 @@ static unsigned char array[ARRAY];
 static unsigned char id[1]; /* this part has no identification page: of length 0 */
 static unsigned long cycles;
 static int pulls; /* the chip pulls SDA low */
+static unsigned char page[PAGE]; /* what a loss of power in a write cycle leaves */
+static unsigned long lent; /* how much of it is lent: a page, or nothing */
 
 static unsigned char event(unsigned char code)
 {
     unsigned char level;
     unsigned long begun;
-    must(sapwoodle_step(PART, ENABLE, state, sizeof state, array, sizeof array, id, 0, code, &level, &begun) == 0, "an event refused");
+    must(sapwoodle_step(PART, ENABLE, page, lent, 0, state, sizeof state, array, sizeof array, id, 0, code, &level, &begun) == 0, "an event refused");
     cycles += begun;
     return level;
 }
@@ -48,7 +50,8 @@ static unsigned char next_level(void)
     unsigned char copy[SAPWOODLE_STATE_LENGTH], level;
     unsigned long begun;
     memcpy(copy, state, sizeof copy);
-    must(sapwoodle_step(PART, ENABLE, copy, sizeof copy, array, sizeof array, id, 0, SAPWOODLE_CLOCK_1, &level, &begun) == 0, "a look ahead refused");
+    must(sapwoodle_step(PART, ENABLE, page, lent, 0, copy, sizeof copy, array, sizeof array, id, 0, SAPWOODLE_CLOCK_1, &level, &begun) == 0,
+        "a look ahead refused");
     return level;
 }
 
@@ -186,37 +189,69 @@ static int send(unsigned char byte)
     return clock_pulse(1);
 }
 
-/* 5Ah at 0005h, by hand: every byte is acknowledged. Then the Stop, late by so many clocks. */
-static unsigned long one_byte(int late)
+/* A byte at an address, by hand: every byte is acknowledged. Then the Stop, late by so many clocks. */
+static void write_byte(unsigned long address, unsigned char byte, int late)
 {
     cycles = 0;
     start();
-    must(send(0xA0) == 0 && send(0x00) == 0 && send(0x05) == 0 && send(0x5A) == 0, "a byte not acknowledged");
+    must(send(0xA0) == 0 && send((unsigned char)(address >> 8)) == 0 && send((unsigned char)address) == 0 && send(byte) == 0,
+        "a byte not acknowledged");
     while (late--)
         clock_pulse(1);
     stop();
+}
+
+static unsigned long one_byte(int late)
+{
+    write_byte(0x0005, 0x5A, late);
     event(SAPWOODLE_ENDS);
     printf("5Ah at 0005h, every byte acknowledged, Stop %s: cycles %lu, the byte is %02Xh\n", cycles ? "in place" : "one clock late",
         cycles, array[5]);
     return cycles;
 }
 
+/* AAh at 0025h, and power is lost in its cycle, with a page lent or not; answers how many bytes came up otherwise. */
+static unsigned long lose_power(unsigned long length)
+{
+    unsigned char before[ARRAY];
+    unsigned long at, spoiled = 0;
+    memcpy(before, array, sizeof before);
+    lent = length;
+    write_byte(0x0025, 0xAA, 0);
+    must(cycles == 1, "a cycle runs");
+    event(SAPWOODLE_RESET);
+    lent = 0;
+    printf("AAh at 0025h, power lost in the cycle, %s:", length ? "a page lent" : "the old contents");
+    for (at = 0; at < sizeof array; at++)
+        if (array[at] != before[at]) {
+            printf(" %04lXh is %02Xh", at, array[at]);
+            spoiled++;
+        }
+    printf("%s\n", spoiled ? "" : " no byte spoiled");
+    return spoiled;
+}
+
 int main(void)
 {
-    unsigned char page[PAGE], back[PAGE] = { 0 };
+    unsigned char data[PAGE], back[PAGE] = { 0 };
     int i;
-    for (i = 0; i < PAGE; i++)
-        page[i] = (unsigned char)(7 * i);
+    for (i = 0; i < PAGE; i++) {
+        data[i] = (unsigned char)(7 * i);
+        page[i] = (unsigned char)(0xD0 + i);
+    }
     must(sapwoodle_deliver(PART, state, sizeof state, array, sizeof array, id, 0) == 0, "a delivery refused");
 
-    must(drive(ENABLE, SAPWOODLE_WRITE, 0x0040, page, PAGE) == 0 && cycles == 1, "one cycle for the page");
-    must(drive(ENABLE, SAPWOODLE_READ, 0x0040, back, PAGE) == 0 && memcmp(page, back, PAGE) == 0, "what was read is what was written");
+    must(drive(ENABLE, SAPWOODLE_WRITE, 0x0040, data, PAGE) == 0 && cycles == 1, "one cycle for the page");
+    must(drive(ENABLE, SAPWOODLE_READ, 0x0040, back, PAGE) == 0 && memcmp(data, back, PAGE) == 0, "what was read is what was written");
 
     must(one_byte(1) == 0 && array[5] == 0xFF, "a late Stop begins no cycle");
     must(one_byte(0) == 1 && array[5] == 0x5A, "a Stop in place begins one");
 
-    must(drive(ENABLE + 1, SAPWOODLE_WRITE, 0x0040, page, PAGE) == 9, "the straps are not what the driver was told");
+    must(lose_power(0) == 0, "the old contents");
+    must(lose_power(PAGE) == 4 && memcmp(array + 0x0024, page + 4, 4) == 0, "the group comes up as the page that was lent");
+
+    must(drive(ENABLE + 1, SAPWOODLE_WRITE, 0x0040, data, PAGE) == 9, "the straps are not what the driver was told");
     for (lost = 1; lost <= 3; lost++)
-        must(drive(ENABLE, SAPWOODLE_WRITE, 0x0040, page, PAGE) == (lost == 1 ? 14 : lost == 2 ? 15 : 10), "the byte that the line lost");
+        must(drive(ENABLE, SAPWOODLE_WRITE, 0x0040, data, PAGE) == (lost == 1 ? 14 : lost == 2 ? 15 : 10), "the byte that the line lost");
     return 0;
 }

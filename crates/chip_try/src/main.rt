@@ -1,5 +1,7 @@
 // Tries calls of the chip and of its images, one for each line of the input, and prints what each answers and whether a refused one left
-// everything. A line is a letter for the call (`call`), sixteen numbers and, after a colon, what is tried.
+// everything. A line is a letter for the call (`call`), sixteen numbers and, after a colon, what is tried; the lines of `cuts` have events
+// behind a slash.
+mod cuts;
 mod images;
 
 use cases::more;
@@ -146,12 +148,19 @@ fn with_buffers(t: Tried, same: bool) -> Tried {
 
 // ---- the calls, each on buffers of its own with room for one byte more than any part has
 
-fn step(v: [usize; 16], held: &[u8], array: &mut [u8], id: &mut [u8]) -> Tried {
+fn step(
+    v: [usize; 16],
+    loss: Loss,
+    page: &[u8],
+    held: &[u8],
+    array: &mut [u8],
+    id: &mut [u8],
+) -> Tried {
     let s = chip::step(
         narrow(v[PART]),
         narrow(v[ENABLE]),
-        Loss::Old,
-        b"",
+        loss,
+        page,
         pack_chip::unpack(held),
         fitted::first(array, v[ARRAY]),
         fitted::first(id, v[ID]),
@@ -162,17 +171,19 @@ fn step(v: [usize; 16], held: &[u8], array: &mut [u8], id: &mut [u8]) -> Tried {
     answered(verdict, nothing(s.level, text::wide(s.cycles), same))
 }
 
-fn try_step(v: [usize; 16]) -> Tried {
+fn try_step(v: [usize; 16], loss: Loss, page: &[u8]) -> Tried {
     let mut array = [0u8; 32769];
     let mut id = [0u8; 65];
     cases::fill(&mut array, 0);
     cases::fill(&mut id, 100);
-    let t = step(v, &state_of(v), &mut array, &mut id);
+    let t = step(v, loss, page, &state_of(v), &mut array, &mut id);
     with_buffers(t, both_filled(&array, &id))
 }
 
 fn run(
     v: [usize; 16],
+    loss: Loss,
+    page: &[u8],
     held: &[u8],
     array: &mut [u8],
     id: &mut [u8],
@@ -182,8 +193,8 @@ fn run(
     let r = chip::run(
         narrow(v[PART]),
         narrow(v[ENABLE]),
-        Loss::Old,
-        b"",
+        loss,
+        page,
         pack_chip::unpack(held),
         fitted::first(array, v[ARRAY]),
         fitted::first(id, v[ID]),
@@ -207,22 +218,31 @@ fn list_of(v: [usize; 16], events: &mut [u8]) {
     set(events, v[SECOND], code);
 }
 
-fn run_filled(v: [usize; 16], events: &[u8]) -> Tried {
+fn run_filled(v: [usize; 16], loss: Loss, page: &[u8], events: &[u8]) -> Tried {
     let mut array = [0u8; 32769];
     let mut id = [0u8; 65];
     let mut answers = [0u8; 32769];
     cases::fill(&mut array, 0);
     cases::fill(&mut id, 100);
     cases::fill(&mut answers, 50);
-    let t = run(v, &state_of(v), &mut array, &mut id, events, &mut answers);
+    let t = run(
+        v,
+        loss,
+        page,
+        &state_of(v),
+        &mut array,
+        &mut id,
+        events,
+        &mut answers,
+    );
     let left = with_buffers(t, filled(&answers, 50));
     with_buffers(left, both_filled(&array, &id))
 }
 
-fn try_run(v: [usize; 16]) -> Tried {
+fn try_run(v: [usize; 16], loss: Loss, page: &[u8]) -> Tried {
     let mut events = [1u8; 32769];
     list_of(v, &mut events);
-    run_filled(v, cases::cut(&events, 0, v[EVENTS]))
+    run_filled(v, loss, page, cases::cut(&events, 0, v[EVENTS]))
 }
 
 fn deliver(v: [usize; 16], array: &mut [u8], id: &mut [u8]) -> Tried {
@@ -289,9 +309,9 @@ fn tell_code(t: Tried, code: u8, refused: usize) -> usize {
 fn one_code(v: [usize; 16], list: bool, refused: usize) -> usize {
     let code = narrow(v[CODE]);
     if list {
-        return tell_code(try_run(v), code, refused);
+        return tell_code(try_run(v, Loss::Old, b""), code, refused);
     }
-    tell_code(try_step(v), code, refused)
+    tell_code(try_step(v, Loss::Old, b""), code, refused)
 }
 
 fn codes(v: [usize; 16], list: bool) -> usize {
@@ -316,11 +336,11 @@ fn every_code(v: [usize; 16], list: bool) {
     say(b" at 0, unchanged");
 }
 
-fn step_and_run(v: [usize; 16]) {
+fn step_and_run(v: [usize; 16], loss: Loss, page: &[u8]) {
     say(b"step ");
-    tell_tried(try_step(v));
+    tell_tried(try_step(v, loss, page));
     say(b"; run ");
-    tell_tried(try_run(v));
+    tell_tried(try_run(v, loss, page));
 }
 
 fn call_list(letter: u8, v: [usize; 16]) {
@@ -329,18 +349,20 @@ fn call_list(letter: u8, v: [usize; 16]) {
         every_code(v, true);
         return;
     }
-    tell_tried(try_run(v));
+    tell_tried(try_run(v, Loss::Old, b""));
 }
 
-fn call(letter: u8, v: [usize; 16]) {
+fn call(letter: u8, v: [usize; 16], typed: &[u8]) {
     match letter {
         b'a' => {
             say(b"deliver ");
             tell_tried(try_deliver(v));
             say(b"; ");
-            step_and_run(v);
+            step_and_run(v, Loss::Old, b"");
         }
-        b'b' => step_and_run(v),
+        b'b' => step_and_run(v, Loss::Old, b""),
+        b'p' => cuts::tell_page(v),
+        b'c' => cuts::tell_cut(v, typed),
         b's' => {
             say(b"step ");
             every_code(v, false);
@@ -359,9 +381,15 @@ fn call(letter: u8, v: [usize; 16]) {
 
 fn one(line: &[u8]) {
     if 0 < line.len() {
-        say(cases::label(line));
+        let tried = cases::label(line);
+        let n = cases::place(tried, b'/');
+        say(cases::cut(tried, 0, n));
         say(b": ");
-        call(line[0], cases::numbers(line));
+        call(
+            line[0],
+            cases::numbers(line),
+            cases::cut(tried, n, tried.len()),
+        );
         say(b"\n");
     }
 }
