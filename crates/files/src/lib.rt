@@ -103,8 +103,8 @@ pub fn delivered(part: u8, held: &mut [u8], array: &mut [u8], id: &mut [u8]) -> 
     d.verdict
 }
 
-// A HEX file that is too long is not looked at, and has no number: of a longer image the length is wrong.
-fn too_long(word: usize, n: usize) -> bool {
+// A file that is too long is not looked at, and has no number; of a longer image the length is wrong.
+pub fn too_long(word: usize, n: usize) -> bool {
     if n <= MOST {
         return false;
     }

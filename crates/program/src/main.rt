@@ -153,11 +153,11 @@ fn run(bytes: bool) {
 fn usage(fd: i32) {
     io::write_all(
         fd,
-        b"usage: sapwoodle [trace]        runs the trace on standard input\n       sapwoodle trace --bytes  tells it byte by byte first, and where a page write turns back\n       sapwoodle write PART ENABLE ADDRESS HEXBYTES  the driver against the model\n       sapwoodle read PART ENABLE ADDRESS LENGTH     refused, each says which byte went unanswered: 9 a select, 14 and 15 an\n                                                     address byte, 10 a data byte; 11 that the chip stayed busy\n       sapwoodle bench [PART [--enable N]]           what a board cannot try, as tables\n       sapwoodle capture PART ENABLE FILE..          the model over what a logic analyser saw: same, or the first level that differs.\n                                                     Refused: 20 a sample above 3, with its number\n",
+        b"usage: sapwoodle [trace]        runs the trace on standard input\n       sapwoodle trace --bytes  tells it byte by byte first, and where a page write turns back\n       sapwoodle write PART ENABLE ADDRESS HEXBYTES  the driver against the model\n       sapwoodle read PART ENABLE ADDRESS LENGTH     refused, each says which byte went unanswered: 9 a select, 14 and 15 an\n                                                     address byte, 10 a data byte; 11 that the chip stayed busy\n       sapwoodle power PART ADDRESS LENGTH [--ident] which bytes a loss of power in each cycle of such a write may spoil\n       sapwoodle bench [PART [--enable N]]           what a board cannot try, as tables\n       sapwoodle capture PART ENABLE FILE..          the model over what a logic analyser saw: same, or the first level that differs.\n                                                     Refused: 20 a sample above 3, with its number\n",
     );
     io::write_all(
         fd,
-        b"       sapwoodle hex check PART FILE                 an Intel HEX file, looked at. Refused, each says the line: 16 no record, 17 a wrong\n                                                     sum, 18 overlap or beyond the array, 19 no end record or text behind it\n       sapwoodle hex image PART FILE --save FILE     a chip as delivered with its array, saved as an EPR image\n       sapwoodle hex text IMAGE                      the array of an EPR image, as Intel HEX\n       sapwoodle help           prints this\n       sapwoodle version        prints the version\n--image FILE of write, read and capture takes an EPR image or an Intel HEX file; a file that is read can be - : standard input.\n--capture FILE of write and read draws the wires of the run, for capture or for sigrok.\n",
+        b"       sapwoodle hex check PART FILE                 an Intel HEX file, looked at. Refused, each says the line: 16 no record, 17 a wrong\n                                                     sum, 18 overlap or beyond the array, 19 no end record or text behind it\n       sapwoodle hex image PART FILE --save FILE     a chip as delivered with its array, saved as an EPR image\n       sapwoodle hex text IMAGE                      the array of an EPR image, as Intel HEX\n       sapwoodle help           prints this\n       sapwoodle version        prints the version\n--image FILE of write, read and capture takes an EPR image or an Intel HEX file; a file that is read can be - : standard input.\n--capture FILE of write and read draws the wires of the run, for capture or for sigrok.\n--cut K of write loses the power before event K, counted from 0 as --events shows them, and tells each byte that is then not as before. In a\ncycle each error-correction group with a written byte comes up as a page that is lent: --page FILE has its bytes, --fill HH is each of them;\nwithout either each byte of the page comes up turned into its complement. --lock: a locking cycle leaves the lock (a write begins none; bench shows one).\nRefused: 3 for that page's length.\n",
     );
     io::write_all(
         fd,
@@ -213,6 +213,15 @@ fn choose_station(word: &[u8]) {
         tables::bench_command(2, count);
         return;
     }
+    choose_other(word, count);
+}
+
+fn choose_other(word: &[u8], count: usize) {
+    let powered = check::same(word, b"power");
+    if powered {
+        power_station::power_command(2, count);
+        return;
+    }
     let captured = check::same(word, b"capture");
     if captured {
         capture_station::capture_command(2, count);
@@ -233,7 +242,7 @@ fn choose(word: &[u8]) {
     }
     let version = check::same(word, b"version");
     if version {
-        return put(b"sapwoodle 0.11.0\n");
+        return put(b"sapwoodle 0.12.0\n");
     }
     let help = check::same(word, b"help");
     if help {

@@ -1,58 +1,21 @@
 // One write or read at a bench, as the words of a command line ask for it: driver and model together, on a chip as delivered or
 // on a stored one.
+mod cutting;
 mod show;
 mod wires;
 
-ghost use mathlib.Core.Path.{_≡_};
-ghost use lib.ListN.{length};
-use driver::Place;
-use driver::Request;
 use files::Ready;
-use parts::ArrayAddress;
-use parts::IdLocation;
+use parts::Loss;
 use parts::Verdict;
-use show::Ground;
+use power_station::Ended;
+use power_station::TAPE;
+use power_station::ground;
+use power_station::recorded;
 use words::Job;
 use words::answer;
-
-// The events of a run that are kept: more than writing or reading the whole of the largest array takes, where no page is polled
-// more than a dozen times.
-const TAPE: usize = 393216;
-
-// What a run reports, and how many events it sent.
-struct Ended {
-    verdict: Verdict,
-    bytes: usize,
-    polls: usize,
-    cycles: usize,
-    clocks: usize,
-    sent: usize,
-}
+use words::report;
 
 // ---- the run
-
-fn place(ident: bool, at: usize) -> Place {
-    if ident {
-        return Place::Ident(IdLocation(at));
-    }
-    Place::Array(ArrayAddress(at))
-}
-
-// More than any array has is refused as one byte more is; so the buffer is never what a read is refused for.
-fn limited(length: usize) -> usize {
-    if length < 32769 { length } else { 32769 }
-}
-
-fn request(job: Job) -> Request {
-    Request {
-        part: job.part,
-        enable: job.enable,
-        place: place(job.ident, job.at),
-        reads: job.reads,
-        length: limited(job.length),
-        budget: job.budget,
-    }
-}
 
 fn tell_cut(sent: usize) {
     if TAPE < sent {
@@ -119,19 +82,10 @@ fn saved(job: Job, verdict: Verdict, held: &[u8], array: &[u8], id: &[u8]) -> bo
     }
 }
 
-fn ground(job: Job) -> Ground {
-    let f = parts::facts_of(job.part);
-    Ground {
-        page: f.page,
-        ident: job.ident,
-        from: job.at,
-    }
-}
-
 fn tell_report(job: Job, e: Ended) -> bool {
     let verdict = e.verdict;
-    show::figures(
-        show::head(ground(job), verdict),
+    report::figures(
+        report::head(ground(job), verdict),
         e.bytes,
         job.length,
         e.polls,
@@ -148,49 +102,10 @@ fn tell_bytes(ok: bool, job: Job, verdict: Verdict, data: &[u8]) -> bool {
     }
 }
 
-fn blank() -> [u8; 393216]
-    ensures { λ r. ⌜ 393216 ≡ length r ⌝ }
-{
-    [0; 393216]
-}
-
-fn recorded(
-    job: Job,
-    held: &mut [u8],
-    array: &mut [u8],
-    id: &mut [u8],
-    data: &mut [u8],
-    events: &mut [u8],
-    levels: &mut [u8],
-) -> Ended {
-    let run = bench::record(
-        request(job),
-        job.own,
-        job.ends,
-        pack_chip::unpack(held),
-        array,
-        id,
-        data,
-        events,
-        levels,
-    );
-    let report = run.report;
-    let verdict = report.verdict;
-    pack_chip::pack(report.chip, held);
-    Ended {
-        verdict: verdict,
-        bytes: report.bytes,
-        polls: report.polls,
-        cycles: report.cycles,
-        clocks: report.clocks,
-        sent: run.sent,
-    }
-}
-
 // The files stand before the report is told.
 fn run(job: Job, held: &mut [u8], array: &mut [u8], id: &mut [u8], data: &mut [u8]) -> bool {
-    let mut events = blank();
-    let mut levels = blank();
+    let mut events = power_station::tape();
+    let mut levels = power_station::tape();
     let e = recorded(job, held, array, id, data, &mut events, &mut levels);
     let verdict = e.verdict;
     if !drawn(job, verdict, e.sent, &events, &levels) {
@@ -204,9 +119,24 @@ fn run(job: Job, held: &mut [u8], array: &mut [u8], id: &mut [u8], data: &mut [u
     tell_bytes(taped, job, verdict, data)
 }
 
+fn run_or_cut(
+    job: Job,
+    page: &[u8],
+    held: &mut [u8],
+    array: &mut [u8],
+    id: &mut [u8],
+    data: &mut [u8],
+) -> bool {
+    if job.cuts {
+        return cutting::run(job, page, held, array, id, data);
+    }
+    run(job, held, array, id, data)
+}
+
 fn run_prepared(
     verdict: Verdict,
     job: Job,
+    page: &[u8],
     held: &mut [u8],
     array: &mut [u8],
     id: &mut [u8],
@@ -214,25 +144,33 @@ fn run_prepared(
 ) -> bool {
     let ready = files::prepared(verdict, job, held, array, id);
     match ready {
-        Verdict::Fine => run(job, held, array, id, data),
-        Verdict::Refused(r) => show::refused(ground(job), r),
+        Verdict::Fine => run_or_cut(job, page, held, array, id, data),
+        Verdict::Refused(r) => report::refused(ground(job), r),
     }
 }
 
-fn begin(job: Job, held: &mut [u8], array: &mut [u8], id: &mut [u8], data: &mut [u8]) -> bool {
+fn begin(
+    job: Job,
+    page: &[u8],
+    held: &mut [u8],
+    array: &mut [u8],
+    id: &mut [u8],
+    data: &mut [u8],
+) -> bool {
     let first = files::at_first(job, held, array, id);
     match first {
         Ready::Told => false,
-        Ready::Judged(verdict) => run_prepared(verdict, job, held, array, id, data),
+        Ready::Judged(verdict) => run_prepared(verdict, job, page, held, array, id, data),
     }
 }
 
-fn lend(job: Job, data: &mut [u8]) -> bool {
+fn lend(job: Job, page: &[u8], data: &mut [u8]) -> bool {
     let mut array = [0u8; 32768];
     let mut id = [0u8; 64];
     let mut held = [0u8; pack_chip::LENGTH];
     begin(
         job,
+        page,
         &mut held,
         fitted::array(job.part, &mut array),
         fitted::id(job.part, &mut id),
@@ -240,12 +178,46 @@ fn lend(job: Job, data: &mut [u8]) -> bool {
     )
 }
 
+// Refusal 3 is given before a stored chip is looked at.
+fn judged(job: Job, page: &[u8], data: &mut [u8]) -> bool {
+    let f = parts::facts_of(job.part);
+    let verdict = parts::loss_verdict(f, Loss::Lent(job.lock), page.len());
+    match verdict {
+        Verdict::Fine => lend(job, page, data),
+        Verdict::Refused(r) => cutting::wrong_page(r, page.len(), f.page),
+    }
+}
+
+fn paged_in(job: Job, bytes: &mut [u8], data: &mut [u8]) -> bool {
+    let got = files::contents(job.page, bytes);
+    let n = got.n;
+    if !got.ok {
+        return false;
+    }
+    if files::too_long(job.page, n) {
+        return false;
+    }
+    if n <= bytes.len() {
+        return judged(job, &bytes[0..n], data);
+    }
+    false
+}
+
+// The page that is lent for a loss of power, where a file has it.
+fn paged(job: Job, data: &mut [u8]) -> bool {
+    if job.page == 0 {
+        return lend(job, b"", data);
+    }
+    let mut bytes = files::room();
+    paged_in(job, &mut bytes, data)
+}
+
 // 1 and 2 are given before a file is looked at. False where nothing, or not all, could be answered: standard error has the reason.
 fn answer(job: Job, data: &mut [u8]) -> bool {
     let verdict = files::judged(job);
     match verdict {
-        Verdict::Fine => lend(job, data),
-        Verdict::Refused(r) => show::refused(ground(job), r),
+        Verdict::Fine => paged(job, data),
+        Verdict::Refused(r) => report::refused(ground(job), r),
     }
 }
 

@@ -11,7 +11,7 @@ fn then_at(i: usize) -> bool {
 
 // The limit is for the proof alone.
 fn after(i: usize) -> usize {
-    if i < 1000 { i + 1 } else { i }
+    if i < 2000 { i + 1 } else { i }
 }
 
 fn choose(word: &[u8], next: usize, end: usize) {
@@ -21,6 +21,10 @@ fn choose(word: &[u8], next: usize, end: usize) {
     }
     if check::same(word, b"bench") {
         tables::bench_command(next, end);
+        return;
+    }
+    if check::same(word, b"power") {
+        power_station::power_command(next, end);
         return;
     }
     if check::same(word, b"capture") {

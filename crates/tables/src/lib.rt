@@ -1,5 +1,6 @@
 // What could not be tried on boards, run on the model and printed: a Stop at each clock of a page write, Write Control rising at
-// each place of it, the lock command, a chip that stays busy, a line that loses an acknowledge, for any part of the table.
+// each place of it, the lock command, a chip that stays busy, a line that loses an acknowledge, power lost in a cycle, for any part of the
+// table.
 use driver::Answer;
 use driver::Driver;
 use driver::Place;
@@ -15,6 +16,7 @@ use text::say_address;
 use text::say_byte;
 use text::say_number;
 use text::say_right;
+use words::answer;
 
 // A transfer: Start, some clocks of these bytes, Stop, and the cycle's end. Past the bytes the line is released.
 struct Script {
@@ -62,6 +64,8 @@ const ENDS: u8 = 4;
 
 const HIGH: u8 = 6;
 
+const RESET: u8 = 8;
+
 const NEVER: usize = 1000;
 
 // The polls that the driver is allowed for a page.
@@ -85,6 +89,21 @@ const LOCKS: u8 = 3;
 const BUSY: u8 = 4;
 
 const LOST: u8 = 5;
+
+const POWER: u8 = 6;
+
+// The rows of the last table, by number: the array's, then the identification page's.
+const ONE: usize = 0;
+
+const PAGE_END: usize = 1;
+
+const ROLLED: usize = 2;
+
+const IDENT: usize = 3;
+
+const FLAG_0: usize = 4;
+
+const FLAG_1: usize = 5;
 
 // ---- numbers
 
@@ -394,14 +413,18 @@ fn clocks(a: usize, data: usize) -> usize {
     0
 }
 
-// Two bytes at a page's last place, the second rolling over to the page's first; so many clocks, and the pin rising at a place.
-fn page_write(a: usize, page: usize, enable: u8, clocks: usize, high: usize) -> Script {
-    let last = text::narrow(less(page));
+// Two bytes, or the first of them, at an address below 256; so many clocks, and the pin rising at a place.
+fn array_write(a: usize, at: usize, enable: u8, clocks: usize, high: usize) -> Script {
     Script {
-        bytes: transfer(a, enable, false, 0, last, FIRST, SECOND),
+        bytes: transfer(a, enable, false, 0, text::narrow(at), FIRST, SECOND),
         clocks,
         high,
     }
+}
+
+// At a page's last place: the second byte rolls over to the page's first.
+fn page_write(a: usize, page: usize, enable: u8, clocks: usize, high: usize) -> Script {
+    array_write(a, less(page), enable, clocks, high)
 }
 
 // The kinds of lock byte: bit 1 clear and set, other bits clear and set.
@@ -431,9 +454,10 @@ fn lock_command(lock: usize, a: usize, enable: u8, k: usize) -> Script {
     }
 }
 
-fn id_write(a: usize, enable: u8) -> Script {
+// One byte, at a location.
+fn id_write(a: usize, enable: u8, at: usize, byte: u8) -> Script {
     Script {
-        bytes: transfer(a, enable, true, 0, 0, LATER, 255),
+        bytes: transfer(a, enable, true, 0, text::narrow(at), byte, 255),
         clocks: clocks(a, 1),
         high: NEVER,
     }
@@ -665,6 +689,43 @@ fn tell_answer(answer: Answer) {
     }
 }
 
+// ---- 6: power lost in the cycle
+
+fn tell_sent(page: usize, k: usize) {
+    match k {
+        ONE => {
+            say(b"11h at 0005h                     ");
+        }
+        PAGE_END => {
+            say(b"11h and 22h at ");
+            say_address(less(less(page)));
+            say(b", page end   ");
+        }
+        ROLLED => {
+            say(b"11h and 22h at ");
+            say_address(less(page));
+            say(b", roll-over  ");
+        }
+        IDENT => {
+            say(b"11h at location 05h              ");
+        }
+        FLAG_0 => {
+            say(b"lock command, flag 0             ");
+        }
+        _ => {
+            say(b"lock command, flag 1             ");
+        }
+    }
+}
+
+fn power_line(page: usize, k: usize, begun: bool, locked: bool) {
+    tell_sent(page, k);
+    tell_cycle(begun);
+    say(b"   ");
+    tell_yes(locked);
+    say(b"      ");
+}
+
 // ---- rows: each starts from delivery
 
 fn write_of(a: usize, page: usize, enable: u8, table: u8, k: usize) -> Script {
@@ -734,7 +795,7 @@ fn lock_row(part: u8, enable: u8, k: usize, array: &mut [u8], id: &mut [u8]) -> 
     let f = parts::facts_of(part);
     let a = parts::address_bytes(f);
     let s = lock_command(f.lock, a, enable, k);
-    let later = id_write(a, enable);
+    let later = id_write(a, enable, 0, LATER);
     let n = events_in(s);
     let events = behind(events_of(s), n, later);
     let all = first_of(&events, sum(n, events_in(later)));
@@ -751,6 +812,92 @@ fn lock_row(part: u8, enable: u8, k: usize, array: &mut [u8], id: &mut [u8]) -> 
     tell_lock(k, a, s, &levels, l);
     let written = acknowledged(later, &levels, n, more(a));
     later_line(written, l.later, parts::byte_at(id, 0))
+}
+
+// What a row of the last table sends.
+fn sent_of(f: Facts, enable: u8, k: usize) -> Script {
+    let a = parts::address_bytes(f);
+    match k {
+        ONE => array_write(a, 5, enable, clocks(a, 1), NEVER),
+        PAGE_END => array_write(a, less(less(f.page)), enable, clocks(a, 2), NEVER),
+        ROLLED => page_write(a, f.page, enable, clocks(a, 2), NEVER),
+        IDENT => id_write(a, enable, 5, FIRST),
+        _ => lock_command(f.lock, a, enable, 2),
+    }
+}
+
+// Start, clocks, Stop, and a reset in the place of the cycle's end.
+fn cut_of(s: Script) -> [u8; 128] {
+    let mut events = events_of(s);
+    let at = more(more(s.clocks));
+    if at < 128 {
+        events[at] = RESET;
+    }
+    events
+}
+
+// The events on a part as delivered, with a page lent.
+fn play_cut(
+    part: u8,
+    enable: u8,
+    lock: bool,
+    page: &[u8],
+    array: &mut [u8],
+    id: &mut [u8],
+    events: &[u8],
+) -> Played {
+    let d = chip::deliver(part, array, id);
+    let mut levels = [2u8; 128];
+    let r = chip::run(
+        part,
+        enable,
+        Loss::Lent(lock),
+        page,
+        d.chip,
+        array,
+        id,
+        events,
+        &mut levels,
+    );
+    Played {
+        cycles: r.cycles,
+        locked: is_locked(r.chip),
+    }
+}
+
+// Which bytes are not as delivered: those of one memory, whichever the row is of.
+fn tell_risen(part: u8, k: usize, array: &[u8], id: &[u8]) -> bool {
+    let mut new = [0u8; 32768];
+    let mut new_id = [0u8; 64];
+    chip::deliver(
+        part,
+        fitted::array(part, &mut new),
+        fitted::id(part, &mut new_id),
+    );
+    if k < IDENT {
+        answer::spans(true, &new, array);
+    } else {
+        answer::spans(true, &new_id, id);
+    }
+    say(b"\n")
+}
+
+fn power_row(part: u8, enable: u8, k: usize, array: &mut [u8], id: &mut [u8]) -> bool {
+    let f = parts::facts_of(part);
+    let s = sent_of(f, enable, k);
+    let events = cut_of(s);
+    let page = [0u8; 64];
+    let p = play_cut(
+        part,
+        enable,
+        k == FLAG_1,
+        first_of(&page, f.page),
+        array,
+        id,
+        first_of(&events, events_in(s)),
+    );
+    power_line(f.page, k, 0 < p.cycles, p.locked);
+    tell_risen(part, k, array, id)
 }
 
 // The write meets two pages.
@@ -791,6 +938,7 @@ fn lent_row(part: u8, enable: u8, table: u8, k: usize, array: &mut [u8], id: &mu
         LOCKS => lock_row(part, enable, k, array, id),
         BUSY => busy_row(part, enable, more(k), array, id),
         LOST => lost_row(part, enable, k, array, id),
+        POWER => power_row(part, enable, k, array, id),
         _ => write_row(part, enable, table, k, array, id),
     }
 }
@@ -897,22 +1045,21 @@ fn losses(part: u8, enable: u8, a: usize, page: usize) -> bool {
     say(b"A data byte whose acknowledge is lost is stored all the same, and not reported.\n")
 }
 
-fn tell_name(part: u8) {
-    let name = parts::name_of(part);
-    let bytes = name.bytes;
-    let n = name.length;
-    if n == 0 {
-        say(b"unknown");
-        return;
+// Delivered bytes are never 00h, so each byte that comes up as lent shows.
+fn powers(part: u8, enable: u8, ident: bool) -> bool {
+    say(b"\nPower lost in the cycle, a page of 00h lent for it: which bytes then hold 00h\n");
+    say(b"sent                                cycle    locked   spoiled\n");
+    if ident {
+        return rows(part, enable, POWER, 6);
     }
-    say(&bytes[..n]);
+    rows(part, enable, POWER, 3)
 }
 
 fn heading(part: u8, enable: u8) {
     say(b"Part ");
     say_number(part as usize);
     say(b", ");
-    tell_name(part);
+    words::say_name(part);
     say(b", enable ");
     say_number(enable as usize);
     say(b"\n");
@@ -933,7 +1080,10 @@ fn known_part(part: u8, enable: u8, f: Facts) -> bool {
     if !busy(part, enable, f.page) {
         return false;
     }
-    losses(part, enable, a, f.page)
+    if !losses(part, enable, a, f.page) {
+        return false;
+    }
+    powers(part, enable, f.ident)
 }
 
 fn refused(r: Refusal) -> bool {

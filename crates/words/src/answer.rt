@@ -65,7 +65,8 @@ fn letter(code: u8) -> u8 {
         1 => b'1',
         2 => b'S',
         3 => b'P',
-        _ => b'E',
+        4 => b'E',
+        _ => b'R',
     }
 }
 
@@ -107,4 +108,94 @@ pub fn tape(ok: bool, levels: bool, sent: usize, kept: &mut [u8]) -> bool {
     }
     let told = letters(ok, levels, kept);
     say(told, b"\n")
+}
+
+// ---- bytes and addresses
+
+// `5Ah`
+pub fn byte(ok: bool, b: u8) -> bool {
+    let d = text::hex(b);
+    say(ok, &[d[0], d[1], b'h'])
+}
+
+// `001Fh`
+pub fn address(ok: bool, a: usize) -> bool {
+    let d = text::word(a);
+    say(ok, &[d[0], d[1], d[2], d[3], b'h'])
+}
+
+// The limit is for the proof alone: no memory is so large.
+fn more(n: usize) -> usize {
+    if n < 65536 { n + 1 } else { n }
+}
+
+// `0024h..0027h`, or `0024h` where it is one byte: the places from one on to before another.
+fn span(ok: bool, from: usize, end: usize) -> bool {
+    let low = address(ok, from);
+    if end <= more(from) {
+        return low;
+    }
+    let to = say(low, b"..");
+    address(to, end - 1)
+}
+
+// How far two memories are looked through: the spans told, and where one is open that is not told yet.
+struct Seen {
+    ok: bool,
+    spans: usize,
+    open: bool,
+    from: usize,
+}
+
+// The span that is open ends before a place.
+fn closed(l: Seen, end: usize) -> Seen {
+    let next = if 0 < l.spans { say(l.ok, b", ") } else { l.ok };
+    Seen {
+        ok: span(next, l.from, end),
+        spans: more(l.spans),
+        open: false,
+        from: end,
+    }
+}
+
+fn looked(l: Seen, i: usize, differs: bool) -> Seen {
+    if l.open {
+        if differs {
+            return l;
+        }
+        return closed(l, i);
+    }
+    Seen {
+        open: differs,
+        from: i,
+        ..l
+    }
+}
+
+pub fn differs(before: &[u8], after: &[u8], i: usize) -> bool {
+    parts::byte_at(before, i) != parts::byte_at(after, i)
+}
+
+fn look(ok: bool, before: &[u8], after: &[u8]) -> Seen {
+    let mut l = Seen {
+        ok,
+        spans: 0,
+        open: false,
+        from: 0,
+    };
+    let mut i = 0;
+    while i < after.len() {
+        l = looked(l, i, differs(before, after, i));
+        i += 1;
+    }
+    if l.open { closed(l, i) } else { l }
+}
+
+// The places at which two memories differ, with no line end: `0000h..0003h, 001Ch..001Fh`, or `none`.
+pub fn spans(ok: bool, before: &[u8], after: &[u8]) -> bool {
+    let l = look(ok, before, after);
+    if l.spans == 0 {
+        return say(l.ok, b"none");
+    }
+    l.ok
 }

@@ -1,6 +1,7 @@
 // The words of a command line, made into a job. What is wrong with a word is said on standard error at once. And the words that more than
 // one command answers with.
 pub mod answer;
+pub mod report;
 
 use libc::STDERR_FILENO;
 use libc::STDIN_FILENO;
@@ -29,6 +30,14 @@ pub struct Job {
     pub bytes: usize,
     // The file that a run's wires are drawn into.
     pub drawn: usize,
+    // Of a write that is cut, where `cuts`: the event before which power is lost; the file with the bytes of the page that is lent, or, where
+    // `fills`, what each of them is; and whether a locking cycle leaves the lock.
+    pub cuts: bool,
+    pub cut: usize,
+    pub page: usize,
+    pub fills: bool,
+    pub fill: u8,
+    pub lock: bool,
     // Of a capture: its files go from one word to before another; whether every rise is a clock; the bits of the two wires, where `picks`.
     pub files: usize,
     pub behind: usize,
@@ -38,14 +47,14 @@ pub struct Job {
     pub sda: u8,
 }
 
-// How far the words are read: the one that is looked at next, where they end, whether the command is `capture`, and what each kind of
-// word said.
+// How far the words are read: the one that is looked at next, where they end, the command that they are of, and what each kind of word
+// said.
 struct Read {
     ok: bool,
     next: usize,
     end: usize,
-    captures: bool,
-    said: [usize; 24],
+    command: u8,
+    said: [usize; 28],
 }
 
 pub struct Number {
@@ -74,35 +83,59 @@ const SCL: usize = 9;
 
 const SDA: usize = 10;
 
-const IMAGE: usize = 11;
+const CUT: usize = 11;
 
-const SAVE: usize = 12;
+const FILL: usize = 12;
 
-const DRAWN: usize = 13;
+const IMAGE: usize = 13;
 
-const IDENT: usize = 14;
+const SAVE: usize = 14;
 
-const EVENTS: usize = 15;
+const DRAWN: usize = 15;
 
-const LETTER: usize = 16;
+const PAGE: usize = 16;
+
+const IDENT: usize = 17;
+
+const EVENTS: usize = 18;
+
+const LETTER: usize = 19;
+
+const LOCK: usize = 20;
 
 // The name of an option, the bytes of a write, the first file of a capture and the word behind its last.
-const OPTION: usize = 17;
+const OPTION: usize = 21;
 
-const BYTES: usize = 18;
+const BYTES: usize = 22;
 
-const FILES: usize = 19;
+const FILES: usize = 23;
 
-const BEHIND: usize = 20;
+const BEHIND: usize = 24;
 
 // Two more that a word can be wrong as, and the word behind `hex`.
-const LONG: usize = 21;
+const LONG: usize = 25;
 
-const MISSING: usize = 22;
+const MISSING: usize = 26;
 
-const HEX: usize = 23;
+const HEX: usize = 27;
 
 const NONE: usize = 255;
+
+// No byte, and no event: no number is so large (`grown`).
+const NO_BYTE: usize = 256;
+
+const NO_EVENT: usize = 268435456;
+
+// The commands: those that take options, and the others.
+const OTHER: u8 = 0;
+
+const WRITE: u8 = 1;
+
+const READ: u8 = 2;
+
+const CAPTURE: u8 = 3;
+
+const POWER: u8 = 4;
 
 // ---- complaints
 
@@ -112,7 +145,7 @@ fn tell(text: &[u8]) {
 
 fn usage() {
     tell(
-        b"usage: sapwoodle write PART ENABLE ADDRESS HEXBYTES [option ..]    HEXBYTES - : the bytes from standard input\n       sapwoodle read PART ENABLE ADDRESS LENGTH [option ..]\n       sapwoodle capture PART ENABLE FILE.. [capture's option ..]\n       sapwoodle bench [PART [--enable N]]\n       sapwoodle hex check PART FILE\n       sapwoodle hex image PART FILE --save FILE\n       sapwoodle hex text IMAGE\noptions: --ident --events --budget N --ends-at D --pin high|low|floating --chip-enable N --image FILE --save FILE --capture FILE\ncapture's options: --letter --events --scl BIT --sda BIT --pin high|low|floating --image FILE --save FILE\n--image takes an EPR image or an Intel HEX file; a file that is read can be - : standard input\n",
+        b"usage: sapwoodle write PART ENABLE ADDRESS HEXBYTES [option ..]    HEXBYTES - : the bytes from standard input\n       sapwoodle read PART ENABLE ADDRESS LENGTH [option ..]\n       sapwoodle capture PART ENABLE FILE.. [capture's option ..]\n       sapwoodle power PART ADDRESS LENGTH [--ident] [--enable N]\n       sapwoodle bench [PART [--enable N]]\n       sapwoodle hex check PART FILE\n       sapwoodle hex image PART FILE --save FILE\n       sapwoodle hex text IMAGE\noptions: --ident --events --budget N --ends-at D --pin high|low|floating --chip-enable N --image FILE --save FILE --capture FILE\nwrite's options too: --cut K [--page FILE | --fill HH] [--lock]\ncapture's options: --letter --events --scl BIT --sda BIT --pin high|low|floating --image FILE --save FILE\n--image takes an EPR image or an Intel HEX file; a file that is read can be - : standard input\n",
     );
 }
 
@@ -122,6 +155,7 @@ fn reason(kind: usize) {
         PIN => tell(b"is none of high, low, floating, for --pin\n"),
         SCL => tell(b"is no bit of a byte, 0 to 7\n"),
         SDA => tell(b"is no bit of a byte, 0 to 7\n"),
+        FILL => tell(b"is no byte: two hexadecimal digits, for --fill\n"),
         SAVE => tell(b"is not --save, and hex image wants --save FILE\n"),
         OPTION => tell(b"is no option, or one too many\n"),
         BYTES => tell(b"is no row of bytes: two hexadecimal digits a byte, or -\n"),
@@ -171,6 +205,14 @@ pub fn say_advice(r: Refusal) -> bool {
         return text::say(b"the chip stayed busy longer than the budget of polls");
     }
     text::say(b"the chip answered its select, so look at the line, not at the board")
+}
+
+// The name of a part of the part table.
+pub fn say_name(part: u8) -> bool {
+    let name = parts::name_of(part);
+    let bytes = name.bytes;
+    let n = name.length;
+    text::say(&bytes[..n])
 }
 
 // ---- letters and numbers
@@ -271,6 +313,14 @@ fn named(word: &[u8]) -> usize {
     NONE
 }
 
+// The byte that two digits say.
+fn byte_of(word: &[u8]) -> Number {
+    if word.len() == 2 {
+        return digits(word, true);
+    }
+    Number { ok: false, n: 0 }
+}
+
 // A digit above 5 is taken: the run refuses it with its number.
 fn part_of(word: &[u8]) -> usize {
     if word.len() == 1 {
@@ -296,6 +346,22 @@ fn pin_of(word: &[u8]) -> usize {
     NONE
 }
 
+fn cut_of(word: &[u8]) -> usize {
+    if same(word, b"--cut") {
+        return CUT;
+    }
+    if same(word, b"--page") {
+        return PAGE;
+    }
+    if same(word, b"--fill") {
+        return FILL;
+    }
+    if same(word, b"--lock") {
+        return LOCK;
+    }
+    NONE
+}
+
 fn captured_of(word: &[u8]) -> usize {
     if same(word, b"--capture") {
         return DRAWN;
@@ -309,7 +375,7 @@ fn captured_of(word: &[u8]) -> usize {
     if same(word, b"--sda") {
         return SDA;
     }
-    NONE
+    cut_of(word)
 }
 
 fn rarer_of(word: &[u8]) -> usize {
@@ -365,6 +431,7 @@ fn parsed(word: &[u8], kind: usize) -> Number {
         PIN => found(pin_of(word)),
         SCL => bit_of(word),
         SDA => bit_of(word),
+        FILL => byte_of(word),
         OPTION => found(option_of(word)),
         _ => number_of(word),
     }
@@ -399,7 +466,7 @@ pub fn after(i: usize) -> usize {
 }
 
 fn put(mut read: Read, kind: usize, n: usize) -> Read {
-    if kind < 24 {
+    if kind < 28 {
         read.said[kind] = n;
     }
     read
@@ -450,18 +517,23 @@ fn take_value(read: Read, kind: usize) -> Read {
     set(read, kind, 1)
 }
 
-// Whether an option is one of the command's; `--enable` is one of bench alone.
-fn fits(kind: usize, captures: bool) -> bool {
+// Whether an option is one of the command's; `--enable` is one of bench too, which has no other.
+fn fits(kind: usize, command: u8) -> bool {
     match kind {
-        ENABLE => false,
-        PIN => true,
-        IMAGE => true,
-        SAVE => true,
-        EVENTS => true,
-        SCL => captures,
-        SDA => captures,
-        LETTER => captures,
-        _ => !captures,
+        ENABLE => command == POWER,
+        IDENT => command != CAPTURE,
+        PIN => command != POWER,
+        IMAGE => command != POWER,
+        SAVE => command != POWER,
+        EVENTS => command != POWER,
+        SCL => command == CAPTURE,
+        SDA => command == CAPTURE,
+        LETTER => command == CAPTURE,
+        CUT => command == WRITE,
+        FILL => command == WRITE,
+        PAGE => command == WRITE,
+        LOCK => command == WRITE,
+        _ => command < CAPTURE,
     }
 }
 
@@ -474,7 +546,7 @@ fn take_option(read: Read) -> Read {
     }
     let kind = parsed_at(read.next, OPTION);
     if kind.ok {
-        if fits(kind.n, read.captures) {
+        if fits(kind.n, read.command) {
             return take_value(passed(read), kind.n);
         }
     }
@@ -498,44 +570,50 @@ fn ended(read: Read) -> Read {
     read
 }
 
-// There are nine options of a write: more words than that repeat one.
+// There are thirteen options of a write, nine of a read: more words than that repeat one.
 fn take_options(read: Read) -> Read {
-    ended(take_option(take_some(take_some(read))))
+    let nine = take_option(take_some(take_some(read)));
+    if nine.command == WRITE {
+        return ended(take_some(nine));
+    }
+    ended(nine)
 }
 
-fn bitless(read: Read) -> Read {
-    put(put(read, SCL, NONE), SDA, NONE)
+// No bit, no byte and no event is named.
+fn bare(read: Read) -> Read {
+    let bitless = put(put(read, SCL, NONE), SDA, NONE);
+    put(put(bitless, FILL, NO_BYTE), CUT, NO_EVENT)
 }
 
-// Nothing is said yet; the words go from `next` to before `end`.
-fn start(next: usize, end: usize) -> Read {
+// Nothing is said yet; the words of a command go from `next` to before `end`.
+fn start(command: u8, next: usize, end: usize) -> Read {
     let read = Read {
         ok: true,
         next,
         end,
-        captures: false,
-        said: [0; 24],
+        command,
+        said: [0; 28],
     };
-    put(put(bitless(read), BUDGET, 100), ENDS, 1)
+    put(put(bare(read), BUDGET, 100), ENDS, 1)
 }
 
 // The bytes of a write are taken later, where there is a buffer for them.
-fn take_last(read: Read, reads: bool) -> Read {
-    if reads {
-        return take(read, LENGTH);
+fn take_last(read: Read) -> Read {
+    if read.command == WRITE {
+        return put(passed(read), BYTES, read.next);
     }
-    put(passed(read), BYTES, read.next)
+    take(read, LENGTH)
 }
 
-// The four words that are always there, and options.
-fn take_all(read: Read, reads: bool) -> Read {
+// The words that are always there, and options.
+fn take_all(read: Read) -> Read {
     let three = take(take(take(read, PART), ENABLE), ADDRESS);
-    take_options(take_last(three, reads))
+    take_options(take_last(three))
 }
 
 // ---- jobs: the words go from `next` to before `end`
 
-fn job_of(read: Read, reads: bool) -> Job {
+fn job_of(read: Read) -> Job {
     let said = read.said;
     Job {
         ok: read.ok,
@@ -544,7 +622,7 @@ fn job_of(read: Read, reads: bool) -> Job {
         own: text::narrow(said[OWN]),
         at: said[ADDRESS],
         ident: said[IDENT] == 1,
-        reads,
+        reads: read.command == READ,
         length: said[LENGTH],
         budget: said[BUDGET],
         ends: said[ENDS],
@@ -554,6 +632,12 @@ fn job_of(read: Read, reads: bool) -> Job {
         save: said[SAVE],
         bytes: said[BYTES],
         drawn: said[DRAWN],
+        cuts: said[CUT] != NO_EVENT,
+        cut: said[CUT],
+        page: said[PAGE],
+        fills: said[FILL] != NO_BYTE,
+        fill: text::narrow(said[FILL]),
+        lock: said[LOCK] == 1,
         files: said[FILES],
         behind: said[BEHIND],
         letter: said[LETTER] == 1,
@@ -563,27 +647,70 @@ fn job_of(read: Read, reads: bool) -> Job {
     }
 }
 
-// Standard input is read once: for the bytes of a write, or for its image.
-fn once(job: Job) -> Job {
-    if !is_input(job.bytes) {
-        return job;
-    }
+fn mistaken(job: Job, what: &[u8]) -> Job {
     if job.ok {
-        if is_input(job.image) {
-            tell(b"sapwoodle: only one of HEXBYTES and --image can be standard input\n");
-            return Job { ok: false, ..job };
-        }
+        tell(what);
+    }
+    Job { ok: false, ..job }
+}
+
+// Standard input is read once: for the bytes of a write, for its image, or for the page that is lent.
+fn once(job: Job) -> Job {
+    let bytes = is_input(job.bytes);
+    let image = is_input(job.image);
+    if bytes & image {
+        return mistaken(
+            job,
+            b"sapwoodle: only one of HEXBYTES and --image can be standard input\n",
+        );
+    }
+    if is_input(job.page) & (bytes | image) {
+        return mistaken(
+            job,
+            b"sapwoodle: only one of HEXBYTES, --image and --page can be standard input\n",
+        );
     }
     job
 }
 
+// What is lent for a cut is said once, and of a cut alone.
+fn lent(job: Job) -> Job {
+    let paged = 0 < job.page;
+    if paged & job.fills {
+        return mistaken(job, b"sapwoodle: --page and --fill do not go together\n");
+    }
+    if !job.cuts & (paged | job.fills | job.lock) {
+        return mistaken(
+            job,
+            b"sapwoodle: --page, --fill and --lock are for a write with --cut\n",
+        );
+    }
+    job
+}
+
+// A word that is always there is missing.
+fn missing(command: u8, end: usize) -> Job {
+    job_of(bad(start(command, end, end), MISSING))
+}
+
 // `PART ENABLE ADDRESS LENGTH` of a read, `PART ENABLE ADDRESS HEXBYTES` of a write, and options.
 pub fn asked(reads: bool, next: usize, end: usize) -> Job {
+    let command = if reads { READ } else { WRITE };
     let last = after(after(after(next)));
     if end <= last {
-        return job_of(bad(start(end, end), MISSING), reads);
+        return missing(command, end);
     }
-    once(job_of(take_all(start(next, end), reads), reads))
+    lent(once(job_of(take_all(start(command, next, end)))))
+}
+
+// `PART ADDRESS LENGTH`, and options: judged as a write of so many bytes.
+pub fn power_asked(next: usize, end: usize) -> Job {
+    let last = after(after(next));
+    if end <= last {
+        return missing(POWER, end);
+    }
+    let two = take(take(start(POWER, next, end), PART), ADDRESS);
+    job_of(take_options(take_last(two)))
 }
 
 // ---- the files of a capture
@@ -652,13 +779,6 @@ fn take_files(read: Read) -> Read {
     )
 }
 
-fn mistaken(job: Job, what: &[u8]) -> Job {
-    if job.ok {
-        tell(what);
-    }
-    Job { ok: false, ..job }
-}
-
 fn alone(scl: u8, sda: u8) -> bool {
     if scl < 8 {
         return 7 < sda;
@@ -700,15 +820,10 @@ fn once_of_all(job: Job) -> Job {
 pub fn capture_asked(next: usize, end: usize) -> Job {
     let first = after(after(next));
     if end <= first {
-        return job_of(bad(start(end, end), MISSING), true);
+        return missing(CAPTURE, end);
     }
-    let blank = start(next, end);
-    let read = Read {
-        captures: true,
-        ..blank
-    };
-    let two = take(take(read, PART), ENABLE);
-    once_of_all(paired(job_of(take_options(take_files(two)), true)))
+    let two = take(take(start(CAPTURE, next, end), PART), ENABLE);
+    once_of_all(paired(job_of(take_options(take_files(two)))))
 }
 
 // The enable of `PART [--enable N]`, behind the part.
@@ -727,7 +842,7 @@ fn take_enable(read: Read) -> Read {
 }
 
 pub fn bench_asked(next: usize, end: usize) -> Job {
-    job_of(take_enable(take(start(next, end), PART)), false)
+    job_of(take_enable(take(start(OTHER, next, end), PART)))
 }
 
 // The file that is read; what was wrong before it is said already.
@@ -755,18 +870,18 @@ fn take_saved(read: Read) -> Read {
 // `PART FILE` of hex check, `PART FILE --save FILE` of hex image.
 pub fn hex_asked(saves: bool, next: usize, end: usize) -> Job {
     if end <= next {
-        return job_of(bad(start(end, end), MISSING), true);
+        return missing(OTHER, end);
     }
-    let read = take_read(take(start(next, end), PART));
+    let read = take_read(take(start(OTHER, next, end), PART));
     if saves {
-        return job_of(ended(take_saved(read)), true);
+        return job_of(ended(take_saved(read)));
     }
-    job_of(ended(read), true)
+    job_of(ended(read))
 }
 
 // `IMAGE` of hex text.
 pub fn text_asked(next: usize, end: usize) -> Job {
-    job_of(ended(take_read(start(next, end))), true)
+    job_of(ended(take_read(start(OTHER, next, end))))
 }
 
 // The word behind `hex` is missing, or none that it knows.

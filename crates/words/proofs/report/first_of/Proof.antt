@@ -1,8 +1,8 @@
 use native.Mathlib.Omega.{arith}
 use native.Mathlib.Nat.{mul-le-mul-right}
 use borrow.Author.Needs.{needs}
-use Rattle.station.proofs.show.first_of.Statement.{statement}
-use Rattle.station.proofs.show.first_of.Tie as tie
+use Rattle.words.proofs.report.first_of.Statement.{statement}
+use Rattle.words.proofs.report.first_of.Tie as tie
 
 mul-result : tie.Need-mul-result
 mul-result c =
