@@ -30,6 +30,7 @@ use Rattle.capture_promises.proofs.Tallied.{tally-counts, count-numbers, counte
 use Rattle.capture_promises.proofs.Wrong.{wrong-readers, wrong-tallies}
 use Rattle.capture_promises.proofs.WrongRuns.{wrong-runs}
 use Rattle.capture_promises.proofs.Worked.{worked}
+use Rattle.sapwoodle.proofs.chips.Kept.{step-is-chips, run-is-chips, step-old, run-old, step-refuses-3, run-refuses-3}
 use Rattle.sapwoodle.proofs.captures.Kept.{capture-is-chips, capture-refuses-4}
 use Rattle.sapwoodle.proofs.drivers.Kept.{next-is-drivers}
 use Rattle.sapwoodle.proofs.runs.Kept.{bench-is-benchs}
@@ -106,6 +107,9 @@ requests =
             lock-holds = calls-lock-holds;
             pin = calls-pin-protects;
             numbers = (step-numbers, run-numbers);
+            bytes = (step-is-chips, run-is-chips);
+            bytes-old = (step-old, run-old);
+            bytes-numbers = (step-refuses-3, run-refuses-3);
             wrong = wrong-cuts;
           };
     }

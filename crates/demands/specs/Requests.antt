@@ -35,7 +35,8 @@ use Rattle.capture_promises.specs.Tallied.{TallyCounts, CountNumbers, Counter, 
 use Rattle.capture_promises.specs.Wrong.{WrongReaders, WrongTallies}
 use Rattle.capture_promises.specs.WrongRuns.{WrongRuns}
 use Rattle.capture_promises.specs.Worked.{WorkedCaptures}
-use Rattle.sapwoodle.specs.Promises.{NextIsDrivers, BenchIsBenchs, CaptureIsChips, CaptureRefuses4}
+use Rattle.sapwoodle.specs.Promises.{NextIsDrivers, BenchIsBenchs, CaptureIsChips, CaptureRefuses4, StepIsChips, RunIsChips, StepOld, RunOld, StepRefuses3, RunRefuses3}
+use Rattle.sapwoodle.specs.Chips.{stepping, running}
 use Rattle.sapwoodle.specs.Drivers.{asking}
 use Rattle.sapwoodle.specs.Runs.{benching}
 use Rattle.sapwoodle.specs.Captures.{capturing}
@@ -160,6 +161,10 @@ pub record Request5 : Type 0 where
   pub pin : CallsPinProtects stepOf runOf
   -- "Refusals: 3 also for that page's length": in its place among the others
   pub numbers : StepNumbers stepOf × RunNumbers runOf
+  -- callers that hold bytes are told the same: no page and flag 0 are the old contents, and any other page has P bytes or is refused
+  pub bytes : StepIsChips stepping × RunIsChips running
+  pub bytes-old : StepOld stepping × RunOld running
+  pub bytes-numbers : StepRefuses3 stepping × RunRefuses3 running
   -- cuts that change nothing, spoil the whole page or the latched bytes alone, store them, or leave the lock as it was break these
   pub wrong : WrongCuts
 
