@@ -10,7 +10,7 @@ use mathlib.Core.List.{List, [], _∷_}
 use lib.ListN.{length, getD, set, take, drop, take-append-drop, List·getD-eq-default}
 use lib.Seq.{take-all, ext-getD, getD-take, getD-drop, getD-set-same}
 use lib.Dec.{eqb, ltb}
-use borrow.Author.Tests.{lt-ltb, ltb-true, eqb-true}
+use borrow.Author.Tests.{lt-ltb, ltb-true, eqb-true, eqb-false}
 use Rattle.parts.specs.declared.Facts.{Facts}
 use Rattle.parts.specs.declared.Loss.{Loss}
 use Rattle.parts.specs.declared.Loss.the-variants.{Old, Lent}
@@ -35,13 +35,14 @@ use Rattle.line.specs.Rules.{at, lockAtReset, resetOf, nextOf, actOf, levelOf, 
 use Rattle.state.specs.declared.Chip.{Chip}
 use Rattle.chip.specs.Memory.{Mem, mem, chip, noLatch, cellsOf, withCells, oneOf, enteredOf, counterPageOf, committedOf, cycleStoredOf, storedOf, latchedIn, touchedOf, risenOf, risenFrom, lostOf, storeWith, stateOf, chipLevelOf}
 use Rattle.chip.specs.Model.{Model, PowerCut, cutBy, old, oursWith}
+use Rattle.chip.specs.Runs.{afterOf, memoryOf}
 use Rattle.chip.specs.Calls.{stepLeftOf, stepVerdict, stepOf}
 use Rattle.chip.proofs.Laws.{one-length, entered-length}
 use Rattle.chip.proofs.Groups.{risen-length, risen-at}
 use Rattle.chip_laws.proofs.Range.{no-way}
 use Rattle.chip_promises.specs.States.{NotBusy}
 use Rattle.chip_promises.specs.Pages.{pageOf}
-use Rattle.chip_promises.specs.Power.{GroupSizes, NotWriting, InGroup, Spoils, CutSpoilsGroups, SpoilsOneWay, NotLocking, LockAsFlag, ResetStands, CutOnlyInCycle, own, OldIsOwnPage, StepSpoils}
+use Rattle.chip_promises.specs.Power.{PowerModel, GroupSizes, NotWriting, InGroup, Spoils, CutSpoilsGroups, SpoilsOneWay, NotLocking, lockThen, LockAsFlag, withLock, ResetStands, CutOnlyInCycle, Powered, SameAt, PowerPinned, own, OldIsOwnPage, StepSpoils}
 use Rattle.chip_promises.proofs.Steps.{reset-code, any-loss}
 use Rattle.chip_promises.proofs.Pages.{one-other, entered-before, entered-past}
 
@@ -308,7 +309,7 @@ lock-as-flag =
 pub reset-stands : ResetStands oursWith
 unfolding eventWith stateOf nextOf actOf resetOf begunOf
 reset-stands =
-    record { standby = λ f en w c. refl; counter = λ f en w c. refl; latches = λ f en w c. refl; pin = λ f en w c. refl; begun = λ f en w c. refl }
+    record { standby = λ f en w c. refl; counter = λ f en w c. refl; latches = λ f en w c. refl; pin = λ f en w c. refl; begun = λ f en w c. refl; alike = λ f en w v c. refl }
 
 -- ---- only a reset in a cycle asks what is given
 
@@ -376,6 +377,55 @@ cut-only-in-cycle =
       );
       moved = moved-alike;
     }
+
+pub powered : Powered oursWith
+powered = record { spoils = cut-spoils-groups; lock = lock-as-flag; stands = reset-stands; only = cut-only-in-cycle }
+
+-- ---- nothing is left open
+
+-- a chip is its lock and the rest
+same-chip : (c d : Chip) → withLock false c ≡ withLock false d → c .line .core .locked ≡ d .line .core .locked → c ≡ d
+same-chip c d e l = ap (withLock (c .line .core .locked)) e ∙ ap (λ (b : Bool). withLock b d) l
+
+module _ (M N : PowerModel) (p : Powered M) (q : Powered N) (f : Facts) (en : ℕ) (lock : Bool) (page : List ℕ) (c : Chip) where
+  abbrev w : PowerCut
+  w = cutBy (Lent lock) page
+
+  same-lock : (ph : Phase) → c .line .phase ≡ ph → lockThen (M w f en) c ≡ lockThen (N w f en) c
+  same-lock (Busy Locking) e = p .lock .flag f en lock page c e ∙ sym (q .lock .flag f en lock page c e)
+  same-lock Idle e = p .lock .kept f en w c (subst NotLocking (sym e) tt) ∙ sym (q .lock .kept f en w c (subst NotLocking (sym e) tt))
+  same-lock (Receive r) e = p .lock .kept f en w c (subst NotLocking (sym e) tt) ∙ sym (q .lock .kept f en w c (subst NotLocking (sym e) tt))
+  same-lock (Send t) e = p .lock .kept f en w c (subst NotLocking (sym e) tt) ∙ sym (q .lock .kept f en w c (subst NotLocking (sym e) tt))
+  same-lock (Busy (Writing t)) e = p .lock .kept f en w c (subst NotLocking (sym e) tt) ∙ sym (q .lock .kept f en w c (subst NotLocking (sym e) tt))
+
+  module _ (m : Mem) (e : ℕ) (s : SameAt (M old f en) (N old f en) c m e) where
+    same-next : e ≡ 8 → M w f en .next c 8 ≡ N w f en .next c 8
+    same-next e8 =
+        same-chip (M w f en .next c 8) (N w f en .next c 8)
+        (p .stands .alike f en w old c ∙ ap (withLock false) (subst (λ (z : ℕ). M old f en .next c z ≡ N old f en .next c z) e8 (s .next)) ∙ q .stands .alike f en old w c)
+        (same-lock (c .line .phase) refl)
+
+    same-store : Sound f → AllBelow 256 page → M w f en .store c m 8 ≡ N w f en .store c m 8
+    unfolding afterOf memoryOf
+    same-store sound b = spoils-one-way f sound c m (M w f en .store c m 8) (N w f en .store c m 8) page (p .spoils f sound en lock page b c m []) (q .spoils f sound en lock page b c m [])
+
+    same-moved : Sound f → AllBelow 256 page → (b : Bool) → eqb e 8 ≡ b → (M w f en .next c e ≡ N w f en .next c e) × (M w f en .store c m e ≡ N w f en .store c m e)
+    same-moved sound y true t =
+        let e8 : e ≡ 8 = eqb-true e 8 t in
+        subst (λ (z : ℕ). (M w f en .next c z ≡ N w f en .next c z) × (M w f en .store c m z ≡ N w f en .store c m z)) (sym e8) (same-next e8, same-store sound y)
+    same-moved sound y false t =
+        let n : e ≡ 8 → NotBusy (c .line .phase) = (λ e8. absurd (eqb-false e 8 t e8)) in
+        let x = p .only .moved f en w old c m e n in
+        let z = q .only .moved f en old w c m e n in
+        (x .0 ∙ s .next ∙ z .0, x .1 ∙ s .store ∙ z .1)
+
+pub power-pinned : PowerPinned
+power-pinned M N p q s f sound en lock page b c m e =
+    let v = cutBy (Lent lock) page in
+    let moved = same-moved M N p q f en lock page c m e (s f en c m e) sound b (eqb e 8) refl in
+    let x = p .only .told f en v old c m e in
+    let z = q .only .told f en old v c m e in
+    record { next = moved .0; store = moved .1; level = x .0 ∙ s f en c m e .level ∙ z .0; begun = x .1 ∙ s f en c m e .begun ∙ z .1 }
 
 -- ---- the old contents
 

@@ -94,6 +94,11 @@ pub record LockAsFlag (M : PowerModel) : Type 0 where
   -- in every other state it is as before
   pub kept : (f : Facts) (enable : ℕ) (w : PowerCut) (c : Chip) → NotLocking (c .line .phase) → lockThen (M w f enable) c ≡ c .line .core .locked
 
+-- a chip with this lock
+abbrev pub withLock : Bool → Chip → Chip
+withLock b c =
+    record { line = record { core = record { counter = c .line .core .counter; pin = c .line .core .pin; inhibited = c .line .core .inhibited; locked = b }; phase = c .line .phase; left = c .line .left; shift = c .line .shift }; latch = c .latch }
+
 -- rule 9, whose first sentence stays: "Standby, counter 0, latches dropped, pin kept"; the Stop counted the cycle, and its cut counts none
 pub record ResetStands (M : PowerModel) : Type 0 where
   pub standby : (f : Facts) (enable : ℕ) (w : PowerCut) (c : Chip) → M w f enable .next c 8 .line .phase ≡ Idle
@@ -101,6 +106,8 @@ pub record ResetStands (M : PowerModel) : Type 0 where
   pub latches : (f : Facts) (enable : ℕ) (w : PowerCut) (c : Chip) → M w f enable .next c 8 .latch ≡ noLatch
   pub pin : (f : Facts) (enable : ℕ) (w : PowerCut) (c : Chip) → M w f enable .next c 8 .line .core .pin ≡ c .line .core .pin
   pub begun : (f : Facts) (enable : ℕ) (w : PowerCut) (c : Chip) → M w f enable .begun c 8 ≡ 0
+  -- whatever is given moves nothing of it but the lock
+  pub alike : (f : Facts) (enable : ℕ) (w v : PowerCut) (c : Chip) → withLock false (M w f enable .next c 8) ≡ withLock false (M v f enable .next c 8)
 
 -- ---- a loss of power is one only in a cycle
 
@@ -110,6 +117,28 @@ pub record CutOnlyInCycle (M : PowerModel) : Type 0 where
       → (M w f enable .level c m e ≡ M v f enable .level c m e) × (M w f enable .begun c e ≡ M v f enable .begun c e)
   pub moved : (f : Facts) (enable : ℕ) (w v : PowerCut) (c : Chip) (m : Mem) (e : ℕ) → (e ≡ 8 → NotBusy (c .line .phase))
       → (M w f enable .next c e ≡ M v f enable .next c e) × (M w f enable .store c m e ≡ M v f enable .store c m e)
+
+-- ---- these leave nothing open
+
+pub record Powered (M : PowerModel) : Type 0 where
+  pub spoils : CutSpoilsGroups M
+  pub lock : LockAsFlag M
+  pub stands : ResetStands M
+  pub only : CutOnlyInCycle M
+
+-- two chips do the same at an event
+pub record SameAt (M N : Model) (c : Chip) (m : Mem) (e : ℕ) : Type 0 where
+  pub next : M .next c e ≡ N .next c e
+  pub store : M .store c m e ≡ N .store c m e
+  pub level : M .level c m e ≡ N .level c m e
+  pub begun : M .begun c e ≡ N .begun c e
+
+-- who keeps them, and does the same as N while power is kept, does the same with any page and flag, if N keeps them too
+abbrev pub PowerPinned : Type 0
+PowerPinned = (M N : PowerModel) → Powered M → Powered N
+    → ((f : Facts) (enable : ℕ) (c : Chip) (m : Mem) (e : ℕ) → SameAt (M old f enable) (N old f enable) c m e)
+    → (f : Facts) → Sound f → (enable : ℕ) (lock : Bool) (page : List ℕ) → AllBelow 256 page → (c : Chip) (m : Mem) (e : ℕ)
+    → SameAt (M (cutBy (Lent lock) page) f enable) (N (cutBy (Lent lock) page) f enable) c m e
 
 -- ---- "the program's `R` uses the old contents and no lock"
 

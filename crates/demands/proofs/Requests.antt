@@ -8,7 +8,7 @@ use Rattle.chip_promises.proofs.Pages.{calls-pages-from-delivery}
 use Rattle.chip_promises.proofs.Stops.{calls-cycles-are-stops-from-delivery}
 use Rattle.chip_promises.proofs.Lock.{calls-lock-holds}
 use Rattle.chip_promises.proofs.Pin.{calls-pin-protects}
-use Rattle.chip_promises.proofs.Power.{group-sizes, cut-spoils-groups, spoils-one-way, step-spoils, lock-as-flag, reset-stands, cut-only-in-cycle, old-is-own-page}
+use Rattle.chip_promises.proofs.Power.{group-sizes, cut-spoils-groups, spoils-one-way, step-spoils, lock-as-flag, reset-stands, cut-only-in-cycle, powered, power-pinned, old-is-own-page}
 use Rattle.chip_promises.proofs.WrongCuts.{wrong-cuts}
 use Rattle.trace.proofs.Promises.{prints-as-judged}
 use Rattle.driver_promises.proofs.Promises.{promises}
@@ -110,6 +110,8 @@ requests =
             bytes = (step-is-chips, run-is-chips);
             bytes-old = (step-old, run-old);
             bytes-numbers = (step-refuses-3, run-refuses-3);
+            ours = powered;
+            pinned = power-pinned;
             wrong = wrong-cuts;
           };
     }

@@ -10,7 +10,7 @@ use Rattle.chip_promises.specs.Pages.{CallsPagesFromDelivery}
 use Rattle.chip_promises.specs.Stops.{CallsCyclesAreStopsFromDelivery}
 use Rattle.chip_promises.specs.Lock.{CallsLockHolds}
 use Rattle.chip_promises.specs.Pin.{CallsPinProtects}
-use Rattle.chip_promises.specs.Power.{GroupSizes, CutSpoilsGroups, SpoilsOneWay, StepSpoils, LockAsFlag, ResetStands, CutOnlyInCycle, OldIsOwnPage}
+use Rattle.chip_promises.specs.Power.{GroupSizes, CutSpoilsGroups, SpoilsOneWay, StepSpoils, LockAsFlag, ResetStands, CutOnlyInCycle, Powered, PowerPinned, OldIsOwnPage}
 use Rattle.chip_promises.specs.WrongCuts.{WrongCuts}
 use Rattle.trace.specs.Trace.{textJudgedOf}
 use Rattle.trace.specs.Promises.{PrintsAsJudged}
@@ -165,6 +165,9 @@ pub record Request5 : Type 0 where
   pub bytes : StepIsChips stepping × RunIsChips running
   pub bytes-old : StepOld stepping × RunOld running
   pub bytes-numbers : StepRefuses3 stepping × RunRefuses3 running
+  -- these leave nothing open: whoever keeps them, and is ours while power is kept, is ours with any page and flag
+  pub ours : Powered oursWith
+  pub pinned : PowerPinned
   -- cuts that change nothing, spoil the whole page or the latched bytes alone, store them, or leave the lock as it was break these
   pub wrong : WrongCuts
 
