@@ -1,6 +1,7 @@
 // The product and the plain C model in one process: first the same events to both, with power lost in cycles and pages lent for that, every
-// level, every stored byte, the lock, the counter and the cycles compared, the same Intel HEX texts to both readers and the same captures to
-// both; then the events, bytes of text and samples per second of each. Prints a line for each workload, and ends with 1 where they differ.
+// level, every stored byte, the lock, the counter and the cycles compared, and with counts of wear every count too, the same Intel HEX texts to
+// both readers and the same captures to both; then the events, bytes of text and samples per second of each. Prints a line for each workload,
+// and ends with 1 where they differ.
 #include "capture.h"
 #include "hex.h"
 #include "product.h"
@@ -14,7 +15,7 @@ int clock_gettime(int, struct timespec *);
 int printf(const char *, ...);
 int memcmp(const void *, const void *, size_t);
 
-enum { ROOM = 32768, REPEATS = 40 };
+enum { ROOM = 32768, REPEATS = 40, GROUPS = 8192 };
 
 static uint8_t events[ROOM];
 
@@ -24,6 +25,7 @@ struct world {
     uint8_t id[64];
     uint8_t answers[ROOM];
     size_t cycles;
+    uint32_t counts[GROUPS];
 };
 static struct world plain, product;
 static uint8_t state[SAPWOODLE_STATE_LENGTH];
@@ -180,10 +182,8 @@ static void count_cuts(unsigned part, unsigned enable, size_t n) {
     }
 }
 
-static int same(unsigned part, unsigned enable, size_t n, const char *what) {
-    fresh(part);
-    run_plain(part, enable, n);
-    run_product(part, enable, n);
+// Whether both runs answered and left the same.
+static int agree(unsigned part, unsigned enable, size_t n, const char *what) {
     for (size_t i = 0; i < n; i++)
         if (plain.answers[i] != product.answers[i]) {
             printf("differ %s part %u enable %u at %zu: plain %u product %u\n", what, part, enable, i, plain.answers[i],
@@ -197,6 +197,13 @@ static int same(unsigned part, unsigned enable, size_t n, const char *what) {
     return 0;
 }
 
+static int same(unsigned part, unsigned enable, size_t n, const char *what) {
+    fresh(part);
+    run_plain(part, enable, n);
+    run_product(part, enable, n);
+    return agree(part, enable, n, what);
+}
+
 // Refusal 3: a page of another length, or a flag without one.
 static int same_refused(unsigned part) {
     static const uint8_t flags[] = {0, 1, 2, 255};
@@ -208,6 +215,78 @@ static int same_refused(unsigned part) {
             printf("differ part %u, a page of %u bytes, flag %u: not %u\n", part, length, flags[k], wanted);
             return 0;
         }
+    return 1;
+}
+
+// ---- wear
+
+static void worn_plain(unsigned part, unsigned enable, size_t n) {
+    plain.cycles = model_wear_run(part, enable, lent_length ? lent : 0, (int)lock, &plain.chip, plain.array, plain.id, plain.counts, events, n,
+                                  plain.answers);
+}
+
+static void worn_product(unsigned part, unsigned enable, size_t n) {
+    product.cycles = product_wear_run((uint8_t)part, (uint8_t)enable, lent, lent_length, (uint8_t)lock, state, product.array, product.id,
+                                      product.counts, events, n, product.answers);
+}
+
+// Most counts 0, the others anywhere; some at the top or a little below it, so that they come there. From a seed of their own: the events stay
+// those of a comparison without counts.
+static void random_counts(uint32_t *counts) {
+    static uint64_t own = 1;
+    uint64_t others = seed;
+    seed = own;
+    for (unsigned i = 0; i < GROUPS; i++) {
+        counts[i] = 0;
+        if (random_below(4) == 0) counts[i] = random_below(2) ? 0xFFFFFFFF - random_below(4) : random_below(0x80000000);
+    }
+    own = seed;
+    seed = others;
+}
+
+// How many counts a run raised, and how many came to the top: that the comparison had some of each.
+static size_t raised, topped;
+
+static void count_raised(const uint32_t *before, const uint32_t *after) {
+    for (unsigned i = 0; i < GROUPS; i++) {
+        if (after[i] != before[i]) raised++;
+        if (after[i] != before[i] && after[i] == 0xFFFFFFFF) topped++;
+    }
+}
+
+static int same_worn(unsigned part, unsigned enable, size_t n, const char *what) {
+    static uint32_t before[GROUPS];
+    random_counts(before);
+    memcpy(plain.counts, before, sizeof before);
+    memcpy(product.counts, before, sizeof before);
+    fresh(part);
+    worn_plain(part, enable, n);
+    worn_product(part, enable, n);
+    if (!agree(part, enable, n, what)) return 0;
+    count_raised(before, plain.counts);
+    for (unsigned i = 0; i < GROUPS; i++)
+        if (plain.counts[i] != product.counts[i]) {
+            printf("differ %s part %u enable %u group %u: plain %u product %u, before %u\n", what, part, enable, i, plain.counts[i],
+                   product.counts[i], before[i]);
+            return 0;
+        }
+    return 1;
+}
+
+// Refusal 3: counts of another length. A refused call leaves them. The part's last list of events is still there.
+static int same_lengths(unsigned part) {
+    static uint32_t room[2 * GROUPS], before[2 * GROUPS];
+    size_t groups = model_groups(part);
+    const size_t lengths[] = {0, 1, groups - 1, groups, groups + 1, model_size(part) / 4, GROUPS, 2 * GROUPS};
+    for (unsigned k = 0; k < sizeof lengths / sizeof *lengths; k++) {
+        unsigned wanted = lengths[k] == groups ? 0 : 3;
+        random_counts(before);
+        memcpy(room, before, sizeof before);
+        unsigned number = product_counts((uint8_t)part, product.array, product.id, room, lengths[k], events, ROOM, product.answers);
+        if (number == wanted && (wanted == 0 || memcmp(room, before, sizeof room) == 0)) continue;
+        printf("differ part %u, %zu counts: %u and not %u, or a count changed\n", part, lengths[k], number, wanted);
+        return 0;
+    }
     return 1;
 }
 
@@ -399,7 +478,8 @@ static double seconds_of(runner run, unsigned part, size_t n, int rounds) {
     return (double)(b.seconds - a.seconds) + 1e-9 * (double)(b.nanoseconds - a.nanoseconds);
 }
 
-static void measure(const char *name, const char *unit, unsigned part, size_t n, runner by_plain, runner by_product) {
+// The time of one runner in that of another, which is named.
+static void measure_beside(const char *name, const char *unit, unsigned part, size_t n, const char *other, runner by_plain, runner by_product) {
     int rounds = 1;
     while (seconds_of(by_plain, part, n, rounds) < 0.003) rounds *= 2;
     double best_plain = 1e9, best_product = 1e9;
@@ -409,8 +489,12 @@ static void measure(const char *name, const char *unit, unsigned part, size_t n,
         if (b < best_product) best_product = b;
     }
     double all = (double)n * rounds;
-    printf("workload=%s part=%u %s=%zu plain_per_second=%.0f product_per_second=%.0f ratio=%.2f\n", name, part, unit, n,
+    printf("workload=%s part=%u %s=%zu %s_per_second=%.0f product_per_second=%.0f ratio=%.2f\n", name, part, unit, n, other,
            all / best_plain, all / best_product, best_product / best_plain);
+}
+
+static void measure(const char *name, const char *unit, unsigned part, size_t n, runner by_plain, runner by_product) {
+    measure_beside(name, unit, part, n, "plain", by_plain, by_product);
 }
 
 int main(int argc, char **argv) {
@@ -422,21 +506,22 @@ int main(int argc, char **argv) {
         for (int w = 0; w < 4; w++) {
             size_t n = make[w](p);
             lend(p, w == 3);
-            if (!same(p, 0, n, name[w])) return 1;
+            if (!same(p, 0, n, name[w]) || !same_worn(p, 0, n, name[w])) return 1;
             compared += n;
         }
         for (unsigned k = 0; k < 80; k++) {
             unsigned enable = p < 2 ? 0 : random_below(8);
             size_t n = disturbed(p, enable, k % 4 == 0 ? 1000000 : 1u << (k % 12), 1);
             lend(p, k % 3 != 0);
-            if (!same(p, enable, n, "disturbed")) return 1;
+            if (!same(p, enable, n, "disturbed") || !same_worn(p, enable, n, "disturbed")) return 1;
             if (lent_length) count_cuts(p, enable, n);
             compared += n;
         }
-        if (!same_refused(p)) return 1;
+        if (!same_refused(p) || !same_lengths(p)) return 1;
     }
     lend(part, 0);
     printf("compared events=%zu cut_writes=%zu cut_locks=%zu parts=6 same=yes\n", compared, cut_writes, cut_locks);
+    printf("compared wear_events=%zu counts_raised=%zu to_the_top=%zu parts=6 same=yes\n", compared, raised, topped);
     size_t texts = 0;
     for (unsigned p = 0; p < 6; p++) {
         size_t n = same_texts(p);
@@ -472,6 +557,13 @@ int main(int argc, char **argv) {
         fresh(part);
         measure(seen[w], "samples", part, k, seen_plain, seen_product);
         measure(tallied[w], "samples", part, k, tally_plain, tally_product);
+    }
+    static const char *const worn[3] = {"wear_writes", "wear_read", "wear_polls"};
+    for (int w = 0; w < 3; w++) {
+        size_t k = make[w](part);
+        fresh(part);
+        measure(worn[w], "events", part, k, worn_plain, worn_product);
+        measure_beside(worn[w], "events", part, k, "run", run_product, worn_product);
     }
     return 0;
 }

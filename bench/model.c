@@ -1,5 +1,5 @@
-// A plain C model of the six parts: document 01, 'How the chip goes', rules 1 to 9, and document 02, §5. It refuses nothing: events, buffers
-// and state are taken as they are given.
+// A plain C model of the six parts: document 01, 'How the chip goes', rules 1 to 9, and document 02, §5 and §6. It refuses nothing: events,
+// buffers, counts and state are taken as they are given.
 #include "model.h"
 
 struct part {
@@ -25,6 +25,7 @@ enum event { CLOCK_0, CLOCK_1, START, STOP, END, PIN_LOW, PIN_HIGH, PIN_FLOAT, R
 size_t model_size(unsigned part) { return parts[part].size; }
 size_t model_id_size(unsigned part) { return parts[part].ident ? parts[part].page : 0; }
 int model_has_pin(unsigned part) { return parts[part].pin; }
+size_t model_groups(unsigned part) { return parts[part].size / parts[part].group; }
 
 void model_deliver(unsigned part, struct model *m, uint8_t *array, uint8_t *id) {
     for (size_t i = 0; i < model_size(part); i++) array[i] = 0xFF;
@@ -208,8 +209,19 @@ static void reset(struct model *m, const struct part *p, uint8_t *array, uint8_t
     go(m, IDLE);
 }
 
-size_t model_run(unsigned part, unsigned enable, const uint8_t *lent, int lock, struct model *m, uint8_t *array, uint8_t *id,
-                 const uint8_t *events, size_t n, uint8_t *answers) {
+// §6: an end or a cut of a write cycle of the array.
+static void worn(const struct model *m, const struct part *p, uint32_t *counts) {
+    if (m->phase != WRITING || m->ident) return;
+    uint64_t group = ((uint64_t)1 << p->group) - 1;
+    uint32_t *count = counts + (m->counter & ~(p->page - 1)) / p->group;
+    for (unsigned i = 0; i < p->page; i += p->group, count++)
+        if (m->latched >> i & group && *count != 0xFFFFFFFF) ++*count;
+}
+
+// In each caller by itself, so that a run without counts, a null pointer, pays nothing for them.
+static inline __attribute__((always_inline)) size_t run(unsigned part, unsigned enable, const uint8_t *lent, int lock, struct model *m,
+                                                        uint8_t *array, uint8_t *id, uint32_t *counts, const uint8_t *events, size_t n,
+                                                        uint8_t *answers) {
     const struct part *p = &parts[part];
     size_t cycles = 0;
     for (size_t i = 0; i < n; i++) {
@@ -219,14 +231,30 @@ size_t model_run(unsigned part, unsigned enable, const uint8_t *lent, int lock, 
         case CLOCK_1: level = (uint8_t)clocked(m, p, enable, array, id, events[i]); break;
         case START: started(m); break;
         case STOP: cycles += stopped(m); break;
-        case END: ended(m, p, array, id); break;
+        case END:
+            if (counts) worn(m, p, counts);
+            ended(m, p, array, id);
+            break;
         case PIN_LOW:
         case PIN_FLOAT: pinned(m, 0); break;
         case PIN_HIGH: pinned(m, 1); break;
-        case RESET: reset(m, p, array, id, lent, lock); break;
+        case RESET:
+            if (counts) worn(m, p, counts);
+            reset(m, p, array, id, lent, lock);
+            break;
         default: break;
         }
         answers[i] = level;
     }
     return cycles;
+}
+
+size_t model_run(unsigned part, unsigned enable, const uint8_t *lent, int lock, struct model *m, uint8_t *array, uint8_t *id,
+                 const uint8_t *events, size_t n, uint8_t *answers) {
+    return run(part, enable, lent, lock, m, array, id, 0, events, n, answers);
+}
+
+size_t model_wear_run(unsigned part, unsigned enable, const uint8_t *lent, int lock, struct model *m, uint8_t *array, uint8_t *id,
+                      uint32_t *counts, const uint8_t *events, size_t n, uint8_t *answers) {
+    return run(part, enable, lent, lock, m, array, id, counts, events, n, answers);
 }

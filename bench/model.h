@@ -5,6 +5,7 @@
 // The toolchain has no C headers.
 typedef __UINT8_TYPE__ uint8_t;
 typedef __UINT16_TYPE__ uint16_t;
+typedef __UINT32_TYPE__ uint32_t;
 typedef __UINT64_TYPE__ uint64_t;
 typedef __SIZE_TYPE__ size_t;
 
@@ -33,6 +34,8 @@ struct model {
 size_t model_size(unsigned part);
 size_t model_id_size(unsigned part);
 int model_has_pin(unsigned part);
+// How many error-correction groups the array has.
+size_t model_groups(unsigned part);
 
 // A part as delivered.
 void model_deliver(unsigned part, struct model *m, uint8_t *array, uint8_t *id);
@@ -41,5 +44,9 @@ void model_deliver(unsigned part, struct model *m, uint8_t *array, uint8_t *id);
 // flag, or with a null pointer the old contents and no lock.
 size_t model_run(unsigned part, unsigned enable, const uint8_t *lent, int lock, struct model *m, uint8_t *array, uint8_t *id,
                  const uint8_t *events, size_t n, uint8_t *answers);
+
+// The same, and each group of the array that a write cycle touches counts one more when that cycle ends or is cut, staying at the top.
+size_t model_wear_run(unsigned part, unsigned enable, const uint8_t *lent, int lock, struct model *m, uint8_t *array, uint8_t *id,
+                      uint32_t *counts, const uint8_t *events, size_t n, uint8_t *answers);
 
 #endif

@@ -25,6 +25,27 @@ static size_t product_run(uint8_t part, uint8_t enable, const uint8_t *lent, siz
     return cycles;
 }
 
+// The same with the counts of a part's groups, which go on.
+static size_t product_wear_run(uint8_t part, uint8_t enable, const uint8_t *lent, size_t lent_length, uint8_t lock, uint8_t *state,
+                               uint8_t *array, uint8_t *id, uint32_t *counts, const uint8_t *events, size_t n, uint8_t *answers) {
+    size_t cycles = 0, place = 0;
+    memcpy(state, delivered, sizeof delivered);
+    sapwoodle_wear_run(part, enable, lent, lent_length, lock, state, sizeof delivered, array, model_size(part), id, model_id_size(part),
+                       counts, model_groups(part), events, n, answers, n, &cycles, &place);
+    return cycles;
+}
+
+// How a run answers to so many counts.
+static unsigned product_counts(uint8_t part, uint8_t *array, uint8_t *id, uint32_t *counts, size_t length, const uint8_t *events, size_t n,
+                               uint8_t *answers) {
+    uint8_t state[SAPWOODLE_STATE_LENGTH];
+    size_t cycles = 0, place = 0;
+    product_deliver(part, array, id);
+    memcpy(state, delivered, sizeof state);
+    return sapwoodle_wear_run(part, 0, answers, 0, 0, state, sizeof state, array, model_size(part), id, model_id_size(part), counts, length,
+                              events, n, answers, n, &cycles, &place);
+}
+
 // How a step and a run answer to a page and a flag; 255 where they differ.
 static unsigned product_lent(uint8_t part, const uint8_t *lent, size_t length, uint8_t lock, uint8_t *array, uint8_t *id) {
     uint8_t state[SAPWOODLE_STATE_LENGTH], level = 0;

@@ -4,25 +4,25 @@
  *
  * It has no state of its own, allocates nothing, calls nothing but memcpy and memset, and every function ends.
  *
- * Every function takes any numbers and any bytes. Bytes are lent as a pointer and a length; no two buffers of a call may overlap,
+ * Every function takes any numbers and any bytes. Bytes and counts are lent as a pointer and how many; no two buffers of a call may overlap,
  * and the pointers for results must point to a variable each. A call answers 0, or the number of its refusal:
  *
  *      1  part above 5                                   8  budget or d outside its limits
  *      2  enable wrong for the part                      9  select not acknowledged
  *      3  array or identification buffer not exactly    10  data byte not acknowledged
  *         the part's length (0 without such a page);    11  polls used up
- *         page for a loss of power not a page long      12  image length, mark, version or lock byte wrong
- *      4  state or driver: another length, bytes that   13  more than 32,768 events
- *         hold none, or one that is out of range        14  first address byte not acknowledged
- *      5  event above 8, or a pin event without a pin   15  second address byte not acknowledged
- *      6  answer or output buffer too short             16  HEX: malformed record
- *      7  address plus length beyond the array or       17  HEX: wrong sum
- *         page; no such page                            18  HEX: overlap, or beyond the array
- *                                                       19  HEX: no end record, or text after it
+ *         page for a loss of power not a page long;     12  image length, mark, version or lock byte wrong
+ *         counts not one for each group of the part     13  more than 32,768 events
+ *      4  state or driver: another length, bytes that   14  first address byte not acknowledged
+ *         hold none, or one that is out of range        15  second address byte not acknowledged
+ *      5  event above 8, or a pin event without a pin   16  HEX: malformed record
+ *      6  answer or output buffer too short             17  HEX: wrong sum
+ *      7  address plus length beyond the array or       18  HEX: overlap, or beyond the array
+ *         page; no such page                            19  HEX: no end record, or text after it
  *                                                       20  capture: a sample above 3
  *
  * Where several of 1 to 8, 12, 13 and 20 apply, the first of 1 2 3 4 20 13 5 6 7 8 12 is answered; of 16 to 19, which come after these, the one of the
- * earliest record, and within it the lowest. A call refused with one of these changes no lent byte; its results are the ones said below for
+ * earliest record, and within it the lowest. A call refused with one of these changes no lent byte or count; its results are the ones said below for
  * a refused call.
  *
  * unsigned char has 8 bits here, unsigned int 32, unsigned long 64: uint8_t, uint32_t, size_t and uint64_t fit. */
@@ -274,6 +274,57 @@ unsigned char sapwoodle_bench_run(unsigned char part, unsigned char enable, unsi
     unsigned char *array, unsigned long array_length,
     unsigned char *id, unsigned long id_length,
     unsigned char *data, unsigned long data_length,
+    unsigned long *place, unsigned long *polls, unsigned long *bytes, unsigned long *cycles, unsigned long *clocks);
+
+/* ---- wear: for each group of the array how many completed or cut write cycles touched it
+ *
+ * Groups are those above: four bytes on parts 2 to 5, single bytes on 0 and 1; group n begins at address n times a group's bytes. The caller lends
+ * a count for each, 0 at first, and keeps them beside the state, which knows nothing of them. A cycle counts where it ends or a reset cuts it, once
+ * for each group that it latched a byte of, also where the byte is the old one; a cycle of the identification page and a locking cycle count for
+ * none, and so does a cycle that is still under way. Each count stays at 4,294,967,295.
+ *
+ *     part 2, AAh at 0025h and 55h at 0026h in one page write: when its cycle ends, counts[9] is one more
+ *
+ *     unsigned int counts[2048] = { 0 };
+ *     sapwoodle_wear_run(2, 0, page, 0, 0, state, sizeof state, array, sizeof array, id, 0, counts, 2048, events, n, answers, n, &cycles, &place);
+ */
+#define SAPWOODLE_GROUPS_MOST 8192
+
+/* How many counts a part has: 2,048, and 8,192 of parts 4 and 5; 0 for a number that is no part. */
+unsigned long sapwoodle_groups(unsigned char part);
+
+/* As sapwoodle_run, and the counts go on by the cycles that end or are cut. Refused with 1 to 6, 13. */
+unsigned char sapwoodle_wear_run(unsigned char part, unsigned char enable,
+    const unsigned char *page, unsigned long page_length, unsigned char lock,
+    unsigned char *state, unsigned long state_length,
+    unsigned char *array, unsigned long array_length,
+    unsigned char *id, unsigned long id_length,
+    unsigned int *counts, unsigned long counts_length,
+    const unsigned char *events, unsigned long events_length,
+    unsigned char *answers, unsigned long answers_length,
+    unsigned long *cycles, unsigned long *place);
+
+/* `total` gets the sum of the counts, `group` the group with most, the lowest on a tie, and `count` its count; where all are 0, and of a refused
+ * call, 0 each. Refused with 1, 3. */
+unsigned char sapwoodle_wear_report(unsigned char part,
+    const unsigned int *counts, unsigned long counts_length,
+    unsigned long *total, unsigned long *group, unsigned int *count);
+
+/* The counts of two heaps of traces together, into the first. Refused with 1, 3, for either of them. */
+unsigned char sapwoodle_wear_join(unsigned char part,
+    unsigned int *counts, unsigned long counts_length,
+    const unsigned int *more, unsigned long more_length);
+
+/* As sapwoodle_bench_run, and the counts go on by the cycles that end in it, also where the driver is refused with 9 to 11. Refused with 1 to 4, 6, 7, 8
+ * before anything changes. */
+unsigned char sapwoodle_wear_bench_run(unsigned char part, unsigned char enable, unsigned char what,
+    unsigned long address, unsigned long length, unsigned long budget,
+    unsigned char chip_enable, unsigned long d,
+    unsigned char *state, unsigned long state_length,
+    unsigned char *array, unsigned long array_length,
+    unsigned char *id, unsigned long id_length,
+    unsigned char *data, unsigned long data_length,
+    unsigned int *counts, unsigned long counts_length,
     unsigned long *place, unsigned long *polls, unsigned long *bytes, unsigned long *cycles, unsigned long *clocks);
 
 /* ---- the trace program: a typed trace in, what the program prints out, `refused N` too. `length` gets the number of bytes written, at

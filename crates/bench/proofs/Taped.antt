@@ -22,6 +22,7 @@ use Rattle.bench.specs.Tape.{sendsOf, sentCodeOf, tapeBy, turnEvents, tu
 use Rattle.bench.specs.Held.{whole, goingOf}
 use Rattle.bench.proofs.Laws.{still}
 use Rattle.chip.specs.Model.{ours}
+use Rattle.wear.specs.Wear.{ourCounter, wornBy}
 
 -- ---- a list stored from a place on
 
@@ -105,7 +106,7 @@ module _ (f : Facts) (en d : ℕ) where
   left-end zero s at l v n es ls e t = (let c = t .count in omega arith, (t .events, t .levels))
   left-end (suc k) s at l v n es ls e t = absurd (omega arith)
 
-  rest-events : (k : ℕ) (s : System) → 0 < k → tapeEventsOf ourDriver (ours f en) d k s ≡ turnEvents ourDriver d s ++ tapeEventsOf ourDriver (ours f en) d (k - 1) (turnOf ourDriver (ours f en) d s)
+  pub rest-events : (k : ℕ) (s : System) → 0 < k → tapeEventsOf ourDriver (ours f en) d k s ≡ turnEvents ourDriver d s ++ tapeEventsOf ourDriver (ours f en) d (k - 1) (turnOf ourDriver (ours f en) d s)
   unfolding tapeEventsOf
   rest-events zero s h = absurd (omega arith)
   rest-events (suc k) s h =
@@ -192,8 +193,9 @@ module _ (f : Facts) (en d k : ℕ) (r : Request) (c : Chip) (m : Mem) (b : List
   abbrev begun : System
   begun = whole record { driver = g .driver; level = 1; chip = c; cycles = 0; clocks = 0 } b m
 
-  pub taped : (n : ℕ) (l l′ v v′ : List ℕ) → n ≡ length (tapeEventsOf ourDriver (ours f en) d k begun) → l′ ≡ laidOf l (tapeEventsOf ourDriver (ours f en) d k begun) → v′ ≡ laidOf v (tapeLevelsOf ourDriver (ours f en) d k begun)
-      → (n ≡ length (tapeEventsOf ourDriver (ours f en) d k (startOf r b c m))) × ((l′ ≡ laidOf l (tapeEventsOf ourDriver (ours f en) d k (startOf r b c m))) × (v′ ≡ laidOf v (tapeLevelsOf ourDriver (ours f en) d k (startOf r b c m))))
-  taped n l l′ v v′ hn hl hv =
+  pub taped : (n : ℕ) (l l′ v v′ q q′ : List ℕ) → n ≡ length (tapeEventsOf ourDriver (ours f en) d k begun) → l′ ≡ laidOf l (tapeEventsOf ourDriver (ours f en) d k begun) → v′ ≡ laidOf v (tapeLevelsOf ourDriver (ours f en) d k begun) → q′ ≡ wornBy ourCounter (ours f en) f c q (tapeEventsOf ourDriver (ours f en) d k begun)
+      → (n ≡ length (tapeEventsOf ourDriver (ours f en) d k (startOf r b c m))) × ((l′ ≡ laidOf l (tapeEventsOf ourDriver (ours f en) d k (startOf r b c m))) × ((v′ ≡ laidOf v (tapeLevelsOf ourDriver (ours f en) d k (startOf r b c m))) × (q′ ≡ wornBy ourCounter (ours f en) f c q (tapeEventsOf ourDriver (ours f en) d k (startOf r b c m)))))
+  taped n l l′ v v′ q q′ hn hl hv hq =
       let e : begun ≡ startOf r b c m = rw hg refl in
-      (hn ∙ ap (λ (s : System). length (tapeEventsOf ourDriver (ours f en) d k s)) e, (hl ∙ ap (λ (s : System). laidOf l (tapeEventsOf ourDriver (ours f en) d k s)) e, hv ∙ ap (λ (s : System). laidOf v (tapeLevelsOf ourDriver (ours f en) d k s)) e))
+      let es = ap (λ (s : System). tapeEventsOf ourDriver (ours f en) d k s) e in
+      (hn ∙ ap length es, (hl ∙ ap (laidOf l) es, (hv ∙ ap (λ (s : System). laidOf v (tapeLevelsOf ourDriver (ours f en) d k s)) e, hq ∙ ap (wornBy ourCounter (ours f en) f c q) es)))

@@ -1,4 +1,5 @@
 pub mod Together
 pub mod Tape
 pub mod Calls
+pub mod Worn
 pub mod Held

@@ -12,6 +12,7 @@ ghost use Rattle.chip.specs.Model.{ours};
 ghost use Rattle.driver.specs.declared.Answer.the-variants.{Done};
 ghost use Rattle.driver.specs.Step.{driverNextOf};
 ghost use Rattle.driver.specs.Machine.{ourDriver};
+ghost use Rattle.wear.specs.Wear.{closedOf, ourCounter, wornBy};
 ghost use Rattle.bench.specs.Together.{
   clockOf,
   startOf,
@@ -24,8 +25,9 @@ ghost use Rattle.bench.specs.Together.{
   enough,
   endDueOf,
 };
-ghost use Rattle.bench.specs.Tape.{sendsOf, sentCodeOf, tapeBy, tapeEventsOf, tapeLevelsOf, laidOf};
+ghost use Rattle.bench.specs.Tape.{sendsOf, sentCodeOf, tapeBy, turnEvents, tapeEventsOf, tapeLevelsOf, laidOf};
 ghost use Rattle.bench.specs.Held.{whole, chipTakesOf, atEndOf, madeOf, Fit};
+ghost use Rattle.bench.specs.Worn.{benchWornOf};
 ghost use Rattle.bench.specs.Calls.{otherLengthOf, shortOf, lateOf, benchVerdictOf, reportBy, refusedBy, benchOf};
 use driver::Answer;
 use driver::Driver;
@@ -120,18 +122,28 @@ fn send(
     }
 }
 
-// Where it is due the chip's cycle ends, if one runs.
-fn end(due: bool, part: u8, enable: u8, held: Held, array: &mut [u8], id: &mut [u8]) -> Held
+// Where it is due the chip's cycle ends, if one runs, and counts as it stood before the end.
+fn end(
+    due: bool,
+    part: u8,
+    enable: u8,
+    held: Held,
+    array: &mut [u8],
+    id: &mut [u8],
+    counts: &mut [u32],
+) -> Held
     requires { ⌜ Fit part enable (held .chip) (length (now array)) (length (now id)) ⌝ }
     ensures answer { λ r. ⌜ r ≡ cond due (atEndOf (ours (factsOf part) enable) held) held ⌝ }
     ensures stored { λ _. ⌜ mem (now (array .exit)) (now (id .exit))
         ≡ cond due (storeOf (factsOf part) (held .chip) (mem (now (array .entry)) (now (id .entry))) (eventOf 4))
         (mem (now (array .entry)) (now (id .entry))) ⌝ }
+    ensures counts { λ _. ⌜ now (counts .exit) ≡ cond due (closedOf (factsOf part) (held .chip) (now (counts .entry))) (now (counts .entry)) ⌝ }
 {
     if !due {
         return held;
     }
     let before = held.chip;
+    wear::mark(part, before, counts);
     let s = chip::step(part, enable, Loss::Old, b"", before, array, id, ENDS);
     let chip = s.chip;
     let driver = held.driver;
@@ -237,6 +249,7 @@ fn turn(
     array: &mut [u8],
     id: &mut [u8],
     buffer: &mut [u8],
+    counts: &mut [u32],
 ) -> Turned
     requires fit { ⌜ Fit part enable (held .chip) (length (now array)) (length (now id)) ⌝ }
     requires few { ⌜ (held .cycles < 6000000) × (held .clocks < 6000000) ⌝ }
@@ -245,12 +258,15 @@ fn turn(
         ≡ turnOf ourDriver (ours (factsOf part) enable) d (whole held (now (buffer .entry)) (mem (now (array .entry)) (now (id .entry)))) ⌝ }
     ensures found { λ r. ⌜ (r .ended ≡ endDueOf d (whole held (now (buffer .entry)) (mem (now (array .entry)) (now (id .entry)))))
         × (r .answer ≡ driverNextOf (held .driver) (held .level) (now (buffer .entry)) .answer) ⌝ }
+    ensures counts { λ _. ⌜ now (counts .exit)
+        ≡ wornBy ourCounter (ours (factsOf part) enable) (factsOf part) (held .chip) (now (counts .entry))
+        (turnEvents ourDriver d (whole held (now (buffer .entry)) (mem (now (array .entry)) (now (id .entry))))) ⌝ }
 {
     let driver = held.driver;
     let phase = driver.phase;
     let most = driver::allowed(driver.request);
     let ended = due(phase, driver.counts.tries, most, held.level, d);
-    let ready = end(ended, part, enable, held, array, id);
+    let ready = end(ended, part, enable, held, array, id, counts);
     ask(ended, part, enable, ready, array, id, buffer)
 }
 
@@ -338,6 +354,7 @@ fn go(
     array: &mut [u8],
     id: &mut [u8],
     buffer: &mut [u8],
+    counts: &mut [u32],
     events: &mut [u8],
     levels: &mut [u8],
 ) -> Gone
@@ -357,13 +374,16 @@ fn go(
     ensures levels { λ _. ⌜ now (levels .exit)
         ≡ laidOf (now (levels .entry))
         (tapeLevelsOf ourDriver (ours (factsOf part) enable) d enough (whole first (now (buffer .entry)) (mem (now (array .entry)) (now (id .entry))))) ⌝ }
+    ensures counts { λ _. ⌜ now (counts .exit)
+        ≡ wornBy ourCounter (ours (factsOf part) enable) (factsOf part) (first .chip) (now (counts .entry))
+        (tapeEventsOf ourDriver (ours (factsOf part) enable) d enough (whole first (now (buffer .entry)) (mem (now (array .entry)) (now (id .entry))))) ⌝ }
 {
     let mut held = first;
     let mut answer = Answer::Done(0, 0);
     let mut sent: usize = 0;
     let mut left = ENOUGH;
     while 0 < left {
-        let t = turn(part, enable, d, held, array, id, buffer);
+        let t = turn(part, enable, d, held, array, id, buffer, counts);
         let next = t.held;
         let told = t.answer;
         let there = sends(told);
@@ -419,6 +439,7 @@ fn drive(
     array: &mut [u8],
     id: &mut [u8],
     bytes: &mut [u8],
+    counts: &mut [u32],
     events: &mut [u8],
     levels: &mut [u8],
 ) -> Recorded
@@ -446,6 +467,10 @@ fn drive(
         ≡ laidOf (now (levels .entry))
         (tapeLevelsOf ourDriver (ours (factsOf (request .part)) enable) d enough
         (startOf request (now (bytes .entry)) chip (mem (now (array .entry)) (now (id .entry))))) ⌝ }
+    ensures counts { λ _. ⌜ now (counts .exit)
+        ≡ wornBy ourCounter (ours (factsOf (request .part)) enable) (factsOf (request .part)) chip (now (counts .entry))
+        (tapeEventsOf ourDriver (ours (factsOf (request .part)) enable) d enough
+        (startOf request (now (bytes .entry)) chip (mem (now (array .entry)) (now (id .entry))))) ⌝ }
 {
     let begun = driver::begin(request);
     let driver = begun.driver;
@@ -464,6 +489,7 @@ fn drive(
         array,
         id,
         bytes,
+        counts,
         events,
         levels,
     );
@@ -584,7 +610,20 @@ pub fn record(
         Verdict::Fine => {
             let n = request.length;
             let bytes = &mut buffer[..n];
-            drive(request, enable, d, chip, array, id, bytes, events, levels)
+            let mut none = [0u32; 1];
+            let counts = &mut none[..0];
+            drive(
+                request,
+                enable,
+                d,
+                chip,
+                array,
+                id,
+                bytes,
+                counts,
+                events,
+                levels,
+            )
         }
         Verdict::Refused(r) => refused(r, chip),
     }
@@ -619,4 +658,62 @@ pub fn run(
         &mut levels,
     );
     recorded.report
+}
+
+// The same run, and the counts go on by the cycles that end in it. Refused too where they are not one for each group of the part.
+pub fn run_worn(
+    request: Request,
+    enable: u8,
+    d: usize,
+    chip: Chip,
+    array: &mut [u8],
+    id: &mut [u8],
+    buffer: &mut [u8],
+    counts: &mut [u32],
+) -> Report
+    ensures answer { λ r. ⌜ r
+        ≡ benchWornOf request enable d chip (mem (now (array .entry)) (now (id .entry))) (now (buffer .entry)) (now (counts .entry)) .left .report ⌝ }
+    ensures stored { λ _. ⌜ mem (now (array .exit)) (now (id .exit))
+        ≡ benchWornOf request enable d chip (mem (now (array .entry)) (now (id .entry))) (now (buffer .entry)) (now (counts .entry)) .left .mem ⌝ }
+    ensures bytes { λ _. ⌜ now (buffer .exit)
+        ≡ benchWornOf request enable d chip (mem (now (array .entry)) (now (id .entry))) (now (buffer .entry)) (now (counts .entry)) .left .buffer ⌝ }
+    ensures counts { λ _. ⌜ now (counts .exit)
+        ≡ benchWornOf request enable d chip (mem (now (array .entry)) (now (id .entry))) (now (buffer .entry)) (now (counts .entry)) .counts ⌝ }
+{
+    let judged = judge(
+        request,
+        enable,
+        d,
+        chip,
+        array.len(),
+        id.len(),
+        buffer.len(),
+    );
+    let ready = wear::counts_verdict(request.part, counts.len());
+    let verdict = parts::sooner(ready, judged);
+    match verdict {
+        Verdict::Fine => {
+            let n = request.length;
+            let bytes = &mut buffer[..n];
+            let mut events = [0u8; 1];
+            let mut levels = [0u8; 1];
+            let recorded = drive(
+                request,
+                enable,
+                d,
+                chip,
+                array,
+                id,
+                bytes,
+                counts,
+                &mut events,
+                &mut levels,
+            );
+            recorded.report
+        }
+        Verdict::Refused(r) => {
+            let kept = refused(r, chip);
+            kept.report
+        }
+    }
 }

@@ -111,14 +111,14 @@ module _ (r : Request) (en d : ℕ) (c : Chip) (m : Mem) (ys : List ℕ) where
   all n e = subst (λ (i : ℕ). Played F en first (turnsOf ourDriver (ours F en) d i first) (tapeEventsOf ourDriver (ours F en) d i first) (tapeLevelsOf ourDriver (ours F en) d i first)) e (turns F en d n first)
 
   -- as the promise has it, of what the verdict leads to
-  record By (v : Verdict) : Type 0 where
+  pub record By (v : Verdict) : Type 0 where
     pub state : afterOf (ours F en) c (benchBy ourDriver (ours (factsOf (r .part)) en) r d c m ys v .events) ≡ benchBy ourDriver (ours (factsOf (r .part)) en) r d c m ys v .report .chip
     pub memory : memoryOf (ours F en) c m (benchBy ourDriver (ours (factsOf (r .part)) en) r d c m ys v .events) ≡ benchBy ourDriver (ours (factsOf (r .part)) en) r d c m ys v .mem
     pub levels : levelsOf (ours F en) c m (benchBy ourDriver (ours (factsOf (r .part)) en) r d c m ys v .events) ≡ benchBy ourDriver (ours (factsOf (r .part)) en) r d c m ys v .levels
     pub cycles : cyclesOf (ours F en) c (benchBy ourDriver (ours (factsOf (r .part)) en) r d c m ys v .events) ≡ benchBy ourDriver (ours (factsOf (r .part)) en) r d c m ys v .report .cycles
     pub clocks : clocksIn (benchBy ourDriver (ours (factsOf (r .part)) en) r d c m ys v .events) ≡ benchBy ourDriver (ours (factsOf (r .part)) en) r d c m ys v .report .clocks
 
-  by : (v : Verdict) → By v
+  pub by : (v : Verdict) → By v
   unfolding afterOf memoryOf levelsOf cyclesOf
   by Fine =
       let p = all enough refl in

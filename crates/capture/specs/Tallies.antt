@@ -1,19 +1,16 @@
 -- Document 02, §3: "The tally that the caller lends and each event updates counts Starts, Stops, bytes and unacknowledged bytes in 32 bits,
 -- staying at the top. A byte is nine clocks, unacknowledged if the ninth is 1."
 -- Assumes nothing.
-use Prim.Native.Nat.{ℕ, _+_}
+use Prim.Native.Nat.{ℕ}
 use mathlib.Core.List.{List, [], _∷_}
-use mathlib.Core.Bool.{Bool, cond, _&&_}
+use mathlib.Core.Bool.{Bool, _&&_}
 use lib.Dec.{eqb, ltb}
+use Rattle.parts.specs.Bytes.{upOf}
 use Rattle.parts.specs.declared.Verdict.{Verdict}
 use Rattle.parts.specs.declared.Verdict.the-variants.{Fine, Refused}
 use Rattle.capture.specs.declared.Tally.{Tally}
 use Rattle.capture.specs.Samples.{eventsOf, judgeOf}
 use Rattle.capture.specs.Marks.{placeOf}
-
--- one more where `on`, but at the top of 32 bits
-unfoldable pub upOf : ℕ → Bool → ℕ
-upOf n on = cond on (cond (ltb n 4294967295) (n + 1) n) n
 
 abbrev pub tally : ℕ → ℕ → ℕ → ℕ → Tally
 tally starts stops bytes unacknowledged = record { starts = starts; stops = stops; bytes = bytes; unacknowledged = unacknowledged }

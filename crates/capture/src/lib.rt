@@ -12,7 +12,7 @@ ghost use Rattle.parts.specs.Bytes.{AllBelow};
 ghost use Rattle.chip.specs.Memory.{mem};
 ghost use Rattle.capture.specs.Samples.{eventsOf, judgeOf};
 ghost use Rattle.capture.specs.Marks.{placeOf};
-ghost use Rattle.capture.specs.Tallies.{upOf, tally, talliedOf, talliesOf, countedOf};
+ghost use Rattle.capture.specs.Tallies.{tally, talliedOf, talliesOf, countedOf};
 ghost use Rattle.capture.specs.Wires.{linedOf, fallen, startStroke, strokeOf};
 ghost use Rattle.capture.specs.Calls.{seenVerdictOf, seeingOf, listingOf};
 use parts::Refusal;
@@ -186,17 +186,6 @@ pub fn events(bus: bool, samples: &[u8], out: &mut [u8]) -> Listed
 
 // ---- the tally
 
-fn up(n: u32, on: bool) -> u32
-    ensures { λ r. ⌜ r ≡ upOf n on ⌝ }
-{
-    if on {
-        if n < 4294967295 {
-            return n + 1;
-        }
-    }
-    n
-}
-
 // The clocks since the last Start, Stop or whole byte.
 pub(crate) fn place_after(place: u8, code: u8) -> u8
     ensures { λ r. ⌜ r ≡ placeOf place code ⌝ }
@@ -219,10 +208,10 @@ fn tallied(t: Tally, place: u8, code: u8) -> Tally
 {
     let ninth = place == 8;
     Tally {
-        starts: up(t.starts, code == 2),
-        stops: up(t.stops, code == 3),
-        bytes: up(t.bytes, ninth & (code < 2)),
-        unacknowledged: up(t.unacknowledged, ninth & (code == 1)),
+        starts: parts::up(t.starts, code == 2),
+        stops: parts::up(t.stops, code == 3),
+        bytes: parts::up(t.bytes, ninth & (code < 2)),
+        unacknowledged: parts::up(t.unacknowledged, ninth & (code == 1)),
     }
 }
 

@@ -11,43 +11,23 @@ use native.Mathlib.Omega.{arith}
 use lib.ListN.{length}
 use lib.Dec.{eqb, ltb}
 use borrow.Author.Tests.{lt-ltb, le-ltb, ne-eqb, ltb-true, ltb-false, eqb-true, eqb-false}
-use Rattle.parts.specs.Bytes.{AllBelow, flagOf}
+use Rattle.parts.specs.Bytes.{AllBelow, flagOf, topped}
 use Rattle.parts.specs.declared.Verdict.{Verdict}
 use Rattle.parts.specs.declared.Verdict.the-variants.{Fine}
 use Rattle.parts.proofs.Laws.{branch}
-use Rattle.parts.proofs.Bytes.{below-append, below-left, below-right}
+use Rattle.parts.proofs.Bytes.{below-append, below-left, below-right, top-low, up-wide, up-step}
 use Rattle.capture.specs.declared.Tally.{Tally}
 use Rattle.capture.specs.Samples.{eventsOf}
 use Rattle.capture.specs.Marks.{placeOf}
-use Rattle.capture.specs.Tallies.{upOf, tally, talliedOf, talliesOf, countedBy, countedOf}
+use Rattle.capture.specs.Tallies.{tally, talliedOf, talliesOf, countedBy, countedOf}
 use Rattle.capture_promises.specs.Machines.{CountLeft, countingOf}
 use Rattle.capture_promises.specs.Running.{placeAfter}
 use Rattle.capture_promises.specs.Pieces.{TallyJoins}
-use Rattle.capture_promises.specs.Tallied.{countOf, ninthsFrom, topped, Wide, TallyCounts, CountNumbers, Counter, CounterPinned}
+use Rattle.capture_promises.specs.Tallied.{countOf, ninthsFrom, Wide, TallyCounts, CountNumbers, Counter, CounterPinned}
 use Rattle.capture.proofs.Sampled.{judge-fine, fine-judge}
 use Rattle.capture_promises.proofs.Rises.{events-below}
 use Rattle.capture_promises.proofs.Judged.{FirstBad, judged, bad-judge}
 use Rattle.capture_promises.proofs.Cuts.{events-cut, place-cut}
-
--- ---- one count
-
-top-low : (n : ℕ) → n < 4294967296 → topped n ≡ n
-top-low n h = rw (lt-ltb n 4294967296 h) refl
-
-top-high : (n : ℕ) → 4294967295 ≤ n → topped n ≡ 4294967295
-top-high n h = branch (λ (x : ℕ). x ≡ 4294967295) (ltb n 4294967296) (λ e. omega (arith, ltb-true n 4294967296 e)) (λ _. refl)
-
-up-wide : (n : ℕ) (on : Bool) → n < 4294967296 → upOf n on < 4294967296
-unfolding upOf
-up-wide n false h = h
-up-wide n true h = branch (λ (x : ℕ). x < 4294967296) (ltb n 4294967295) (λ e. omega (arith, ltb-true n 4294967295 e)) (λ _. h)
-
-up-step : (n k : ℕ) (on : Bool) → n < 4294967296 → topped (upOf n on + k) ≡ topped (n + (flagOf on + k))
-unfolding upOf
-up-step n k false h = let e : n + k ≡ n + (0 + k) = omega arith in ap topped e
-up-step n k true h =
-    branch (λ (x : ℕ). topped (x + k) ≡ topped (n + (1 + k))) (ltb n 4294967295) (λ _. let e : n + 1 + k ≡ n + (1 + k) = omega arith in ap topped e)
-    (λ e. let l = ltb-false n 4294967295 e in top-high (n + k) (omega (arith, l)) ∙ sym (top-high (n + (1 + k)) (omega (arith, l))))
 
 -- ---- the ninth clocks
 

@@ -11,7 +11,8 @@ use borrow.Author.Tests.{eqb-true}
 use Rattle.parts.specs.Refusals.{soonerOf}
 use Rattle.capture.specs.declared.Tally.{Tally}
 use Rattle.capture.specs.Samples.{clockIn, dataIn, eventsFrom, eventsOf, judgeOf}
-use Rattle.capture.specs.Tallies.{upOf, tally, talliedOf}
+use Rattle.parts.specs.Bytes.{upOf}
+use Rattle.capture.specs.Tallies.{tally, talliedOf}
 use Rattle.capture.specs.Wires.{strokeOf, drawnFrom, drawnOf}
 use Rattle.capture.specs.Calls.{ListLeft, listVerdictOf}
 use Rattle.capture_promises.specs.Machines.{Counting, CountLeft, eventsIn, listed}

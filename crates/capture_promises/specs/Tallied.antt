@@ -6,7 +6,7 @@ use mathlib.Core.Bool.{Bool, cond}
 use mathlib.Core.List.{List, [], _∷_}
 use lib.ListN.{length, getD, take}
 use lib.Dec.{eqb, ltb}
-use Rattle.parts.specs.Bytes.{AllBelow, flagOf}
+use Rattle.parts.specs.Bytes.{AllBelow, flagOf, topped}
 use Rattle.parts.specs.declared.Refusal.the-variants.{BadSample}
 use Rattle.parts.specs.declared.Verdict.the-variants.{Fine, Refused}
 use Rattle.capture.specs.declared.Tally.{Tally}
@@ -24,10 +24,6 @@ countOf code (e ∷ es) = flagOf (eqb e code) + countOf code es
 abbrev pub ninthsFrom : ℕ → List ℕ → List ℕ
 ninthsFrom k [] = []
 ninthsFrom k (e ∷ es) = cond (ltb e 2) (cond (eqb k 8) (e ∷ ninthsFrom 0 es) (ninthsFrom (suc k) es)) (ninthsFrom 0 es)
-
--- "in 32 bits, staying at the top": the lower of the top and the sum
-abbrev pub topped : ℕ → ℕ
-topped n = cond (ltb n 4294967296) n 4294967295
 
 -- the counts of a tally are of 32 bits
 pub record Wide (t : Tally) : Type 0 where

@@ -6,7 +6,7 @@ use mathlib.Core.Bool.{Bool, true, false, cond}
 use mathlib.Core.List.{List, [], _∷_, _++_}
 use lib.ListN.{length}
 use lib.Dec.{eqb, ltb}
-use Rattle.parts.specs.Bytes.{AllBelow}
+use Rattle.parts.specs.Bytes.{AllBelow, topped}
 use Rattle.parts.specs.Refusals.{claimOf, soonerOf}
 use Rattle.parts.specs.declared.Refusal.the-variants.{ShortBuffer}
 use Rattle.parts.specs.declared.Verdict.{Verdict}
@@ -17,7 +17,7 @@ use Rattle.capture.specs.Tallies.{talliesOf}
 use Rattle.capture.specs.Calls.{listedBy, listedOut, listingOf}
 use Rattle.capture_promises.specs.Machines.{Listing, Counting}
 use Rattle.capture_promises.specs.Reading.{LetterPairs, LetterJoins, DrawnBack}
-use Rattle.capture_promises.specs.Tallied.{countOf, topped, TallyCounts, CountNumbers}
+use Rattle.capture_promises.specs.Tallied.{countOf, TallyCounts, CountNumbers}
 
 -- ---- one reading for both, whichever it is and whatever else it answers
 

@@ -9,7 +9,7 @@ use native.Mathlib.Decide.{decLt, ℕ-discrete}
 use native.Mathlib.Numerals.{add-one}
 use native.Mathlib.Omega.{arith}
 use lib.Dec.{ltb}
-use lib.ListN.{length, getD, set, take, length-set, getD-replicate}
+use lib.ListN.{length, getD, set, take, length-set, getD-replicate, List·getD-eq-default}
 use lib.Seq.{take-all, ext-getD, getD-take, length-take-le, getD-set-same, getD-set-other}
 use borrow.Author.Tests.{lt-ltb, le-ltb}
 use Rattle.parts.specs.declared.Facts.{Facts}
@@ -41,6 +41,11 @@ module _ (k : List ℕ) (i n : ℕ) (hi : i < length k) (hn : 0 < n) where
 
   pub latched-on : 256 ≤ getD k i 0 → latchedIn k (i + 1) (n - 1) ≡ latchedIn k i n
   latched-on h = sym (latched-first ∙ rw (le-ltb (getD k i 0) 256 h) refl)
+
+-- beyond the end of the list nothing is latched
+pub latched-beyond : (k : List ℕ) (i n : ℕ) → length k ≤ i → latchedIn k i n ≡ false
+latched-beyond k i zero h = refl
+latched-beyond k i (suc n) h = rw (List·getD-eq-default k 256 h) (latched-beyond k (suc i) n (omega arith))
 
 -- a group that begins in the page ends in it
 pub group-room : (i j p g : ℕ) → i ≡ j * g → i < p → p ≡ p / g * g → i + g ≤ p

@@ -190,14 +190,14 @@ abbrev Never : Facts → List Byte → Type 0
 Never f bs = (ds : List Byte) → asksCycleOf f (bs ++ ds) ≡ false
 
 -- a transfer that the chip hears
-record Hears (f : Facts) (l : Line) (r : Recv) (high : Bool) (bs : List Byte) (k n : ℕ) : Type 0 where
-  mark : high ≡ l .core .inhibited
-  bits : l .left + k ≡ 8
-  value : l .shift ≡ n
-  small : n < 2 ^ k
-  asks : (ds : List Byte) → asksCycleOf f (bs ++ ds) ≡ (allAcked ds && expects f r ds)
+pub record Hears (f : Facts) (l : Line) (r : Recv) (high : Bool) (bs : List Byte) (k n : ℕ) : Type 0 where
+  pub mark : high ≡ l .core .inhibited
+  pub bits : l .left + k ≡ 8
+  pub value : l .shift ≡ n
+  pub small : n < 2 ^ k
+  pub asks : (ds : List Byte) → asksCycleOf f (bs ++ ds) ≡ (allAcked ds && expects f r ds)
 
-abbrev Side : Facts → Line → Phase → Seen → Type 0
+abbrev pub Side : Facts → Line → Phase → Seen → Type 0
 Side f l Idle quiet = Unit {0}
 Side f l Idle cycling = ⊥
 Side f l Idle (since h bs k n) = Never f bs
@@ -417,7 +417,7 @@ pinned-side f l v (Busy y) (since h bs k n) e o = absurd o
 
 pub record Beside (f : Facts) (l : Line) (w : Watch) : Type 0 where
   pub pin : w .pin ≡ isHigh (l .core .pin)
-  side : Side f l (l .phase) (w .seen)
+  pub side : Side f l (l .phase) (w .seen)
 
 abbrev pub Together : Facts → ℕ → Line → ℕ → Watch → Event → Type 0
 Together f en l b w e =
@@ -446,7 +446,7 @@ together f en l b w Unknown o = (o, refl)
 -- ---- the promise: chip and history go side by side, and the cycles so far are the Stops so far
 
 -- what a history has come to
-abbrev watchesOf : Facts → Watch → List ℕ → List ℕ → Watch
+abbrev pub watchesOf : Facts → Watch → List ℕ → List ℕ → Watch
 watchesOf f w [] levels = w
 watchesOf f w (e ∷ es) [] = w
 watchesOf f w (e ∷ es) (x ∷ xs) = watchesOf f (watchOf f w (eventOf e) x) es xs
@@ -483,11 +483,11 @@ abbrev Telling : Facts → Watch → Invariant
 Telling f w c m n hs xs = Told f w c n hs xs
 
 -- who watches does not see what a reset finds
-watch-any : (f : Facts) (v : Watch) (w : Loss) (e x : ℕ) → watchOf f v (eventWith w e) x ≡ watchOf f v (eventOf e) x
+pub watch-any : (f : Facts) (v : Watch) (w : Loss) (e x : ℕ) → watchOf f v (eventWith w e) x ≡ watchOf f v (eventOf e) x
 unfolding watchOf
 watch-any f v w e x = any-loss (λ (z : Event). watchOf f v z x ≡ watchOf f v (eventOf e) x) (λ u u′ h. h) Old w e refl
 
-stop-any : (f : Facts) (s : Seen) (w : Loss) (e : ℕ) → stopOf f s (eventWith w e) ≡ stopOf f s (eventOf e)
+pub stop-any : (f : Facts) (s : Seen) (w : Loss) (e : ℕ) → stopOf f s (eventWith w e) ≡ stopOf f s (eventOf e)
 unfolding stopOf
 stop-any f s w e = any-loss (λ (z : Event). stopOf f s z ≡ stopOf f s (eventOf e)) (λ u u′ h. h) Old w e refl
 
@@ -500,7 +500,7 @@ told-step w f en w₀ c m n hs xs e _ i =
     let t = together f en (c .line) (seenOf f (c .line) m (c .line .phase)) v d (i .beside) in
     record { size = omega (arith, length-append hs (e ∷ []), length-append xs (x ∷ []), i .size); beside = subst (λ (u : Watch). Beside f (nextOf f en (c .line) d) u) (watch-any f v (w .loss) e x ∙ sym (watches-more f w₀ hs xs e x (i .size))) (t .0); sum = omega (arith, stops-more f w₀ hs xs e x (i .size), t .1, stop-any f (v .seen) (w .loss) e, i .sum) }
 
-beside-at : (f : Facts) (c : Chip) → NoTransfer (c .line .phase) → Beside f (c .line) (watchAt c)
+pub beside-at : (f : Facts) (c : Chip) → NoTransfer (c .line .phase) → Beside f (c .line) (watchAt c)
 beside-at f c h = record { pin = refl; side = go (c .line .phase) h }
   where
     go : (ph : Phase) → NoTransfer ph → Side f (c .line) ph (seenAt ph)
@@ -528,7 +528,7 @@ calls-cycles-are-stops part en c m xs h =
 
 -- ---- from delivery
 
-fresh-is : (f : Facts) → watchAt (standbyOf f false) ≡ freshWatch
+pub fresh-is : (f : Facts) → watchAt (standbyOf f false) ≡ freshWatch
 unfolding standbyOf pinAtFirstOf
 fresh-is f = branch (λ (p : Pin). watch (isHigh p) quiet ≡ freshWatch) (f .pin) (λ _. refl) (λ _. refl)
 

@@ -1,6 +1,15 @@
 -- Every change request that has landed is kept: each field is a promise that is proved in the crate that its name comes from.
 -- Assumes nothing.
 use Rattle.driver.specs.Machine.{ourDriver}
+use Rattle.wear_promises.proofs.Counts.{wear-is-history}
+use Rattle.wear_promises.proofs.Totals.{total-is-history}
+use Rattle.wear_promises.proofs.Traces.{traces-add-up}
+use Rattle.wear_promises.proofs.Beside.{run-is-chips as wear-run-is-chips, wear-numbers, counts-never-fall, at-most-groups-of-one-page, wear-refused-changes-nothing}
+use Rattle.wear_promises.proofs.Told.{most-is-most, report-numbers, report-pinned, join-adds, join-any-order, heaps-merge}
+use Rattle.wear_promises.proofs.Pinned.{wear-pinned}
+use Rattle.wear_promises.proofs.Histories.{histories-worn}
+use Rattle.wear_promises.proofs.WrongCounters.{wrong-counters}
+use Rattle.bench_promises.proofs.Worn.{bench-wear-is-history, worn-is-bench}
 use Rattle.chip_laws.proofs.Roll.{page-rule}
 use Rattle.chip_laws.proofs.Runs.{run-is-steps}
 use Rattle.chip_promises.proofs.Numbers.{step-numbers, run-numbers}
@@ -113,5 +122,26 @@ requests =
             ours = powered;
             pinned = power-pinned;
             wrong = wrong-cuts;
+          };
+      sixth =
+          record {
+            history = wear-is-history;
+            pinned = wear-pinned;
+            traces = traces-add-up;
+            most = most-is-most;
+            most-pinned = report-pinned;
+            once = at-most-groups-of-one-page;
+            never-fall = counts-never-fall;
+            histories = histories-worn;
+            total = total-is-history;
+            numbers = (wear-numbers, report-numbers);
+            chips = wear-run-is-chips;
+            refused = wear-refused-changes-nothing;
+            bench = bench-wear-is-history;
+            bench-own = worn-is-bench;
+            join = join-adds;
+            any-order = join-any-order;
+            heaps = heaps-merge;
+            wrong = wrong-counters;
           };
     }

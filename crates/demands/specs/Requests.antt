@@ -35,6 +35,15 @@ use Rattle.capture_promises.specs.Tallied.{TallyCounts, CountNumbers, Counter, 
 use Rattle.capture_promises.specs.Wrong.{WrongReaders, WrongTallies}
 use Rattle.capture_promises.specs.WrongRuns.{WrongRuns}
 use Rattle.capture_promises.specs.Worked.{WorkedCaptures}
+use Rattle.wear.specs.Calls.{wearOf, reportOf, joinOf}
+use Rattle.wear_promises.specs.Counts.{WearIsHistory, TotalIsHistory, TracesAddUp, RunIsChips as WearRunIsChips, WearNumbers, CountsNeverFall, AtMostGroupsOfOnePage, WearRefusedChangesNothing, WearPinned}
+use Rattle.wear_promises.specs.Told.{MostIsMost, ReportNumbers, ReportPinned, JoinAdds, JoinAnyOrder, HeapsMerge}
+use Rattle.wear_promises.specs.Histories.{wornHold, wornHistories}
+use Rattle.wear_promises.specs.WrongCounters.{WrongCounters}
+use Rattle.bench.specs.Worn.{benchWornOf}
+use Rattle.bench_promises.specs.Worn.{BenchWearIsHistory, WornIsBench}
+use mathlib.Core.Path.{_≡_}
+use mathlib.Core.Bool.{true}
 use Rattle.sapwoodle.specs.Promises.{NextIsDrivers, BenchIsBenchs, CaptureIsChips, CaptureRefuses4, StepIsChips, RunIsChips, StepOld, RunOld, StepRefuses3, RunRefuses3}
 use Rattle.sapwoodle.specs.Chips.{stepping, running}
 use Rattle.sapwoodle.specs.Drivers.{asking}
@@ -171,9 +180,43 @@ pub record Request5 : Type 0 where
   -- cuts that change nothing, spoil the whole page or the latched bytes alone, store them, or leave the lock as it was break these
   pub wrong : WrongCuts
 
+-- §6, "Wear over a year of traces.": of `wearOf`, `reportOf`, `joinOf` and `benchWornOf`, which `code` of specs/Demands.antt says that the functions are
+pub record Request6 : Type 0 where
+  -- "for each group of the array how many completed or cut cycles touched it", "Counts are 32-bit and stay at their top once there": over any series of
+  -- calls each count goes on by what the history has, events and levels alone, at most the top; and nothing is left open
+  pub history : WearIsHistory wearOf
+  pub pinned : WearPinned
+  -- "over many traces run one after another"
+  pub traces : TracesAddUp wearOf
+  -- "the total over groups, and the group with most (the lowest on a tie)"
+  pub most : MostIsMost reportOf
+  pub most-pinned : ReportPinned
+  -- "A cycle that touches several bytes of a group counts once for that group": an event raises counts of one page, each by one
+  pub once : AtMostGroupsOfOnePage wearOf
+  pub never-fall : CountsNeverFall wearOf
+  -- "a locking or identification cycle for none", and more, on histories written out by hand
+  pub histories : wornHold wornHistories ≡ true
+  -- "The total must come from the event history, not the stored counts, while no count is at the top"
+  pub total : TotalIsHistory wearOf
+  -- "Refusals: 3 also for a count buffer of another length": in its place; with the right length all is what `chip::run` answers and leaves
+  pub numbers : WearNumbers wearOf × ReportNumbers reportOf
+  pub chips : WearRunIsChips wearOf
+  pub refused : WearRefusedChangesNothing wearOf
+  -- driver and chip together: the counts are what the tape says, and all else is the run's own
+  pub bench : BenchWearIsHistory benchWornOf
+  pub bench-own : WornIsBench benchWornOf
+  -- what other processes or machines counted is joined, in any order: the counts of both heaps of traces
+  pub join : JoinAdds joinOf
+  pub any-order : JoinAnyOrder joinOf
+  pub heaps : HeapsMerge joinOf wearOf
+  -- counters that count nothing, at the Stop, each byte, no cuts, identification cycles, the first group alone, whole pages, or begin again at the top break
+  -- these; so does a total that is the number of cycles
+  pub wrong : WrongCounters
+
 pub record Requests : Type 0 where
   pub first : Request1
   pub second : Request2
   pub third : Request3
   pub fourth : Request4
   pub fifth : Request5
+  pub sixth : Request6

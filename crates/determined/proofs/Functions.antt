@@ -88,11 +88,29 @@ use Rattle.determined.specs.Functions.{
   NextDetermined,
   BenchRecordDetermined,
   BenchRunDetermined,
+  UpDetermined,
+  LatchedDetermined,
+  PageStartDetermined,
+  ClosesDetermined,
+  RunVerdictDetermined,
+  ChipPassDetermined,
+  GroupsDetermined,
+  MarkDetermined,
+  CountsVerdictDetermined,
+  WearRunDetermined,
+  WearReportDetermined,
+  WearJoinDetermined,
+  BenchRunWornDetermined,
+  SapwoodleGroupsDetermined,
+  SapwoodleWearRunDetermined,
+  SapwoodleWearReportDetermined,
+  SapwoodleWearJoinDetermined,
+  SapwoodleWearBenchRunDetermined,
   DriverPackDetermined,
   DriverUnpackDetermined,
 }
 use Rattle.determined.proofs.Answers.{agree, same, plainly, of-machine}
-use Rattle.determined.proofs.Machines.{deliver-is, step-is, run-is, save-is, load-is, hex-read-is, hex-write-is, capture-run-is, capture-events-is, count-is, trace-is, begin-is, next-is-our-driver, bench-record-is-our-bench, bench-run-is-our-bench, sapwoodle-deliver-is, sapwoodle-step-is, sapwoodle-run-is, sapwoodle-save-is, sapwoodle-load-is, sapwoodle-hex-read-is, sapwoodle-hex-write-is, sapwoodle-capture-run-is, sapwoodle-capture-events-is, sapwoodle-capture-tally-is, sapwoodle-driver-begin-is, sapwoodle-driver-next-is, sapwoodle-bench-run-is, sapwoodle-trace-is}
+use Rattle.determined.proofs.Machines.{deliver-is, step-is, run-is, save-is, load-is, hex-read-is, hex-write-is, capture-run-is, capture-events-is, count-is, trace-is, begin-is, next-is-our-driver, bench-record-is-our-bench, bench-run-is-our-bench, pass-is, mark-is, wear-run-is, wear-report-is, wear-join-is, bench-run-worn-is, sapwoodle-wear-run-is, sapwoodle-wear-report-is, sapwoodle-wear-join-is, sapwoodle-wear-bench-run-is, sapwoodle-deliver-is, sapwoodle-step-is, sapwoodle-run-is, sapwoodle-save-is, sapwoodle-load-is, sapwoodle-hex-read-is, sapwoodle-hex-write-is, sapwoodle-capture-run-is, sapwoodle-capture-events-is, sapwoodle-capture-tally-is, sapwoodle-driver-begin-is, sapwoodle-driver-next-is, sapwoodle-bench-run-is, sapwoodle-trace-is}
 
 pub facts-of-determined : FactsOfDetermined
 facts-of-determined = record { taken = λ κs a. tt; equal = λ κs a x y p q. same (agree (p .0) (q .0)) refl }
@@ -374,6 +392,60 @@ sapwoodle-bench-run-determined = of-machine (λ κs a. tt) sapwoodle-bench-run-i
 pub sapwoodle-trace-determined : SapwoodleTraceDetermined
 sapwoodle-trace-determined = of-machine (λ κs a. tt) sapwoodle-trace-is
 
+pub up-determined : UpDetermined
+up-determined = plainly (λ κs a u v. refl)
+
+pub latched-determined : LatchedDetermined
+latched-determined = plainly (λ κs a u v. refl)
+
+pub page-start-determined : PageStartDetermined
+page-start-determined = record { taken = λ κs a. tt; equal = λ κs a x y p q. same (agree (p .0) (q .0)) refl }
+
+pub closes-determined : ClosesDetermined
+closes-determined = plainly (λ κs a u v. refl)
+
+pub run-verdict-determined : RunVerdictDetermined
+run-verdict-determined = plainly (λ κs a u v. refl)
+
+pub chip-pass-determined : ChipPassDetermined
+chip-pass-determined = of-machine (λ κs a. tt) pass-is
+
+pub groups-determined : GroupsDetermined
+groups-determined = plainly (λ κs a u v. refl)
+
+pub mark-determined : MarkDetermined
+mark-determined = of-machine (λ κs a. tt) mark-is
+
+pub counts-verdict-determined : CountsVerdictDetermined
+counts-verdict-determined = plainly (λ κs a u v. refl)
+
+pub wear-run-determined : WearRunDetermined
+wear-run-determined = of-machine (λ κs a. tt) wear-run-is
+
+pub wear-report-determined : WearReportDetermined
+wear-report-determined = of-machine (λ κs a. tt) wear-report-is
+
+pub wear-join-determined : WearJoinDetermined
+wear-join-determined = of-machine (λ κs a. tt) wear-join-is
+
+pub bench-run-worn-determined : BenchRunWornDetermined
+bench-run-worn-determined = of-machine (λ κs a. tt) bench-run-worn-is
+
+pub sapwoodle-groups-determined : SapwoodleGroupsDetermined
+sapwoodle-groups-determined = plainly (λ κs a u v. refl)
+
+pub sapwoodle-wear-run-determined : SapwoodleWearRunDetermined
+sapwoodle-wear-run-determined = of-machine (λ κs a. tt) sapwoodle-wear-run-is
+
+pub sapwoodle-wear-report-determined : SapwoodleWearReportDetermined
+sapwoodle-wear-report-determined = of-machine (λ κs a. tt) sapwoodle-wear-report-is
+
+pub sapwoodle-wear-join-determined : SapwoodleWearJoinDetermined
+sapwoodle-wear-join-determined = of-machine (λ κs a. tt) sapwoodle-wear-join-is
+
+pub sapwoodle-wear-bench-run-determined : SapwoodleWearBenchRunDetermined
+sapwoodle-wear-bench-run-determined = of-machine (λ κs a. tt) sapwoodle-wear-bench-run-is
+
 pub every-answer : EveryAnswer
 every-answer =
     record {
@@ -393,6 +465,10 @@ every-answer =
       next = next-determined;
       bench-record = bench-record-determined;
       bench-run = bench-run-determined;
+      wear-run = wear-run-determined;
+      wear-report = wear-report-determined;
+      wear-join = wear-join-determined;
+      bench-run-worn = bench-run-worn-determined;
       sapwoodle-deliver = sapwoodle-deliver-determined;
       sapwoodle-step = sapwoodle-step-determined;
       sapwoodle-run = sapwoodle-run-determined;
@@ -406,5 +482,10 @@ every-answer =
       sapwoodle-driver-begin = sapwoodle-driver-begin-determined;
       sapwoodle-driver-next = sapwoodle-driver-next-determined;
       sapwoodle-bench-run = sapwoodle-bench-run-determined;
+      sapwoodle-groups = sapwoodle-groups-determined;
+      sapwoodle-wear-run = sapwoodle-wear-run-determined;
+      sapwoodle-wear-report = sapwoodle-wear-report-determined;
+      sapwoodle-wear-join = sapwoodle-wear-join-determined;
+      sapwoodle-wear-bench-run = sapwoodle-wear-bench-run-determined;
       sapwoodle-trace = sapwoodle-trace-determined;
     }

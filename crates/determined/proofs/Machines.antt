@@ -2,7 +2,7 @@
 -- order; what is left is a row of the parameters.
 -- Assumes nothing.
 use mathlib.Core.Path.{refl}
-use Rattle.determined.specs.Machines.{EveryMachine, DeliverIs, StepIs, RunIs, SaveIs, LoadIs, HexReadIs, HexWriteIs, CaptureRunIs, CaptureEventsIs, CountIs, TraceIs, BeginIs, NextIsOurDriver, BenchRecordIsOurBench, BenchRunIsOurBench, SapwoodleDeliverIs, SapwoodleStepIs, SapwoodleRunIs, SapwoodleSaveIs, SapwoodleLoadIs, SapwoodleHexReadIs, SapwoodleHexWriteIs, SapwoodleCaptureRunIs, SapwoodleCaptureEventsIs, SapwoodleCaptureTallyIs, SapwoodleDriverBeginIs, SapwoodleDriverNextIs, SapwoodleBenchRunIs, SapwoodleTraceIs}
+use Rattle.determined.specs.Machines.{EveryMachine, DeliverIs, StepIs, RunIs, SaveIs, LoadIs, HexReadIs, HexWriteIs, CaptureRunIs, CaptureEventsIs, CountIs, TraceIs, BeginIs, NextIsOurDriver, BenchRecordIsOurBench, BenchRunIsOurBench, PassIs, MarkIs, WearRunIs, WearReportIs, WearJoinIs, BenchRunWornIs, SapwoodleWearRunIs, SapwoodleWearReportIs, SapwoodleWearJoinIs, SapwoodleWearBenchRunIs, SapwoodleDeliverIs, SapwoodleStepIs, SapwoodleRunIs, SapwoodleSaveIs, SapwoodleLoadIs, SapwoodleHexReadIs, SapwoodleHexWriteIs, SapwoodleCaptureRunIs, SapwoodleCaptureEventsIs, SapwoodleCaptureTallyIs, SapwoodleDriverBeginIs, SapwoodleDriverNextIs, SapwoodleBenchRunIs, SapwoodleTraceIs}
 use Rattle.determined.proofs.Answers.{same}
 
 pub deliver-is : DeliverIs
@@ -92,6 +92,36 @@ sapwoodle-bench-run-is = λ κs a x p. same (p .0) (λ i. (tt, (tt, (tt, (tt, (t
 pub sapwoodle-trace-is : SapwoodleTraceIs
 sapwoodle-trace-is = λ κs a x p. same (p .0) (λ i. (tt, (p .1 .0 i, (p .1 .1 i, tt))))
 
+pub pass-is : PassIs
+pass-is = λ κs a x p. same (p .0) (λ i. (tt, (tt, (tt, (tt, (tt, (p .1 .0 i .cells, (p .1 .0 i .ident, (tt, (p .1 .1 i, tt))))))))))
+
+pub mark-is : MarkIs
+mark-is = λ κs a x p. same refl (λ i. (tt, (tt, (p i, tt))))
+
+pub wear-run-is : WearRunIs
+wear-run-is = λ κs a x p. same (p .0) (λ i. (tt, (tt, (tt, (tt, (tt, (p .1 .0 i .cells, (p .1 .0 i .ident, (p .1 .1 .1 i, (tt, (p .1 .1 .0 i, tt)))))))))))
+
+pub wear-report-is : WearReportIs
+wear-report-is = λ κs a x p. same p refl
+
+pub wear-join-is : WearJoinIs
+wear-join-is = λ κs a x p. same (p .0) (λ i. (tt, (p .1 i, (tt, tt))))
+
+pub bench-run-worn-is : BenchRunWornIs
+bench-run-worn-is = λ κs a x p. same (p .0) (λ i. (tt, (tt, (tt, (tt, (p .1 .0 i .cells, (p .1 .0 i .ident, (p .1 .1 .0 i, (p .1 .1 .1 i, tt)))))))))
+
+pub sapwoodle-wear-run-is : SapwoodleWearRunIs
+sapwoodle-wear-run-is = λ κs a x p. same (p .0) (λ i. (tt, (tt, (tt, (tt, (p .1 .0 i, (p .1 .1 .0 i .cells, (p .1 .1 .0 i .ident, (p .1 .1 .1 .0 i, (tt, (p .1 .1 .1 .1 .0 i, (p .1 .1 .1 .1 .1 .0 i, (p .1 .1 .1 .1 .1 .1 i, tt)))))))))))))
+
+pub sapwoodle-wear-report-is : SapwoodleWearReportIs
+sapwoodle-wear-report-is = λ κs a x p. same (p .0) (λ i. (tt, (tt, (p .1 .0 i, (p .1 .1 .0 i, (p .1 .1 .1 i, tt))))))
+
+pub sapwoodle-wear-join-is : SapwoodleWearJoinIs
+sapwoodle-wear-join-is = λ κs a x p. same (p .0) (λ i. (tt, (p .1 i, (tt, tt))))
+
+pub sapwoodle-wear-bench-run-is : SapwoodleWearBenchRunIs
+sapwoodle-wear-bench-run-is = λ κs a x p. same (p .0) (λ i. (tt, (tt, (tt, (tt, (tt, (tt, (tt, (tt, (p .1 .0 i, (p .1 .1 .0 i .cells, (p .1 .1 .0 i .ident, (p .1 .1 .1 .0 i, (p .1 .1 .1 .1 .0 i, (p .1 .1 .1 .1 .1 .0 i, (p .1 .1 .1 .1 .1 .1 .0 i, (p .1 .1 .1 .1 .1 .1 .1 .0 i, (p .1 .1 .1 .1 .1 .1 .1 .1 .0 i, (p .1 .1 .1 .1 .1 .1 .1 .1 .1 i, tt)))))))))))))))))))
+
 pub every-machine : EveryMachine
 every-machine =
     record {
@@ -110,6 +140,10 @@ every-machine =
       next = next-is-our-driver;
       bench-record = bench-record-is-our-bench;
       bench-run = bench-run-is-our-bench;
+      wear-run = wear-run-is;
+      wear-report = wear-report-is;
+      wear-join = wear-join-is;
+      bench-run-worn = bench-run-worn-is;
       sapwoodle-deliver = sapwoodle-deliver-is;
       sapwoodle-step = sapwoodle-step-is;
       sapwoodle-run = sapwoodle-run-is;
@@ -123,5 +157,9 @@ every-machine =
       sapwoodle-driver-begin = sapwoodle-driver-begin-is;
       sapwoodle-driver-next = sapwoodle-driver-next-is;
       sapwoodle-bench-run = sapwoodle-bench-run-is;
+      sapwoodle-wear-run = sapwoodle-wear-run-is;
+      sapwoodle-wear-report = sapwoodle-wear-report-is;
+      sapwoodle-wear-join = sapwoodle-wear-join-is;
+      sapwoodle-wear-bench-run = sapwoodle-wear-bench-run-is;
       sapwoodle-trace = sapwoodle-trace-is;
     }

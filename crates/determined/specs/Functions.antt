@@ -21,6 +21,7 @@ use Rattle.parts.proofs.claim as claim
 use Rattle.parts.proofs.sooner as sooner
 use Rattle.parts.proofs.lent_verdict as lent-verdict
 use Rattle.parts.proofs.loss_verdict as loss-verdict
+use Rattle.parts.proofs.up as up
 use Rattle.text.proofs.wide as text-wide
 use Rattle.text.proofs.narrow as text-narrow
 use Rattle.text.proofs.hex as text-hex
@@ -38,6 +39,17 @@ use Rattle.chip.proofs.step as step
 use Rattle.chip.proofs.run as chip-run
 use Rattle.chip.proofs.seen as chip-seen
 use Rattle.chip.proofs.take as chip-take
+use Rattle.chip.proofs.latched as latched
+use Rattle.chip.proofs.page_start as page-start
+use Rattle.chip.proofs.closes as closes
+use Rattle.chip.proofs.run_verdict as run-verdict
+use Rattle.chip.proofs.pass as chip-pass
+use Rattle.wear.proofs.groups as groups
+use Rattle.wear.proofs.mark as mark
+use Rattle.wear.proofs.counts_verdict as counts-verdict
+use Rattle.wear.proofs.run as wear-run
+use Rattle.wear.proofs.report as wear-report
+use Rattle.wear.proofs.join as wear-join
 use Rattle.page.proofs.look_refusal as look-refusal
 use Rattle.page.proofs.look as look
 use Rattle.image.proofs.save as save
@@ -64,6 +76,7 @@ use Rattle.driver.proofs.begin as begin
 use Rattle.driver.proofs.next as next
 use Rattle.bench.proofs.record as bench-record
 use Rattle.bench.proofs.run as bench-run
+use Rattle.bench.proofs.run_worn as bench-run-worn
 use Rattle.pack_driver.proofs.pack as driver-pack
 use Rattle.pack_driver.proofs.unpack as driver-unpack
 use Rattle.pack_chip.proofs.pack as chip-pack
@@ -86,6 +99,11 @@ use Rattle.sapwoodle.proofs.captures.sapwoodle_capture_tally as sapwoodle-captu
 use Rattle.sapwoodle.proofs.drivers.sapwoodle_driver_begin as sapwoodle-driver-begin
 use Rattle.sapwoodle.proofs.drivers.sapwoodle_driver_next as sapwoodle-driver-next
 use Rattle.sapwoodle.proofs.runs.sapwoodle_bench_run as sapwoodle-bench-run
+use Rattle.sapwoodle.proofs.wears.sapwoodle_groups as sapwoodle-groups
+use Rattle.sapwoodle.proofs.wears.sapwoodle_wear_run as sapwoodle-wear-run
+use Rattle.sapwoodle.proofs.wears.sapwoodle_wear_report as sapwoodle-wear-report
+use Rattle.sapwoodle.proofs.wears.sapwoodle_wear_join as sapwoodle-wear-join
+use Rattle.sapwoodle.proofs.wears.sapwoodle_wear_bench_run as sapwoodle-wear-bench-run
 use Rattle.sapwoodle.proofs.sapwoodle_trace as sapwoodle-trace
 use Rattle.determined.specs.Walked.{CountAsked, CountLearnt}
 use Rattle.determined.specs.Determined.{Determined, DeterminedAs, part}
@@ -152,6 +170,9 @@ LentVerdictDetermined = Determined lent-verdict.ended lent-verdict.Reads.Asked l
 abbrev pub LossVerdictDetermined : Type 0
 LossVerdictDetermined = Determined loss-verdict.ended loss-verdict.Reads.Asked loss-verdict.Reads.Learnt
 
+abbrev pub UpDetermined : Type 0
+UpDetermined = Determined up.ended up.Reads.Asked up.Reads.Learnt
+
 -- ---- text
 
 abbrev pub TextWideDetermined : Type 0
@@ -210,6 +231,41 @@ ChipSeenDetermined = Determined chip-seen.ended chip-seen.Reads.Asked chip-seen.
 
 abbrev pub ChipTakeDetermined : Type 0
 ChipTakeDetermined = Determined chip-take.ended chip-take.Reads.Asked chip-take.Reads.Learnt
+
+abbrev pub LatchedDetermined : Type 0
+LatchedDetermined = Determined latched.ended latched.Reads.Asked latched.Reads.Learnt
+
+abbrev pub PageStartDetermined : Type 0
+PageStartDetermined = Determined page-start.ended page-start.Reads.Asked page-start.Reads.Learnt
+
+abbrev pub ClosesDetermined : Type 0
+ClosesDetermined = Determined closes.ended closes.Reads.Asked closes.Reads.Learnt
+
+abbrev pub RunVerdictDetermined : Type 0
+RunVerdictDetermined = Determined run-verdict.ended run-verdict.Reads.Asked run-verdict.Reads.Learnt
+
+abbrev pub ChipPassDetermined : Type 0
+ChipPassDetermined = Determined chip-pass.ended chip-pass.Reads.Asked chip-pass.Reads.Learnt
+
+-- ---- wear
+
+abbrev pub GroupsDetermined : Type 0
+GroupsDetermined = Determined groups.ended groups.Reads.Asked groups.Reads.Learnt
+
+abbrev pub MarkDetermined : Type 0
+MarkDetermined = Determined mark.ended mark.Reads.Asked mark.Reads.Learnt
+
+abbrev pub CountsVerdictDetermined : Type 0
+CountsVerdictDetermined = Determined counts-verdict.ended counts-verdict.Reads.Asked counts-verdict.Reads.Learnt
+
+abbrev pub WearRunDetermined : Type 0
+WearRunDetermined = Determined wear-run.ended wear-run.Reads.Asked wear-run.Reads.Learnt
+
+abbrev pub WearReportDetermined : Type 0
+WearReportDetermined = Determined wear-report.ended wear-report.Reads.Asked wear-report.Reads.Learnt
+
+abbrev pub WearJoinDetermined : Type 0
+WearJoinDetermined = Determined wear-join.ended wear-join.Reads.Asked wear-join.Reads.Learnt
 
 -- ---- page
 
@@ -307,6 +363,9 @@ BenchRecordDetermined = Determined bench-record.ended bench-record.Reads.Asked b
 abbrev pub BenchRunDetermined : Type 0
 BenchRunDetermined = Determined bench-run.ended bench-run.Reads.Asked bench-run.Reads.Learnt
 
+abbrev pub BenchRunWornDetermined : Type 0
+BenchRunWornDetermined = Determined bench-run-worn.ended bench-run-worn.Reads.Asked bench-run-worn.Reads.Learnt
+
 -- ---- pack_driver
 
 abbrev pub DriverPackDetermined : Type 0
@@ -379,6 +438,21 @@ SapwoodleDriverNextDetermined = Determined sapwoodle-driver-next.ended sapwoodle
 abbrev pub SapwoodleBenchRunDetermined : Type 0
 SapwoodleBenchRunDetermined = Determined sapwoodle-bench-run.ended sapwoodle-bench-run.Reads.Asked sapwoodle-bench-run.Reads.Learnt
 
+abbrev pub SapwoodleGroupsDetermined : Type 0
+SapwoodleGroupsDetermined = Determined sapwoodle-groups.ended sapwoodle-groups.Reads.Asked sapwoodle-groups.Reads.Learnt
+
+abbrev pub SapwoodleWearRunDetermined : Type 0
+SapwoodleWearRunDetermined = Determined sapwoodle-wear-run.ended sapwoodle-wear-run.Reads.Asked sapwoodle-wear-run.Reads.Learnt
+
+abbrev pub SapwoodleWearReportDetermined : Type 0
+SapwoodleWearReportDetermined = Determined sapwoodle-wear-report.ended sapwoodle-wear-report.Reads.Asked sapwoodle-wear-report.Reads.Learnt
+
+abbrev pub SapwoodleWearJoinDetermined : Type 0
+SapwoodleWearJoinDetermined = Determined sapwoodle-wear-join.ended sapwoodle-wear-join.Reads.Asked sapwoodle-wear-join.Reads.Learnt
+
+abbrev pub SapwoodleWearBenchRunDetermined : Type 0
+SapwoodleWearBenchRunDetermined = Determined sapwoodle-wear-bench-run.ended sapwoodle-wear-bench-run.Reads.Asked sapwoodle-wear-bench-run.Reads.Learnt
+
 abbrev pub SapwoodleTraceDetermined : Type 0
 SapwoodleTraceDetermined = Determined sapwoodle-trace.ended sapwoodle-trace.Reads.Asked sapwoodle-trace.Reads.Learnt
 
@@ -401,6 +475,10 @@ pub record EveryAnswer : Type 0 where
   pub next : NextDetermined
   pub bench-record : BenchRecordDetermined
   pub bench-run : BenchRunDetermined
+  pub wear-run : WearRunDetermined
+  pub wear-report : WearReportDetermined
+  pub wear-join : WearJoinDetermined
+  pub bench-run-worn : BenchRunWornDetermined
   pub sapwoodle-deliver : SapwoodleDeliverDetermined
   pub sapwoodle-step : SapwoodleStepDetermined
   pub sapwoodle-run : SapwoodleRunDetermined
@@ -414,4 +492,9 @@ pub record EveryAnswer : Type 0 where
   pub sapwoodle-driver-begin : SapwoodleDriverBeginDetermined
   pub sapwoodle-driver-next : SapwoodleDriverNextDetermined
   pub sapwoodle-bench-run : SapwoodleBenchRunDetermined
+  pub sapwoodle-groups : SapwoodleGroupsDetermined
+  pub sapwoodle-wear-run : SapwoodleWearRunDetermined
+  pub sapwoodle-wear-report : SapwoodleWearReportDetermined
+  pub sapwoodle-wear-join : SapwoodleWearJoinDetermined
+  pub sapwoodle-wear-bench-run : SapwoodleWearBenchRunDetermined
   pub sapwoodle-trace : SapwoodleTraceDetermined

@@ -9,13 +9,14 @@ use denote.Triple.Clauses.{Ended}
 use Rattle.parts.specs.Refusals.{verdictNumberOf}
 use Rattle.chip.specs.Memory.{mem}
 use Rattle.chip.specs.Model.{cutBy}
-use Rattle.chip.specs.Calls.{deliverOf, stepOf, runOf}
+use Rattle.chip.specs.Calls.{deliverOf, stepOf, runOf, passOf}
 use Rattle.image.specs.Calls.{saving, loading}
 use Rattle.hexfile.specs.Calls.{readingOf, writingOf}
 use Rattle.capture.specs.Calls.{seeingOf, listingOf}
 use Rattle.capture_promises.specs.Machines.{countingOf}
 use Rattle.trace.specs.Trace.{traceOf, layingOf}
 use Rattle.driver.specs.Step.{beginOf}
+use Rattle.parts.specs.Table.{factsOf}
 use Rattle.driver.specs.Machine.{ourDriver}
 use Rattle.bench.specs.Tape.{laidOf}
 use Rattle.bench_promises.specs.Calls.{BenchCall, ourBench}
@@ -26,9 +27,18 @@ use Rattle.sapwoodle.specs.Hexes.{hexReading, hexWriting}
 use Rattle.sapwoodle.specs.Captures.{busOf, capturing, listing, tallying}
 use Rattle.sapwoodle.specs.Drivers.{requestOf, beginning, asking}
 use Rattle.sapwoodle.specs.Runs.{benching}
+use Rattle.sapwoodle.specs.Wears.{wearing, reporting, joining, benchWearing}
+use Rattle.wear.specs.Wear.{closedOf}
+use Rattle.wear.specs.Calls.{wearOf, reportOf, joinOf}
+use Rattle.bench.specs.Worn.{benchWornOf}
 use Rattle.chip.proofs.deliver as deliver
 use Rattle.chip.proofs.step as step
 use Rattle.chip.proofs.run as chip-run
+use Rattle.chip.proofs.pass as chip-pass
+use Rattle.wear.proofs.mark as mark
+use Rattle.wear.proofs.run as wear-run
+use Rattle.wear.proofs.report as wear-report
+use Rattle.wear.proofs.join as wear-join
 use Rattle.image.proofs.save as save
 use Rattle.image.proofs.load as load
 use Rattle.hexfile.proofs.read as hex-read
@@ -41,6 +51,7 @@ use Rattle.driver.proofs.begin as begin
 use Rattle.driver.proofs.next as next
 use Rattle.bench.proofs.record as bench-record
 use Rattle.bench.proofs.run as bench-run
+use Rattle.bench.proofs.run_worn as bench-run-worn
 use Rattle.sapwoodle.proofs.chips.sapwoodle_deliver as sapwoodle-deliver
 use Rattle.sapwoodle.proofs.chips.sapwoodle_step as sapwoodle-step
 use Rattle.sapwoodle.proofs.chips.sapwoodle_run as sapwoodle-run
@@ -54,6 +65,10 @@ use Rattle.sapwoodle.proofs.captures.sapwoodle_capture_tally as sapwoodle-captu
 use Rattle.sapwoodle.proofs.drivers.sapwoodle_driver_begin as sapwoodle-driver-begin
 use Rattle.sapwoodle.proofs.drivers.sapwoodle_driver_next as sapwoodle-driver-next
 use Rattle.sapwoodle.proofs.runs.sapwoodle_bench_run as sapwoodle-bench-run
+use Rattle.sapwoodle.proofs.wears.sapwoodle_wear_run as sapwoodle-wear-run
+use Rattle.sapwoodle.proofs.wears.sapwoodle_wear_report as sapwoodle-wear-report
+use Rattle.sapwoodle.proofs.wears.sapwoodle_wear_join as sapwoodle-wear-join
+use Rattle.sapwoodle.proofs.wears.sapwoodle_wear_bench_run as sapwoodle-wear-bench-run
 use Rattle.sapwoodle.proofs.sapwoodle_trace as sapwoodle-trace
 use Rattle.determined.specs.Walked.{CountLearnt}
 use Rattle.determined.specs.Determined.{Learnt, AnswerTo, Allows}
@@ -86,6 +101,39 @@ RunIs =
     runOf (a .0) (a .1 .0) (cutBy (a .1 .1 .0) (a .1 .1 .1 .0 .now)) (a .1 .1 .1 .1 .0) (mem (a .1 .1 .1 .1 .1 .0 .now) (a .1 .1 .1 .1 .1 .1 .0 .now))
     (a .1 .1 .1 .1 .1 .1 .1 .0 .now) (a .1 .1 .1 .1 .1 .1 .1 .1 .0 .now) in
     record { result = m .answer; left = (tt, (tt, (tt, (tt, (tt, (m .mem .cells, (m .mem .ident, (tt, (m .answers, tt))))))))) })
+
+abbrev pub PassIs : Type 0
+PassIs =
+    Is chip-pass.ended chip-pass.Reads.Learnt
+    (λ κs a.
+    let m = passOf (a .0) (a .1 .0) (cutBy (a .1 .1 .0) (a .1 .1 .1 .0 .now)) (a .1 .1 .1 .1 .0) (mem (a .1 .1 .1 .1 .1 .0 .now) (a .1 .1 .1 .1 .1 .1 .0 .now)) (a .1 .1 .1 .1 .1 .1 .1 .0 .now) (a .1 .1 .1 .1 .1 .1 .1 .1 .0 .now) in
+    record { result = m .answer; left = (tt, (tt, (tt, (tt, (tt, (m .mem .cells, (m .mem .ident, (tt, (m .answers, tt))))))))) })
+
+-- ---- wear
+
+abbrev pub MarkIs : Type 0
+MarkIs = Is mark.ended mark.Reads.Learnt (λ κs a. record { result = tt; left = (tt, (tt, (closedOf (factsOf (a .0)) (a .1 .0) (a .1 .1 .0 .now), tt))) })
+
+abbrev pub WearRunIs : Type 0
+WearRunIs =
+    Is wear-run.ended wear-run.Reads.Learnt
+    (λ κs a.
+    let m = wearOf (a .0) (a .1 .0) (cutBy (a .1 .1 .0) (a .1 .1 .1 .0 .now)) (a .1 .1 .1 .1 .0) (mem (a .1 .1 .1 .1 .1 .0 .now) (a .1 .1 .1 .1 .1 .1 .0 .now)) (a .1 .1 .1 .1 .1 .1 .1 .0 .now) (a .1 .1 .1 .1 .1 .1 .1 .1 .0 .now) (a .1 .1 .1 .1 .1 .1 .1 .1 .1 .0 .now) in
+    record { result = m .run .answer; left = (tt, (tt, (tt, (tt, (tt, (m .run .mem .cells, (m .run .mem .ident, (m .counts, (tt, (m .run .answers, tt)))))))))) })
+
+abbrev pub WearReportIs : Type 0
+WearReportIs =
+    Is wear-report.ended wear-report.Reads.Learnt
+    (λ κs a.
+    let m = reportOf (a .0) (a .1 .0 .now) in
+    record { result = m; left = (tt, (tt, tt)) })
+
+abbrev pub WearJoinIs : Type 0
+WearJoinIs =
+    Is wear-join.ended wear-join.Reads.Learnt
+    (λ κs a.
+    let m = joinOf (a .0) (a .1 .0 .now) (a .1 .1 .0 .now) in
+    record { result = m .verdict; left = (tt, (m .counts, (tt, tt))) })
 
 -- ---- image, Intel HEX, captures and trace
 
@@ -165,6 +213,13 @@ BenchRunIsOurBench =
     let stored = mem (a .1 .1 .1 .1 .0 .now) (a .1 .1 .1 .1 .1 .0 .now) in
     let k : BenchCall = record { request = a .0; own = a .1 .0; d = a .1 .1 .0; chip = a .1 .1 .1 .0; mem = stored; buffer = a .1 .1 .1 .1 .1 .1 .0 .now } in
     record { result = ourBench .report k; left = (tt, (tt, (tt, (tt, (ourBench .memory k .cells, (ourBench .memory k .ident, (ourBench .buffer k, tt))))))) })
+
+abbrev pub BenchRunWornIs : Type 0
+BenchRunWornIs =
+    Is bench-run-worn.ended bench-run-worn.Reads.Learnt
+    (λ κs a.
+    let m = benchWornOf (a .0) (a .1 .0) (a .1 .1 .0) (a .1 .1 .1 .0) (mem (a .1 .1 .1 .1 .0 .now) (a .1 .1 .1 .1 .1 .0 .now)) (a .1 .1 .1 .1 .1 .1 .0 .now) (a .1 .1 .1 .1 .1 .1 .1 .0 .now) in
+    record { result = m .left .report; left = (tt, (tt, (tt, (tt, (m .left .mem .cells, (m .left .mem .ident, (m .left .buffer, (m .counts, tt)))))))) })
 
 -- the tape is laid into the two lent buffers
 abbrev pub BenchRecordIsOurBench : Type 0
@@ -278,6 +333,34 @@ SapwoodleBenchRunIs =
     let m = benching (requestOf (a .0) (a .1 .0) (a .1 .1 .0) (a .1 .1 .1 .0) (a .1 .1 .1 .1 .0) (a .1 .1 .1 .1 .1 .0)) (a .1 .1 .1 .1 .1 .1 .0) (a .1 .1 .1 .1 .1 .1 .1 .0) (a .1 .1 .1 .1 .1 .1 .1 .1 .0 .now) (mem (a .1 .1 .1 .1 .1 .1 .1 .1 .1 .0 .now) (a .1 .1 .1 .1 .1 .1 .1 .1 .1 .1 .0 .now)) (a .1 .1 .1 .1 .1 .1 .1 .1 .1 .1 .1 .0 .now) in
     record { result = m .number; left = (tt, (tt, (tt, (tt, (tt, (tt, (tt, (tt, (m .state, (m .stored .cells, (m .stored .ident, (m .buffer, (m .place, (m .polls, (m .bytes, (m .cycles, (m .clocks, tt))))))))))))))))) })
 
+abbrev pub SapwoodleWearRunIs : Type 0
+SapwoodleWearRunIs =
+    Is sapwoodle-wear-run.ended sapwoodle-wear-run.Reads.Learnt
+    (λ κs a.
+    let m = wearing (a .0) (a .1 .0) (a .1 .1 .0 .now) (a .1 .1 .1 .0) (a .1 .1 .1 .1 .0 .now) (mem (a .1 .1 .1 .1 .1 .0 .now) (a .1 .1 .1 .1 .1 .1 .0 .now)) (a .1 .1 .1 .1 .1 .1 .1 .0 .now) (a .1 .1 .1 .1 .1 .1 .1 .1 .0 .now) (a .1 .1 .1 .1 .1 .1 .1 .1 .1 .0 .now) in
+    record { result = m .run .number; left = (tt, (tt, (tt, (tt, (m .run .state, (m .run .stored .cells, (m .run .stored .ident, (m .counts, (tt, (m .run .answers, (m .run .cycles, (m .run .place, tt)))))))))))) })
+
+abbrev pub SapwoodleWearReportIs : Type 0
+SapwoodleWearReportIs =
+    Is sapwoodle-wear-report.ended sapwoodle-wear-report.Reads.Learnt
+    (λ κs a.
+    let m = reporting (a .0) (a .1 .0 .now) in
+    record { result = m .number; left = (tt, (tt, (m .total, (m .group, (m .count, tt))))) })
+
+abbrev pub SapwoodleWearJoinIs : Type 0
+SapwoodleWearJoinIs =
+    Is sapwoodle-wear-join.ended sapwoodle-wear-join.Reads.Learnt
+    (λ κs a.
+    let m = joining (a .0) (a .1 .0 .now) (a .1 .1 .0 .now) in
+    record { result = m .number; left = (tt, (m .counts, (tt, tt))) })
+
+abbrev pub SapwoodleWearBenchRunIs : Type 0
+SapwoodleWearBenchRunIs =
+    Is sapwoodle-wear-bench-run.ended sapwoodle-wear-bench-run.Reads.Learnt
+    (λ κs a.
+    let m = benchWearing (requestOf (a .0) (a .1 .0) (a .1 .1 .0) (a .1 .1 .1 .0) (a .1 .1 .1 .1 .0) (a .1 .1 .1 .1 .1 .0)) (a .1 .1 .1 .1 .1 .1 .0) (a .1 .1 .1 .1 .1 .1 .1 .0) (a .1 .1 .1 .1 .1 .1 .1 .1 .0 .now) (mem (a .1 .1 .1 .1 .1 .1 .1 .1 .1 .0 .now) (a .1 .1 .1 .1 .1 .1 .1 .1 .1 .1 .0 .now)) (a .1 .1 .1 .1 .1 .1 .1 .1 .1 .1 .1 .0 .now) (a .1 .1 .1 .1 .1 .1 .1 .1 .1 .1 .1 .1 .0 .now) in
+    record { result = m .bench .number; left = (tt, (tt, (tt, (tt, (tt, (tt, (tt, (tt, (m .bench .state, (m .bench .stored .cells, (m .bench .stored .ident, (m .bench .buffer, (m .counts, (m .bench .place, (m .bench .polls, (m .bench .bytes, (m .bench .cycles, (m .bench .clocks, tt)))))))))))))))))) })
+
 abbrev pub SapwoodleTraceIs : Type 0
 SapwoodleTraceIs =
     Is sapwoodle-trace.ended sapwoodle-trace.Reads.Learnt
@@ -303,6 +386,10 @@ pub record EveryMachine : Type 0 where
   pub next : NextIsOurDriver
   pub bench-record : BenchRecordIsOurBench
   pub bench-run : BenchRunIsOurBench
+  pub wear-run : WearRunIs
+  pub wear-report : WearReportIs
+  pub wear-join : WearJoinIs
+  pub bench-run-worn : BenchRunWornIs
   pub sapwoodle-deliver : SapwoodleDeliverIs
   pub sapwoodle-step : SapwoodleStepIs
   pub sapwoodle-run : SapwoodleRunIs
@@ -316,4 +403,8 @@ pub record EveryMachine : Type 0 where
   pub sapwoodle-driver-begin : SapwoodleDriverBeginIs
   pub sapwoodle-driver-next : SapwoodleDriverNextIs
   pub sapwoodle-bench-run : SapwoodleBenchRunIs
+  pub sapwoodle-wear-run : SapwoodleWearRunIs
+  pub sapwoodle-wear-report : SapwoodleWearReportIs
+  pub sapwoodle-wear-join : SapwoodleWearJoinIs
+  pub sapwoodle-wear-bench-run : SapwoodleWearBenchRunIs
   pub sapwoodle-trace : SapwoodleTraceIs

@@ -52,7 +52,8 @@ pub fn unread(word: usize) {
     complain(word, b" cannot be read\n");
 }
 
-fn open_named(name: &[u8]) -> i32 {
+// The file of this name, opened; below 0 where it cannot be, and standard error has the reason.
+pub fn open_named(name: &[u8]) -> i32 {
     let fd = os::open_read(name);
     if fd < 0 {
         warn(b"sapwoodle: ");

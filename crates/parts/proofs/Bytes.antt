@@ -1,7 +1,7 @@
 -- Laws of flags as numbers, and of bytes.
 -- Assumes nothing.
 use Prim.Native.Nat.{ℕ, zero, suc, _+_, _≤_, _<_}
-use mathlib.Core.Path.{_≡_, _∙_, refl}
+use mathlib.Core.Path.{_≡_, _∙_, refl, sym, ap}
 use mathlib.Core.Bool.{Bool, true, false, _&&_}
 use mathlib.Core.List.{List, [], _∷_, _++_, append-nil}
 use native.Mathlib.Nat.{zero-add}
@@ -10,9 +10,10 @@ use native.Mathlib.Omega.{arith}
 use lib.ListN.{length, getD, take, drop, drop-of-length-le}
 use lib.Seq.{sets, sets-eq, drop-cons}
 use lib.Dec.{eqb, ltb}
-use borrow.Author.Tests.{eqb-true}
-use Rattle.parts.specs.Bytes.{flagOf, AllBelow, sameOf, allBelowOf}
+use borrow.Author.Tests.{eqb-true, lt-ltb, ltb-true, ltb-false}
+use Rattle.parts.specs.Bytes.{flagOf, AllBelow, sameOf, allBelowOf, upOf, topped}
 use Rattle.parts.proofs.Tests.{and-both}
+use Rattle.parts.proofs.Laws.{branch}
 
 pub flag-below : (b : Bool) → flagOf b < 2
 flag-below false = omega arith
@@ -89,3 +90,23 @@ same-eq (x ∷ k) (y ∷ l) h =
 -- a list stored over the whole of another
 pub sets-whole : (k s : List ℕ) → length k ≡ length s → sets k 0 s ≡ s
 sets-whole k s e = let short : length k ≤ length s = omega arith in sets-eq s k 0 (omega arith) ∙ rw (zero-add, drop-of-length-le k short) (append-nil s)
+
+-- ---- a count that stays at the top of its 32 bits
+
+pub top-low : (n : ℕ) → n < 4294967296 → topped n ≡ n
+top-low n h = rw (lt-ltb n 4294967296 h) refl
+
+pub top-high : (n : ℕ) → 4294967295 ≤ n → topped n ≡ 4294967295
+top-high n h = branch (λ (x : ℕ). x ≡ 4294967295) (ltb n 4294967296) (λ e. omega (arith, ltb-true n 4294967296 e)) (λ _. refl)
+
+pub up-wide : (n : ℕ) (on : Bool) → n < 4294967296 → upOf n on < 4294967296
+unfolding upOf
+up-wide n false h = h
+up-wide n true h = branch (λ (x : ℕ). x < 4294967296) (ltb n 4294967295) (λ e. omega (arith, ltb-true n 4294967295 e)) (λ _. h)
+
+pub up-step : (n k : ℕ) (on : Bool) → n < 4294967296 → topped (upOf n on + k) ≡ topped (n + (flagOf on + k))
+unfolding upOf
+up-step n k false h = let e : n + k ≡ n + (0 + k) = omega arith in ap topped e
+up-step n k true h =
+    branch (λ (x : ℕ). topped (x + k) ≡ topped (n + (1 + k))) (ltb n 4294967295) (λ _. let e : n + 1 + k ≡ n + (1 + k) = omega arith in ap topped e)
+    (λ e. let l = ltb-false n 4294967295 e in top-high (n + k) (omega (arith, l)) ∙ sym (top-high (n + (1 + k)) (omega (arith, l))))

@@ -6,7 +6,7 @@ ghost use Rattle.parts.specs.Table.{rowOf, noPart, tableOf, factsOf, nam
 ghost use Rattle.parts.specs.Sound.{Sound};
 ghost use Rattle.parts.specs.Events.{eventWith, eventRightOf, lossSizeOf};
 ghost use Rattle.parts.specs.Refusals.{entryOf, numberOf, rankOf, spotOf, placeTold, verdictNumberOf, verdictPlaceOf, claimOf, soonerOf, lentVerdictOf, lossVerdictOf};
-ghost use Rattle.parts.specs.Bytes.{flagOf, allBelowOf};
+ghost use Rattle.parts.specs.Bytes.{flagOf, allBelowOf, upOf};
 ghost use mathlib.Core.Bool.{true};
 
 // The address of a byte of the array.
@@ -269,6 +269,18 @@ pub fn byte_at(s: &[u8], at: usize) -> u8
         return s[at];
     }
     0
+}
+
+// One more, where `on`; a count stays at the top of its 32 bits.
+pub fn up(n: u32, on: bool) -> u32
+    ensures { λ r. ⌜ r ≡ upOf n on ⌝ }
+{
+    if on {
+        if n < 4294967295 {
+            return n + 1;
+        }
+    }
+    n
 }
 
 // A flag, or the level of a clock, as a number.

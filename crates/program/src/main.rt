@@ -157,11 +157,15 @@ fn usage(fd: i32) {
     );
     io::write_all(
         fd,
-        b"       sapwoodle hex check PART FILE                 an Intel HEX file, looked at. Refused, each says the line: 16 no record, 17 a wrong\n                                                     sum, 18 overlap or beyond the array, 19 no end record or text behind it\n       sapwoodle hex image PART FILE --save FILE     a chip as delivered with its array, saved as an EPR image\n       sapwoodle hex text IMAGE                      the array of an EPR image, as Intel HEX\n       sapwoodle help           prints this\n       sapwoodle version        prints the version\n--image FILE of write, read and capture takes an EPR image or an Intel HEX file; a file that is read can be - : standard input.\n--capture FILE of write and read draws the wires of the run, for capture or for sigrok.\n--cut K of write loses the power before event K, counted from 0 as --events shows them, and tells each byte that is then not as before. In a\ncycle each error-correction group with a written byte comes up as a page that is lent: --page FILE has its bytes, --fill HH is each of them;\nwithout either each byte of the page comes up turned into its complement. --lock: a locking cycle leaves the lock (a write begins none; bench shows one).\nRefused: 3 for that page's length.\n",
+        b"       sapwoodle hex check PART FILE                 an Intel HEX file, looked at. Refused, each says the line: 16 no record, 17 a wrong\n                                                     sum, 18 overlap or beyond the array, 19 no end record or text behind it\n       sapwoodle hex image PART FILE --save FILE     a chip as delivered with its array, saved as an EPR image\n       sapwoodle hex text IMAGE                      the array of an EPR image, as Intel HEX\n       sapwoodle wear TRACE..                        how many ended or cut cycles touched each group of the array, over traces that are\n                                                     run one after another, each from delivery\n       sapwoodle help           prints this\n       sapwoodle version        prints the version\n--image FILE of write, read and capture takes an EPR image or an Intel HEX file; a file that is read can be - : standard input.\n--capture FILE of write and read draws the wires of the run, for capture or for sigrok.\n--cut K of write loses the power before event K, counted from 0 as --events shows them, and tells each byte that is then not as before. In a\ncycle each error-correction group with a written byte comes up as a page that is lent: --page FILE has its bytes, --fill HH is each of them;\nwithout either each byte of the page comes up turned into its complement. --lock: a locking cycle leaves the lock (a write begins none; bench shows one).\nRefused: 3 for that page's length.\n",
     );
     io::write_all(
         fd,
         b"A capture is a byte a sample, bit 0 the clock and bit 1 data, as sigrok-cli -i FILE.sr -O binary writes it; --scl BIT --sda BIT choose two\nbits of more channels. It is read as on a bus, where a rise is a clock if data then stay until the clock falls; with --letter every rise is\na clock. Another chip on the wires is marked too. What begins inside a transfer counts its bytes from the first sample until the first\nStart. A capture of any length goes through, in pieces that end with a Stop: 1048575 changes without a Stop are the most.\n",
+    );
+    io::write_all(
+        fd,
+        b"wear [--counts FILE].. [--save FILE] [--all] [--list FILE].. TRACE.. tells the total, the group with most, as a share of the 4000000 cycles that\nthe data sheets name at 25 degrees, and the ten most worn groups; with --all each worn group's number and count instead. A cycle counts once for\neach group in which it has a byte, when it ends (E) or is cut (R). --list FILE has names of traces, one a line. --save FILE keeps the counts,\n--counts FILE goes on from them, and several are joined. All are of one part: another is refused 3. What is refused is named, and nothing is told\nor saved then; 12: no file of counts. A count stays at 4294967295: 'or more' is told then.\n",
     );
     io::write_all(
         fd,
@@ -232,6 +236,11 @@ fn choose_other(word: &[u8], count: usize) {
         hex_station::hex_command(2, count);
         return;
     }
+    let worn = check::same(word, b"wear");
+    if worn {
+        wear_station::wear_command(2, count);
+        return;
+    }
     unknown(word);
 }
 
@@ -242,7 +251,7 @@ fn choose(word: &[u8]) {
     }
     let version = check::same(word, b"version");
     if version {
-        return put(b"sapwoodle 0.12.0\n");
+        return put(b"sapwoodle 0.13.0\n");
     }
     let help = check::same(word, b"help");
     if help {

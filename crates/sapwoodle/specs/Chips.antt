@@ -13,7 +13,7 @@ use Rattle.parts.specs.Refusals.{verdictNumberOf, verdictPlaceOf}
 use Rattle.chip.specs.Memory.{Mem}
 use Rattle.chip.specs.Model.{PowerCut, cutBy}
 use Rattle.chip.specs.Delivery.{standbyOf}
-use Rattle.chip.specs.Calls.{deliverVerdictOf, deliverMem, stepOf, runOf}
+use Rattle.chip.specs.Calls.{RunLeft, deliverVerdictOf, deliverMem, stepOf, runOf}
 use Rattle.pack_chip.specs.Layout.{chipLength, unpackedChipOf}
 use Rattle.sapwoodle.specs.Answers.{chipBytesAfter, unheldOf}
 
@@ -64,16 +64,20 @@ stepping part enable page lock s m e =
 
 -- ---- a list of events
 
-abbrev pub running : ℕ → ℕ → List ℕ → ℕ → List ℕ → Mem → List ℕ → List ℕ → BytesAfterRun
-running part enable page lock s m es a =
+-- of the state's bytes, and of what the run answers and leaves
+abbrev pub ranBytes : List ℕ → RunLeft → BytesAfterRun
+ranBytes s left =
     record {
-      number = verdictNumberOf (runOf part enable (cutFrom page lock) (unpackedChipOf s) m es a .answer .verdict);
-      cycles = runOf part enable (cutFrom page lock) (unpackedChipOf s) m es a .answer .cycles;
-      place = verdictPlaceOf (runOf part enable (cutFrom page lock) (unpackedChipOf s) m es a .answer .verdict);
-      state = chipBytesAfter (runOf part enable (cutFrom page lock) (unpackedChipOf s) m es a .answer .verdict) (runOf part enable (cutFrom page lock) (unpackedChipOf s) m es a .answer .chip) s;
-      stored = runOf part enable (cutFrom page lock) (unpackedChipOf s) m es a .mem;
-      answers = runOf part enable (cutFrom page lock) (unpackedChipOf s) m es a .answers;
+      number = verdictNumberOf (left .answer .verdict);
+      cycles = left .answer .cycles;
+      place = verdictPlaceOf (left .answer .verdict);
+      state = chipBytesAfter (left .answer .verdict) (left .answer .chip) s;
+      stored = left .mem;
+      answers = left .answers;
     }
+
+abbrev pub running : ℕ → ℕ → List ℕ → ℕ → List ℕ → Mem → List ℕ → List ℕ → BytesAfterRun
+running part enable page lock s m es a = ranBytes s (runOf part enable (cutFrom page lock) (unpackedChipOf s) m es a)
 
 -- ---- delivery
 

@@ -6,4 +6,5 @@ pub mod Hexes
 pub mod Captures
 pub mod Drivers
 pub mod Runs
+pub mod Wears
 pub mod Promises

@@ -8,7 +8,7 @@ use Rattle.state.specs.declared.Chip.{Chip}
 use Rattle.chip.specs.Memory.{Mem}
 use Rattle.pack_chip.specs.Layout.{packChipInto, holdsChipOf, unpackedChipOf}
 use Rattle.driver.specs.declared.Request.{Request}
-use Rattle.bench.specs.Calls.{benchOf}
+use Rattle.bench.specs.Calls.{BenchLeft, benchOf}
 
 pub record BytesAfterBench : Type 0 where
   pub number : ℕ
@@ -25,17 +25,21 @@ pub record BytesAfterBench : Type 0 where
 unfoldable pub chipBytesAfterBench : List ℕ → Chip → List ℕ
 chipBytesAfterBench s c = cond (holdsChipOf s) (packChipInto s c) s
 
+-- of the state's bytes, and of what the run answers and leaves
+abbrev pub benchedBytes : List ℕ → BenchLeft → BytesAfterBench
+benchedBytes s left =
+    record {
+      number = verdictNumberOf (left .report .verdict);
+      place = verdictPlaceOf (left .report .verdict);
+      polls = left .report .polls;
+      bytes = left .report .bytes;
+      cycles = left .report .cycles;
+      clocks = left .report .clocks;
+      state = chipBytesAfterBench s (left .report .chip);
+      stored = left .mem;
+      buffer = left .buffer;
+    }
+
 -- of the request, the chip's own enable, d, the state's bytes, what is stored and the buffer
 abbrev pub benching : Request → ℕ → ℕ → List ℕ → Mem → List ℕ → BytesAfterBench
-benching r enable d s m b =
-    record {
-      number = verdictNumberOf (benchOf r enable d (unpackedChipOf s) m b .report .verdict);
-      place = verdictPlaceOf (benchOf r enable d (unpackedChipOf s) m b .report .verdict);
-      polls = benchOf r enable d (unpackedChipOf s) m b .report .polls;
-      bytes = benchOf r enable d (unpackedChipOf s) m b .report .bytes;
-      cycles = benchOf r enable d (unpackedChipOf s) m b .report .cycles;
-      clocks = benchOf r enable d (unpackedChipOf s) m b .report .clocks;
-      state = chipBytesAfterBench s (benchOf r enable d (unpackedChipOf s) m b .report .chip);
-      stored = benchOf r enable d (unpackedChipOf s) m b .mem;
-      buffer = benchOf r enable d (unpackedChipOf s) m b .buffer;
-    }
+benching r enable d s m b = benchedBytes s (benchOf r enable d (unpackedChipOf s) m b)

@@ -29,7 +29,7 @@ pub extern "C" fn sapwoodle_deliver(
 }
 
 // What is given for a loss of power (document 02, §5): no page and flag 0 are the old contents and no lock.
-fn loss_from(length: usize, lock: u8) -> Loss
+pub(crate) fn loss_from(length: usize, lock: u8) -> Loss
     ensures { λ r. ⌜ r ≡ lossFrom length lock ⌝ }
 {
     if lock != 0 {

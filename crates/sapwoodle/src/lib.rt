@@ -6,6 +6,7 @@ pub mod drivers;
 pub mod hexes;
 pub mod images;
 pub mod runs;
+pub mod wears;
 
 ghost use mathlib.Core.Path.{_≡_};
 ghost use Rattle.parts.specs.Table.{factsOf, idSizeOf};

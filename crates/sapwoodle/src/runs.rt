@@ -6,7 +6,7 @@ ghost use Rattle.sapwoodle.specs.Runs.{chipBytesAfterBench, benching};
 use crate::drivers;
 use state::Chip;
 
-fn keep(state: &mut [u8], chip: Chip)
+pub(crate) fn keep(state: &mut [u8], chip: Chip)
     ensures { λ _. ⌜ now (state .exit) ≡ chipBytesAfterBench (now (state .entry)) chip ⌝ }
 {
     let held = pack_chip::holds(state);

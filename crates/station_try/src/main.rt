@@ -35,6 +35,10 @@ fn choose(word: &[u8], next: usize, end: usize) {
         hex_station::hex_command(next, end);
         return;
     }
+    if check::same(word, b"wear") {
+        wear_station::wear_command(next, end);
+        return;
+    }
     station::write_command(next, end);
 }
 

@@ -2,6 +2,7 @@
 // one command answers with.
 pub mod answer;
 pub mod report;
+pub mod wearing;
 
 use libc::STDERR_FILENO;
 use libc::STDIN_FILENO;
@@ -112,12 +113,14 @@ const FILES: usize = 23;
 
 const BEHIND: usize = 24;
 
-// Two more that a word can be wrong as, and the word behind `hex`.
+// Two more that a word can be wrong as, the word behind `hex`, and that `wear` names nothing that is read.
 const LONG: usize = 25;
 
 const MISSING: usize = 26;
 
 const HEX: usize = 27;
+
+const SOURCES: usize = 28;
 
 const NONE: usize = 255;
 
@@ -145,7 +148,7 @@ fn tell(text: &[u8]) {
 
 fn usage() {
     tell(
-        b"usage: sapwoodle write PART ENABLE ADDRESS HEXBYTES [option ..]    HEXBYTES - : the bytes from standard input\n       sapwoodle read PART ENABLE ADDRESS LENGTH [option ..]\n       sapwoodle capture PART ENABLE FILE.. [capture's option ..]\n       sapwoodle power PART ADDRESS LENGTH [--ident] [--enable N]\n       sapwoodle bench [PART [--enable N]]\n       sapwoodle hex check PART FILE\n       sapwoodle hex image PART FILE --save FILE\n       sapwoodle hex text IMAGE\noptions: --ident --events --budget N --ends-at D --pin high|low|floating --chip-enable N --image FILE --save FILE --capture FILE\nwrite's options too: --cut K [--page FILE | --fill HH] [--lock]\ncapture's options: --letter --events --scl BIT --sda BIT --pin high|low|floating --image FILE --save FILE\n--image takes an EPR image or an Intel HEX file; a file that is read can be - : standard input\n",
+        b"usage: sapwoodle write PART ENABLE ADDRESS HEXBYTES [option ..]    HEXBYTES - : the bytes from standard input\n       sapwoodle read PART ENABLE ADDRESS LENGTH [option ..]\n       sapwoodle capture PART ENABLE FILE.. [capture's option ..]\n       sapwoodle power PART ADDRESS LENGTH [--ident] [--enable N]\n       sapwoodle bench [PART [--enable N]]\n       sapwoodle hex check PART FILE\n       sapwoodle hex image PART FILE --save FILE\n       sapwoodle hex text IMAGE\n       sapwoodle wear [--counts FILE].. [--save FILE] [--all] [--list FILE].. TRACE..\noptions: --ident --events --budget N --ends-at D --pin high|low|floating --chip-enable N --image FILE --save FILE --capture FILE\nwrite's options too: --cut K [--page FILE | --fill HH] [--lock]\ncapture's options: --letter --events --scl BIT --sda BIT --pin high|low|floating --image FILE --save FILE\n--image takes an EPR image or an Intel HEX file; a file that is read can be - : standard input\n",
     );
 }
 
@@ -163,6 +166,7 @@ fn reason(kind: usize) {
         LONG => tell(b"is too long\n"),
         MISSING => tell(b"is missing\n"),
         HEX => tell(b"is none of check, image, text, for hex\n"),
+        SOURCES => tell(b"is missing: wear wants a TRACE, --list FILE or --counts FILE\n"),
         _ => tell(b"is no number, decimal or 0x\n"),
     }
 }

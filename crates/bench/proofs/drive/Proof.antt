@@ -9,7 +9,7 @@ begin-requires : tie.Need-begin-requires
 begin-requires c κs = tt
 
 go-requires : tie.Need-go-requires
-go-requires c κs = (c .before .before .before .before .before .before .before .before .before .before .before .before .pre .0, ((refl, refl), c .before .before .before .before .before .before .before .before .before .before .before .before .pre .1))
+go-requires c κs = (c .before .before .before .before .before .before .before .before .before .before .before .before .before .before .pre .0, ((refl, refl), c .before .before .before .before .before .before .before .before .before .before .before .before .before .before .pre .1))
 
 reported-requires : tie.Need-reported-requires
 reported-requires c κs = tt
@@ -29,13 +29,16 @@ same-length-4 c = search needs
 same-length-5 : tie.Need-same-length-5
 same-length-5 c = search needs
 
+same-length-6 : tie.Need-same-length-6
+same-length-6 c = search needs
+
 returns : tie.Need-returns
 returns c =
-    let a = c .before .before .before .before .before .before .before .before .before .before .before .before .before .before .before .before .before .before .before .before .before .before .before .before .before .args in
-    let g = c .before .before .before .before .before .before .before .before .before .before .before .before .before .before .before .before .before .before .before .begin in
-    let w = c .before .before .before .before .before .before .before .before .before .before .before .before .go in
+    let a = c .before .before .before .before .before .before .before .before .before .before .before .before .before .before .before .before .before .before .before .before .before .before .before .before .before .before .before .before .before .args in
+    let g = c .before .before .before .before .before .before .before .before .before .before .before .before .before .before .before .before .before .before .before .before .before .before .begin in
+    let w = c .before .before .before .before .before .before .before .before .before .before .before .before .before .before .go in
     let x = driven _ _ _ _ (a .request) (a .chip) _ _ _ _ (g .result) (w .result .held) _ (w .result .answer) (c .reported .result) (g .ensures) (w .ensures .0) (w .ensures .1 .0) (c .reported .ensures) in
-    let y = taped _ _ _ _ (a .request) (a .chip) _ _ (g .result) (g .ensures) _ _ _ _ _ (w .ensures .1 .1 .0) (w .ensures .1 .1 .1 .0) (w .ensures .1 .1 .1 .1) in
+    let y = taped _ _ _ _ (a .request) (a .chip) _ _ (g .result) (g .ensures) _ _ _ _ _ _ _ (w .ensures .1 .1 .0) (w .ensures .1 .1 .1 .0) (w .ensures .1 .1 .1 .1 .0) (w .ensures .1 .1 .1 .1 .1) in
     (x .0, (x .1 .0, (x .1 .1, y)))
 
 pub drive-spec : {M : Type 1} → statement M
@@ -50,4 +53,5 @@ drive-spec =
     same-length-3
     same-length-4
     same-length-5
+    same-length-6
     returns)

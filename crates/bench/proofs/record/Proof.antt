@@ -25,10 +25,16 @@ slice-aggregate-bytes c =
     let short : ((c .before .before .before .before .before .before .before .before .before .args .request .length) ≤ length (now (c .before .before .before .before .before .before .before .before .before .args .buffer))) = run-length _ _ _ _ _ _ _ (sym (c .before .before .before .judge .ensures) ∙ c .before .enum-told .given .1) in
     simp length-take (omega arith)
 
+array-borrow-prefix-none : tie.Need-array-borrow-prefix-none
+array-borrow-prefix-none c = search needs
+
+slice-aggregate-counts : tie.Need-slice-aggregate-counts
+slice-aggregate-counts c = search needs
+
 drive-requires : tie.Need-drive-requires
 drive-requires c κs =
-    let v = (sym (c .before .before .before .before .before .before .before .judge .ensures) ∙ c .before .before .before .before .before .enum-told .given .1) in
-    let t : Typed (c .before .before .before .before .before .before .before .before .before .before .before .before .before .args .chip) = record { byte = search (needs, c .before .before .before .before .before .before .before .before .before .before .before .before .before .good .1 .1 .1 .0); latches = search (needs, c .before .before .before .before .before .before .before .before .before .before .before .before .before .good .1 .1 .1 .0) } in
+    let v = (sym (c .before .before .before .before .before .before .before .before .judge .ensures) ∙ c .before .before .before .before .before .before .enum-told .given .1) in
+    let t : Typed (c .before .before .before .before .before .before .before .before .before .before .before .before .before .before .args .chip) = record { byte = search (needs, c .before .before .before .before .before .before .before .before .before .before .before .before .before .before .good .1 .1 .1 .0); latches = search (needs, c .before .before .before .before .before .before .before .before .before .before .before .before .before .before .good .1 .1 .1 .0) } in
     (run-fit _ _ _ _ _ _ _ t v, run-first _ _ _ _ _ _ _ v)
 
 enum-known-verdict : tie.Need-enum-known-verdict
@@ -55,9 +61,10 @@ same-length-5 c = search needs
 returns : tie.Need-returns
 unfolding finalOf
 returns c =
-    let v = (sym (c .before .before .before .before .before .before .before .before .before .before .before .before .before .before .before .before .before .before .judge .ensures) ∙ c .before .before .before .before .before .before .before .before .before .before .before .before .before .before .before .before .enum-told .given .1) in
-    let t = c .before .before .before .before .before .before .before .before .before .before .drive .ensures in
-    (rw v (t .0), (rw v (t .1 .0), (rw (v, t .1 .1 .0) refl, rw v (t .1 .1 .1))))
+    let v = (sym (c .before .before .before .before .before .before .before .before .before .before .before .before .before .before .before .before .before .before .before .before .judge .ensures) ∙ c .before .before .before .before .before .before .before .before .before .before .before .before .before .before .before .before .before .before .enum-told .given .1) in
+    let t = c .before .before .before .before .before .before .before .before .before .before .before .drive .ensures in
+    let z = t .1 .1 .1 in
+    (rw v (t .0), (rw v (t .1 .0), (rw (v, t .1 .1 .0) refl, rw v (z .0, (z .1 .0, z .1 .1 .0)))))
 
 returns-2 : tie.Need-returns-2
 returns-2 c =
@@ -73,6 +80,8 @@ record-spec =
     enum-told
     slice-relend-prefix-bytes
     slice-aggregate-bytes
+    array-borrow-prefix-none
+    slice-aggregate-counts
     drive-requires
     enum-known-verdict
     refused-requires

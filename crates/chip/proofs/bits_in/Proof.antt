@@ -64,7 +64,7 @@ loop-again c =
       omega arith,
       simp length-set (w .inv .1),
       λ f m v.
-          coast-on f m (now (a .events)) _ _ (a .from) (taking (a .core) v (w .n) (w .x)) _ (w .answers) (w .i) _ (w .inv .2 f m v) (omega arith) (omega arith)
+          coast-on f m (now (a .events)) _ _ (a .from) (taking (a .core) v (w .n) (w .x)) _ (w .answers) (w .i) _ (w .inv .2 f m v) (omega arith) (omega arith) (omega arith)
           (passes-in f m (a .core) v (w .n) (w .x) _ (omega arith) (omega arith)),
     )
 

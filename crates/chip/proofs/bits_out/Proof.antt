@@ -61,7 +61,7 @@ loop-again c =
     let test = c .before .before .before .before .before .before .loop-test .taken in (
       omega (arith, test),
       simp length-set (w .inv .1),
-      coast-on (factsOf (a .part)) (mem (now (a .array)) (now (a .id))) (now (a .events)) _ _ (a .from) (sending (w .c) (a .target) (w .n) (w .x)) _ (w .answers) (w .i) _ (w .inv .2) test (omega (arith, test, w .inv .1, c .before .before .before .before .before .before .before .before .before .before .before .before .pre .1))
+      coast-on (factsOf (a .part)) (mem (now (a .array)) (now (a .id))) (now (a .events)) _ _ (a .from) (sending (w .c) (a .target) (w .n) (w .x)) _ (w .answers) (w .i) _ (w .inv .2) test (omega (arith, test, w .inv .1, c .before .before .before .before .before .before .before .before .before .before .before .before .pre .1)) (omega (arith, c .before .before .before .before .if1 .left))
           (passes-out (factsOf (a .part)) (mem (now (a .array)) (now (a .id))) (w .c) (a .target) (w .n) (w .x) (s .result) (rw (s .ensures, c .before .before .shown .ensures)) _ (omega (arith, c .before .before .before .before .if1 .left)) (omega (arith, c .before .before .before .if2 .left))),
     )
 

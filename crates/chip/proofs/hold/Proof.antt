@@ -1,4 +1,4 @@
-use Rattle.chip.proofs.Quick.{coast-none, coast-on, passes-ignored}
+use Rattle.chip.proofs.Quick.{coast-none, coast-on, ignores-most, passes-ignored}
 use Rattle.chip.specs.Onward.{Coasts, ignoresOf}
 use Rattle.chip.specs.Memory.{Mem}
 use Rattle.line.specs.declared.Line.{Line}
@@ -52,7 +52,7 @@ loop-again c =
       omega arith,
       simp length-set (w .inv .1),
       λ f m l h.
-          coast-on f m (now (a .events)) l _ (a .from) l l (w .answers) (w .i) _ (w .inv .2 f m l h) (omega arith) (omega arith)
+          coast-on f m (now (a .events)) l _ (a .from) l l (w .answers) (w .i) _ (w .inv .2 f m l h) (omega arith) (omega arith) (omega (arith, h, ignores-most (l .phase)))
           (passes-ignored f m l _ (omega (arith, h))),
     )
 

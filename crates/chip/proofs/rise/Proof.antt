@@ -20,7 +20,7 @@ touched-requires c κs =
     let l = c .before .loop in
     let pre = c .before .before .before .pre in
     let room = group-room (l .i) (l .j) _ _ (l .inv .0) (c .loop-test .taken) (pre .2) in
-    (omega (arith, room, l .inv .0, pre .0), pre .3)
+    omega (arith, room, l .inv .0, pre .0)
 
 lift-requires : tie.Need-lift-requires Inv-loop μ-loop
 lift-requires c κs =

@@ -1,0 +1,3 @@
+pub mod Wear
+pub mod Report
+pub mod Calls

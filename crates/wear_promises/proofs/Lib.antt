@@ -1,0 +1,12 @@
+pub mod Landed
+pub mod Inside
+pub mod Worn
+pub mod Times
+pub mod Counts
+pub mod Totals
+pub mod Traces
+pub mod Beside
+pub mod Told
+pub mod Pinned
+pub mod WrongCounters
+pub mod Histories

@@ -1,0 +1,5 @@
+pub mod History
+pub mod Counts
+pub mod Told
+pub mod WrongCounters
+pub mod Histories

@@ -1,0 +1,107 @@
+// The command `wear`: how many ended or cut cycles touched each group of the array, over traces that are run one after another, each from
+// delivery, and over files of counts.
+mod list;
+mod show;
+mod stored;
+mod tell;
+mod work;
+
+use parts::Verdict;
+use show::Top;
+use words::wearing::Role;
+use words::wearing::Wear;
+use work::Worn;
+
+// ---- the words, in their order
+
+fn named(w: Worn, role: Role, input: bool, name: &[u8], counts: &mut [u32]) -> Worn {
+    match role {
+        Role::Trace => work::one_trace(w, input, name, counts),
+        Role::CountsFile => work::one_counts(w, input, name, counts),
+        Role::ListFile => list::one_list(w, input, name, counts),
+        _ => w,
+    }
+}
+
+fn word(w: Worn, i: usize, counts: &mut [u32]) -> Worn {
+    let before = w.role;
+    let role = words::wearing::role_of(before, i);
+    let here = Worn { role, ..w };
+    let mut name = io::buffer();
+    let n = os::arg(i, &mut name);
+    named(here, role, words::is_input(i), &name[..n], counts)
+}
+
+fn take_words(next: usize, end: usize, counts: &mut [u32]) -> Worn {
+    let mut w = work::nothing_yet();
+    let mut i = next;
+    while i < end {
+        w = word(w, i, counts);
+        if !w.ok {
+            return w;
+        }
+        i += 1;
+    }
+    w
+}
+
+// ---- behind them
+
+fn tell_all(asked: Wear, w: Worn, counts: &[u32]) -> bool {
+    if asked.all {
+        return show::all(counts);
+    }
+    let r = wear::report(w.part, counts);
+    let verdict = r.verdict;
+    match verdict {
+        Verdict::Fine => {
+            let most = Top {
+                group: r.group,
+                count: r.count,
+            };
+            show::told(w.part, r.total, most, w.traces, w.cycles, counts)
+        }
+        Verdict::Refused(_) => false,
+    }
+}
+
+// The file stands before anything is told.
+fn finished(asked: Wear, w: Worn, counts: &mut [u32]) -> bool {
+    if stored::save(asked.save, w.part, counts) {
+        return tell_all(asked, w, counts);
+    }
+    false
+}
+
+fn ended(asked: Wear, w: Worn, counts: &mut [u32]) -> bool {
+    if !w.ok {
+        return false;
+    }
+    if w.part == work::NO_PART {
+        tell::say(b"sapwoodle: no list names a trace, and there is no file of counts\n");
+        return false;
+    }
+    finished(asked, w, work::cut(w.part, counts))
+}
+
+fn run(asked: Wear, next: usize, end: usize, counts: &mut [u32]) -> bool {
+    let w = take_words(next, end, counts);
+    ended(asked, w, counts)
+}
+
+// The counts of the largest part fit.
+fn lend(asked: Wear, next: usize, end: usize) -> bool {
+    let mut counts = [0u32; 8192];
+    run(asked, next, end, &mut counts)
+}
+
+// ---- the command: `next` is the first word behind `wear`, and the words end before `end`
+
+// False where nothing, or not all, could be answered: standard error has the reason.
+pub fn wear_command(next: usize, end: usize) -> bool {
+    let asked = words::wearing::asked(next, end);
+    if asked.ok {
+        return lend(asked, next, end);
+    }
+    false
+}
