@@ -6,14 +6,14 @@ use mathlib.Core.Path.{_≡_, refl, sym, _∙_, ap}
 use mathlib.Core.Bool.{Bool, true, false, cond}
 use mathlib.Core.List.{List, [], _∷_, _++_}
 use native.Mathlib.Omega.{arith}
-use borrow.Author.Tests.{ne-eqb}
 use Rattle.parts.specs.declared.Facts.{Facts}
 use Rattle.parts.specs.Events.{eventWith}
 use Rattle.parts.proofs.Tests.{neither}
 use Rattle.state.specs.declared.Chip.{Chip}
 use Rattle.chip.specs.Memory.{Mem}
 use Rattle.chip.specs.Model.{Model, ours}
-use Rattle.chip.specs.Runs.{afterOf, closesOf}
+use Rattle.chip.specs.Runs.{afterOf}
+use Rattle.chip.proofs.Turns.{low-open}
 use Rattle.wear.specs.Wear.{closedOf, wornOf, ourCounter, wornBy}
 use Rattle.wear.proofs.Stretches.{worn-join, worn-open}
 use Rattle.driver.specs.declared.Driver.{Driver}
@@ -29,17 +29,13 @@ use Rattle.bench.proofs.Taped.{rest-events}
 
 -- ---- one turn
 
-open-small : (e : ℕ) → e < 4 → closesOf e ≡ false
-unfolding closesOf
-open-small e h = rw (ne-eqb e 4 (λ k. omega arith), ne-eqb e 8 (λ k. omega arith)) refl
-
 module _ (f : Facts) (en : ℕ) (c : Chip) (k : List ℕ) where
   worn-by : (x : Bool) (a : Answer) → Small a → cond x (closedOf f c k) k ≡ wornBy ourCounter (ours f en) f c k (tapeBy x (sendsOf a) 4 (sentCodeOf a))
   unfolding wornBy wornOf eventWith
-  worn-by true (Send e) s = sym (worn-open f (ours f en .next c 4) (closedOf f c k) e (open-small e s))
+  worn-by true (Send e) s = sym (worn-open f (ours f en .next c 4) (closedOf f c k) e (low-open e s))
   worn-by true (Done polls bytes) s = refl
   worn-by true (Refused r polls bytes) s = refl
-  worn-by false (Send e) s = sym (worn-open f c k e (open-small e s))
+  worn-by false (Send e) s = sym (worn-open f c k e (low-open e s))
   worn-by false (Done polls bytes) s = refl
   worn-by false (Refused r polls bytes) s = refl
 

@@ -2,7 +2,7 @@
 -- Assumes nothing.
 use Prim.Native.Nat.{ℕ, zero, suc, _+_, _-_, _*_, _/_, _≤_, _<_}
 use mathlib.Core.Path.{_≡_, _∙_, refl, sym, ap, subst}
-use mathlib.Core.Bool.{Bool, true, false, cond}
+use mathlib.Core.Bool.{Bool, true, false, cond, _||_}
 use mathlib.Core.List.{List, [], _∷_}
 use native.Mathlib.Nat.{add-zero, lt-of-mul-lt-mul-right, mul-le-mul-right, div-eq-of-lt-le}
 use native.Mathlib.Decide.{decLt, ℕ-discrete}
@@ -46,6 +46,23 @@ module _ (k : List ℕ) (i n : ℕ) (hi : i < length k) (hn : 0 < n) where
 pub latched-beyond : (k : List ℕ) (i n : ℕ) → length k ≤ i → latchedIn k i n ≡ false
 latched-beyond k i zero h = refl
 latched-beyond k i (suc n) h = rw (List·getD-eq-default k 256 h) (latched-beyond k (suc i) n (omega arith))
+
+-- four places
+pub latched-four : (k : List ℕ) (i : ℕ) → i + 4 ≤ length k
+    → (((ltb (getD k i 0) 256 || ltb (getD k (i + 1) 0) 256) || ltb (getD k (i + 2) 0) 256) || ltb (getD k (i + 3) 0) 256) ≡ latchedIn k i 4
+latched-four k i h =
+    let one : i + 1 ≡ suc i = omega arith in
+    let two : i + 2 ≡ suc (suc i) = omega arith in
+    let three : i + 3 ≡ suc (suc (suc i)) = omega arith in
+    rw (getD-else k i 0 256 (omega arith), getD-else k (i + 1) 0 256 (omega arith), getD-else k (i + 2) 0 256 (omega arith), getD-else k (i + 3) 0 256 (omega arith), one, two, three)
+    (four (ltb (getD k i 256) 256) (ltb (getD k (suc i) 256) 256) (ltb (getD k (suc (suc i)) 256) 256) (ltb (getD k (suc (suc (suc i))) 256) 256))
+  where
+    four : (a b c d : Bool) → (((a || b) || c) || d) ≡ cond a true (cond b true (cond c true (cond d true false)))
+    four true b c d = refl
+    four false true c d = refl
+    four false false true d = refl
+    four false false false true = refl
+    four false false false false = refl
 
 -- a group that begins in the page ends in it
 pub group-room : (i j p g : ℕ) → i ≡ j * g → i < p → p ≡ p / g * g → i + g ≤ p

@@ -93,7 +93,7 @@ pub sapwoodle-trace-is : SapwoodleTraceIs
 sapwoodle-trace-is = λ κs a x p. same (p .0) (λ i. (tt, (p .1 .0 i, (p .1 .1 i, tt))))
 
 pub pass-is : PassIs
-pass-is = λ κs a x p. same (p .0) (λ i. (tt, (tt, (tt, (tt, (tt, (p .1 .0 i .cells, (p .1 .0 i .ident, (tt, (p .1 .1 i, tt))))))))))
+pass-is = λ κs a x p. same (p .0) (λ i. (tt, (tt, (tt, (tt, (tt, (tt, (p .1 .0 i .cells, (p .1 .0 i .ident, (tt, (p .1 .1 i, tt)))))))))))
 
 pub mark-is : MarkIs
 mark-is = λ κs a x p. same refl (λ i. (tt, (tt, (p i, tt))))

@@ -7,7 +7,7 @@ use contract.Lifetimes.{Lfts}
 use denote.Triple.Entry.{Args}
 use denote.Triple.Clauses.{Ended}
 use Rattle.parts.specs.Refusals.{verdictNumberOf}
-use Rattle.chip.specs.Memory.{mem}
+use Rattle.chip.specs.Memory.{mem, chip}
 use Rattle.chip.specs.Model.{cutBy}
 use Rattle.chip.specs.Calls.{deliverOf, stepOf, runOf, passOf}
 use Rattle.image.specs.Calls.{saving, loading}
@@ -106,8 +106,8 @@ abbrev pub PassIs : Type 0
 PassIs =
     Is chip-pass.ended chip-pass.Reads.Learnt
     (λ κs a.
-    let m = passOf (a .0) (a .1 .0) (cutBy (a .1 .1 .0) (a .1 .1 .1 .0 .now)) (a .1 .1 .1 .1 .0) (mem (a .1 .1 .1 .1 .1 .0 .now) (a .1 .1 .1 .1 .1 .1 .0 .now)) (a .1 .1 .1 .1 .1 .1 .1 .0 .now) (a .1 .1 .1 .1 .1 .1 .1 .1 .0 .now) in
-    record { result = m .answer; left = (tt, (tt, (tt, (tt, (tt, (m .mem .cells, (m .mem .ident, (tt, (m .answers, tt))))))))) })
+    let m = passOf (a .0) (a .1 .0) (cutBy (a .1 .1 .0) (a .1 .1 .1 .0 .now)) (chip (a .1 .1 .1 .1 .0) (a .1 .1 .1 .1 .1 .0)) (mem (a .1 .1 .1 .1 .1 .1 .0 .now) (a .1 .1 .1 .1 .1 .1 .1 .0 .now)) (a .1 .1 .1 .1 .1 .1 .1 .1 .0 .now) (a .1 .1 .1 .1 .1 .1 .1 .1 .1 .0 .now) in
+    record { result = m .answer; left = (tt, (tt, (tt, (tt, (tt, (tt, (m .mem .cells, (m .mem .ident, (tt, (m .answers, tt)))))))))) })
 
 -- ---- wear
 

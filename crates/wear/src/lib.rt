@@ -8,7 +8,7 @@ ghost use lib.Dec.{ltb};
 ghost use Rattle.parts.specs.Table.{factsOf};
 ghost use Rattle.parts.specs.Bytes.{topped};
 ghost use Rattle.parts.specs.declared.Verdict.the-variants.{Fine};
-ghost use Rattle.chip.specs.Memory.{mem};
+ghost use Rattle.chip.specs.Memory.{mem, chip};
 ghost use Rattle.chip.specs.Model.{cutBy, oursWith};
 ghost use Rattle.chip.specs.Calls.{runBy, runMem, runAnswers};
 ghost use Rattle.wear.specs.Wear.{bumpedOf, pageWornOf, targetWornOf, cycleWornOf, closedOf, ourCounter, wornBy};
@@ -16,6 +16,7 @@ ghost use Rattle.wear.specs.Report.{most, sumOf, mostOf, joinedOf};
 ghost use Rattle.wear.specs.Calls.{groupCountOf, countsVerdictOf, wearVerdict, wearOf, reportBy, reportOf, joinOf};
 use chip::Ran;
 use line::Cycle;
+use line::Line;
 use line::Phase;
 use line::Target;
 use parts::Loss;
@@ -50,8 +51,10 @@ pub fn groups(part: u8) -> usize
 fn bump(counts: &mut [u32], at: usize, on: bool)
     ensures { λ _. ⌜ now (counts .exit) ≡ bumpedOf (now (counts .entry)) at on ⌝ }
 {
-    if at < counts.len() {
-        counts[at] = parts::up(counts[at], on);
+    if on {
+        if at < counts.len() {
+            counts[at] = parts::up(counts[at], on);
+        }
     }
 }
 
@@ -89,12 +92,10 @@ fn mark_cycle(part: u8, counter: u16, latch: &[u16], cycle: Cycle, counts: &mut 
     }
 }
 
-// What an end or a cut, now, adds to the counts. A group beyond the end of a shorter slice is not counted.
-pub fn mark(part: u8, chip: Chip, counts: &mut [u32])
-    ensures { λ _. ⌜ now (counts .exit) ≡ closedOf (factsOf part) chip (now (counts .entry)) ⌝ }
+// Whatever the chip is doing: its line and its latches.
+fn mark_line(part: u8, line: Line, latch: &[u16], counts: &mut [u32])
+    ensures { λ _. ⌜ now (counts .exit) ≡ closedOf (factsOf part) (chip line (now (latch .entry))) (now (counts .entry)) ⌝ }
 {
-    let line = chip.line;
-    let latch = chip.latch;
     let phase = line.phase;
     let core = line.core;
     let counter = core.counter;
@@ -102,8 +103,17 @@ pub fn mark(part: u8, chip: Chip, counts: &mut [u32])
         Phase::Idle => {}
         Phase::Receive(_) => {}
         Phase::Send(_) => {}
-        Phase::Busy(y) => mark_cycle(part, counter, &latch, y, counts),
+        Phase::Busy(y) => mark_cycle(part, counter, latch, y, counts),
     }
+}
+
+// What an end or a cut, now, adds to the counts. A group beyond the end of a shorter slice is not counted.
+pub fn mark(part: u8, chip: Chip, counts: &mut [u32])
+    ensures { λ _. ⌜ now (counts .exit) ≡ closedOf (factsOf part) chip (now (counts .entry)) ⌝ }
+{
+    let line = chip.line;
+    let latch = chip.latch;
+    mark_line(part, line, &latch, counts);
 }
 
 // ---- refusals
@@ -124,12 +134,12 @@ pub fn counts_verdict(part: u8, n: usize) -> Verdict
 // ---- a list of events
 
 // An end or a cut counts for the cycle that it closes.
-fn note(part: u8, chip: Chip, code: u8, counts: &mut [u32])
-    ensures { λ _. ⌜ now (counts .exit) ≡ ourCounter (factsOf part) chip (now (counts .entry)) code ⌝ }
+fn note(part: u8, line: Line, latch: &[u16], code: u8, counts: &mut [u32])
+    ensures { λ _. ⌜ now (counts .exit) ≡ ourCounter (factsOf part) (chip line (now (latch .entry))) (now (counts .entry)) code ⌝ }
 {
     let closes = chip::closes(code);
     if closes {
-        mark(part, chip, counts);
+        mark_line(part, line, latch, counts);
     }
 }
 
@@ -156,30 +166,37 @@ fn go(
     ensures counts { λ _. ⌜ now (counts .exit)
         ≡ wornBy ourCounter (oursWith (cutBy loss (now (page .entry))) (factsOf part) enable) (factsOf part) chip (now (counts .entry)) (now (events .entry)) ⌝ }
 {
-    let mut at = chip;
+    let mut line = chip.line;
+    let mut latch = chip.latch;
     let mut cycles: usize = 0;
     let mut i = 0;
     while i < events.len() {
-        note(part, at, events[i], counts);
+        note(part, line, &latch, events[i], counts);
         let p = chip::pass(
             part,
             enable,
             loss,
             page,
-            at,
+            line,
+            latch,
             array,
             id,
             &events[i..],
             &mut answers[i..],
         );
-        at = p.chip;
+        let next = p.line;
+        line = next;
+        latch = p.latch;
         cycles += p.cycles;
         i += p.at;
     }
     Ran {
         verdict: Verdict::Fine,
         cycles: cycles,
-        chip: at,
+        chip: Chip {
+            line: line,
+            latch: latch,
+        },
     }
 }
 

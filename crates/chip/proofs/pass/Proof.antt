@@ -1,7 +1,7 @@
 use mathlib.Core.Path.{refl}
-use borrow.Author.Needs.{needs}
 use borrow.Author.Tests.{lt-ltb, le-ltb}
 use Rattle.chip.specs.Runs.{afterOf, memoryOf, levelsOf, cyclesOf}
+use borrow.Author.Needs.{needs}
 use Rattle.chip.proofs.pass.Statement.{statement}
 use Rattle.chip.proofs.pass.Tie as tie
 
@@ -28,9 +28,11 @@ same-length-3 c = search needs
 returns-3 : tie.Need-returns-3
 returns-3 c =
     let t = c .before .before .before .before .before .before .before .run-all .ensures in
-    let m = le-ltb _ _ (c .before .before .before .before .before .before .before .before .before .before .before .before .before .before .before .if1 .left) in
-    let r = le-ltb _ _ (c .before .before .before .before .before .before .before .before .before .before .before .before .before .before .if2 .left) in
-    (rw (m, r) (rw (t .0, t .1 .0, t .1 .1 .1 .1) refl), (rw (m, r) (t .1 .1 .0), rw (m, r) (t .1 .1 .1 .0)))
+    let m = le-ltb _ _ (c .before .before .before .before .before .before .before .before .before .before .before .before .before .if1 .left) in
+    let r = le-ltb _ _ (c .before .before .before .before .before .before .before .before .before .before .before .before .if2 .left) in
+    (rw (m, r) (λ i. record { line = t .0 i .line; latch = t .0 i .latch; cycles = t .1 .0 i; at = t .1 .1 .1 .1 i }), (rw (m, r) (t .1 .1 .0), rw (m, r) (t .1 .1 .1 .0)))
 
 pub pass-spec : {M : Type 1} → statement M
-pass-spec = tie.close (tie.spec returns returns-2 run-all-requires same-length same-length-2 same-length-3 returns-3)
+pass-spec =
+    tie.close
+    (tie.spec returns returns-2 run-all-requires same-length same-length-2 same-length-3 returns-3)

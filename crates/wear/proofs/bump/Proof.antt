@@ -1,5 +1,6 @@
 use mathlib.Core.Path.{refl, sym}
-use lib.Seq.{set-out}
+use lib.Seq.{set-out, set-getD}
+use Rattle.parts.specs.Bytes.{upOf}
 use Rattle.wear.specs.Wear.{bumpedOf}
 use borrow.Author.Needs.{needs}
 use Rattle.wear.proofs.bump.Statement.{statement}
@@ -29,7 +30,11 @@ returns c = rw (c .up .ensures) refl
 
 returns-2 : tie.Need-returns-2
 unfolding bumpedOf
-returns-2 c = sym (set-out _ _ _ (c .if1 .left))
+returns-2 c = sym (set-out _ _ _ (c .if2 .left))
+
+returns-3 : tie.Need-returns-3
+unfolding bumpedOf upOf
+returns-3 c = rw (c .if1 .left) (sym (set-getD _ _ 0))
 
 pub bump-spec : {M : Type 1} → statement M
 bump-spec =
@@ -42,4 +47,5 @@ bump-spec =
     slice-write-counts
     same-length
     returns
-    returns-2)
+    returns-2
+    returns-3)

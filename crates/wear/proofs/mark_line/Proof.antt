@@ -1,7 +1,7 @@
 use Rattle.wear.specs.Wear.{closedIn}
 use borrow.Author.Needs.{needs}
-use Rattle.wear.proofs.mark.Statement.{statement}
-use Rattle.wear.proofs.mark.Tie as tie
+use Rattle.wear.proofs.mark_line.Statement.{statement}
+use Rattle.wear.proofs.mark_line.Tie as tie
 
 enum-told : tie.Need-enum-told
 enum-told c = search needs
@@ -14,9 +14,6 @@ enum-told-3 c = search needs
 
 enum-known-phase : tie.Need-enum-known-phase
 enum-known-phase c = search needs
-
-slice-aggregate-mark-cycle : tie.Need-slice-aggregate-mark-cycle
-slice-aggregate-mark-cycle c = search needs
 
 mark-cycle-requires : tie.Need-mark-cycle-requires
 mark-cycle-requires c κs = search needs
@@ -38,17 +35,16 @@ same-length c = search needs
 
 returns-4 : tie.Need-returns-4
 unfolding closedIn
-returns-4 c = simp (c .before .before .mark-cycle .ensures, c .before .before .before .before .before .before .phase .given .1)
+returns-4 c = simp (c .before .before .mark-cycle .ensures, c .before .before .before .before .before .phase .given .1)
 
-pub mark-spec : {M : Type 1} → statement M
-mark-spec =
+pub mark-line-spec : {M : Type 1} → statement M
+mark-line-spec =
     tie.close
     (tie.spec
     enum-told
     enum-told-2
     enum-told-3
     enum-known-phase
-    slice-aggregate-mark-cycle
     mark-cycle-requires
     returns
     returns-2
