@@ -4,13 +4,12 @@
 use Prim.Native.Nat.{ℕ, zero, suc, _-_, _<_}
 use mathlib.Core.Path.{_≡_, refl, sym, _∙_, ap}
 use mathlib.Core.Bool.{Bool, true, false, cond}
-use mathlib.Core.List.{List, [], _∷_, _++_}
+use mathlib.Core.List.{List, []}
 use native.Mathlib.Omega.{arith}
 use Rattle.parts.specs.declared.Facts.{Facts}
 use Rattle.parts.specs.Events.{eventWith}
 use Rattle.parts.proofs.Tests.{neither}
 use Rattle.state.specs.declared.Chip.{Chip}
-use Rattle.chip.specs.Memory.{Mem}
 use Rattle.chip.specs.Model.{Model, ours}
 use Rattle.chip.specs.Runs.{afterOf}
 use Rattle.chip.proofs.Turns.{low-open}
@@ -19,7 +18,7 @@ use Rattle.wear.proofs.Stretches.{worn-join, worn-open}
 use Rattle.driver.specs.declared.Driver.{Driver}
 use Rattle.driver.specs.declared.Answer.{Answer}
 use Rattle.driver.specs.declared.Answer.the-variants.{Send, Done, Refused}
-use Rattle.driver.specs.Step.{driverNextOf, bufferOf}
+use Rattle.driver.specs.Step.{driverNextOf}
 use Rattle.driver.specs.Machine.{ourDriver}
 use Rattle.bench.specs.Together.{System, answeredBy, askedOf, cycleEndedOf, endDueOf, turnOf}
 use Rattle.bench.specs.Tape.{sendsOf, sentCodeOf, tapeBy, turnEvents, tapeEventsOf}

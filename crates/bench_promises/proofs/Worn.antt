@@ -1,7 +1,7 @@
 -- The counts of driver and chip together are what the tape says: the tape is the run.
 -- Assumes nothing.
 use Prim.Native.Nat.{ℕ, _+_, _<_}
-use mathlib.Core.Path.{_≡_, _∙_, refl, sym, ap, subst}
+use mathlib.Core.Path.{_≡_, _∙_, ap}
 use mathlib.Core.List.{List, []}
 use native.Mathlib.Omega.{arith}
 use lib.ListN.{length, getD}
@@ -12,25 +12,18 @@ use Rattle.parts.specs.Table.{factsOf, groupsOf}
 use Rattle.parts.specs.Refusals.{soonerOf}
 use Rattle.parts.specs.Bytes.{topped}
 use Rattle.parts.proofs.Laws.{known, sound}
-use Rattle.parts.proofs.Claims.{sooner-fine}
-use Rattle.line.specs.declared.Phase.the-variants.{Idle}
-use Rattle.state.specs.declared.Chip.{Chip}
-use Rattle.chip.specs.Memory.{Mem}
-use Rattle.chip.specs.Model.{Model, old, ours, oursWith}
-use Rattle.chip.specs.Runs.{levelsOf}
+use Rattle.chip.specs.Model.{old, ours}
 use Rattle.chip_promises.specs.Stops.{watchAt}
 use Rattle.wear.specs.Wear.{ourCounter}
-use Rattle.wear.specs.Calls.{countsVerdictOf}
 use Rattle.wear_promises.specs.History.{timesOf}
 use Rattle.wear_promises.specs.Counts.{Counts}
 use Rattle.wear_promises.proofs.Beside.{counts-right}
 use Rattle.wear_promises.proofs.Times.{Went, still, went}
 use Rattle.wear_promises.proofs.Counts.{meets-at}
-use Rattle.driver.specs.declared.Request.{Request}
 use Rattle.driver.specs.Machine.{ourDriver}
 use Rattle.bench.specs.Together.{enough}
-use Rattle.bench.specs.Tape.{tapeEventsOf, tapeLevelsOf}
-use Rattle.bench.specs.Calls.{BenchLeft, outsetOf, benchBy, benchVerdict, benchOf}
+use Rattle.bench.specs.Tape.{tapeEventsOf}
+use Rattle.bench.specs.Calls.{outsetOf, benchBy, benchVerdict}
 use Rattle.bench.specs.Worn.{wornVerdict, tapeWornOf, benchWornBy, benchWornOf}
 use Rattle.bench_promises.specs.Worn.{BenchWearIsHistory, WornIsBench}
 use Rattle.bench_promises.proofs.Replay.{by}

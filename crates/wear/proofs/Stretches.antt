@@ -1,11 +1,11 @@
 -- A run that goes from one end of a cycle to the next, and is marked there: what it has come to is the run of the events so far.
 -- Assumes nothing.
-use Prim.Native.Nat.{ℕ, zero, suc, _+_, _-_, _≤_, _<_}
+use Prim.Native.Nat.{ℕ, suc, _+_, _-_, _≤_, _<_}
 use mathlib.Core.Path.{_≡_, _∙_, refl, sym, ap}
 use mathlib.Core.Bool.{Bool, true, false, cond, false≢true}
 use mathlib.Core.List.{List, [], _∷_, _++_, append-assoc, append-nil}
 use native.Mathlib.Omega.{arith}
-use lib.Dec.{eqb, ltb}
+use lib.Dec.{eqb}
 use borrow.Author.Tests.{eqb-true, le-ltb}
 use borrow.Rule.Slice.PartAt.{part-to-end}
 use lib.ListN.{length, getD, take, drop, length-append, length-drop, drop-of-length-le}
@@ -14,7 +14,6 @@ use Rattle.parts.specs.declared.Facts.{Facts}
 use Rattle.parts.specs.declared.Event.{Event}
 use Rattle.parts.specs.Events.{eventWith}
 use Rattle.parts.proofs.Laws.{branch}
-use Rattle.line.specs.Rules.{begunOf}
 use Rattle.state.specs.declared.Chip.{Chip}
 use Rattle.chip.specs.Memory.{Mem}
 use Rattle.chip.specs.Model.{Model, PowerCut, oursWith}

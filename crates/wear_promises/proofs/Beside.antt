@@ -2,34 +2,32 @@
 -- counts of one page only.
 -- Assumes nothing.
 use Prim.Native.Nat.{ℕ, zero, suc, _+_, _-_, _*_, _/_, _<_, _≤_}
-use mathlib.Core.Path.{_≡_, _∙_, refl, sym, ap, subst}
-use mathlib.Core.Bool.{Bool, true, false, not, cond}
+use mathlib.Core.Path.{_≡_, _∙_, refl, sym, ap}
+use mathlib.Core.Bool.{Bool, true, false, not}
 use mathlib.Core.List.{List, [], _∷_}
 use mathlib.Core.Logic.{_⊎_, inl, inr}
 use native.Mathlib.Nat.{mul-div-cancel, mul-assoc, div-eq-of-lt-le}
 use native.Mathlib.Decide.{decLt, ℕ-discrete}
 use native.Mathlib.Omega.{arith}
 use lib.Dec.{eqb, ltb}
-use lib.ListN.{length, getD, take, set}
-use lib.Seq.{set-out, ext-getD, getD-set-same, getD-set-other}
+use lib.ListN.{length, getD, set}
+use lib.Seq.{set-out, getD-set-same, getD-set-other}
 use borrow.Author.Tests.{eq-eqb, ne-eqb, lt-ltb, le-ltb}
 use Rattle.parts.specs.declared.Facts.{Facts}
 use Rattle.parts.specs.declared.Event.{Event}
 use Rattle.parts.specs.declared.Event.the-variants.{Clock, Start, Stop, Ends, PinLow, PinHigh, PinFloat, Reset, Unknown}
 use Rattle.parts.specs.declared.Refusal.{Refusal}
-use Rattle.parts.specs.declared.Refusal.the-variants.{NoPart, WrongEnable, WrongBuffer, BadState, BadEvent, ShortBuffer, TooMany}
+use Rattle.parts.specs.declared.Refusal.the-variants.{NoPart, WrongEnable, WrongBuffer, BadState, ShortBuffer, TooMany}
 use Rattle.parts.specs.declared.Verdict.{Verdict}
 use Rattle.parts.specs.declared.Verdict.the-variants.{Fine, Refused}
 use Rattle.parts.specs.Sound.{Sound}
 use Rattle.parts.specs.Table.{factsOf, groupsOf, buffersRightOf, enableRightOf}
 use Rattle.parts.specs.Events.{eventOf, lossSizeOf}
-use Rattle.parts.specs.Bytes.{topped, upOf}
+use Rattle.parts.specs.Bytes.{upOf}
 use Rattle.parts.specs.Refusals.{rankOf, verdictNumberOf, claimOf, soonerOf, lentVerdictOf, lossVerdictOf}
 use Rattle.parts.proofs.Laws.{branch, known, unknown, sound}
 use Rattle.parts.proofs.Claims.{refused-not, Later, Within, later-claim, later-sooner, unclaimed, within-left, within-right, exact}
-use Rattle.line.specs.declared.Target.{Target}
 use Rattle.line.specs.declared.Target.the-variants.{Array, Ident}
-use Rattle.line.specs.declared.Cycle.{Cycle}
 use Rattle.line.specs.declared.Cycle.the-variants.{Writing, Locking}
 use Rattle.line.specs.declared.Phase.{Phase}
 use Rattle.line.specs.declared.Phase.the-variants.{Idle, Receive, Send, Busy}
@@ -37,13 +35,11 @@ use Rattle.state.specs.declared.Chip.{Chip}
 use Rattle.state.specs.Range.{inRangeOf}
 use Rattle.chip.specs.Memory.{Mem, counterPageOf, touchedOf}
 use Rattle.chip.specs.Model.{Model, PowerCut, oursWith}
-use Rattle.chip.specs.Calls.{RunLeft, runLeftOf, heldVerdictOf, cutVerdictOf, scanOf, runVerdictOf, runVerdict, runOf}
+use Rattle.chip.specs.Calls.{runLeftOf, heldVerdictOf, cutVerdictOf, runVerdictOf, runVerdict}
 use Rattle.chip.proofs.Laws.{scan-later}
-use Rattle.chip_promises.specs.Stops.{watchAt}
 use Rattle.wear.specs.Wear.{bumpedOf, bumpedFrom, pageWornOf, targetWornOf, cycleWornOf, closedIn, wornOf, ourCounter, wornBy}
-use Rattle.wear.specs.Calls.{countsVerdictOf, wearVerdict, wearLeftOf, WearLeft, wearOf}
-use Rattle.wear_promises.specs.History.{timesOf}
-use Rattle.wear_promises.specs.Counts.{WearRun, Counts, WearCall, Worn, unworn, afterWear, wearCallsBy, WearIsHistory, RunIsChips, WearNumbers, CountsNeverFall, OnePage, AtMostGroupsOfOnePage, WearRefusedChangesNothing}
+use Rattle.wear.specs.Calls.{countsVerdictOf, wearVerdict, wearLeftOf, wearOf}
+use Rattle.wear_promises.specs.Counts.{RunIsChips, WearNumbers, CountsNeverFall, AtMostGroupsOfOnePage, WearRefusedChangesNothing}
 
 -- ---- the chip's own answer
 

@@ -16,7 +16,7 @@ use Rattle.chip.specs.Calls.{RunLeft, runOf}
 use Rattle.chip_promises.specs.Stops.{watchAt}
 use Rattle.chip_promises.specs.Calls.{noted}
 use Rattle.wear_promises.specs.History.{timesOf}
-use Rattle.wear_promises.specs.Counts.{WearRun, Counts, WearCall, unworn, afterWear, wearCallsBy, WearIsHistory, RunIsChips, WearPinned}
+use Rattle.wear_promises.specs.Counts.{WearRun, Counts, WearCall, afterWear, wearCallsBy, WearIsHistory, RunIsChips, WearPinned}
 
 -- ---- one call of one of them
 

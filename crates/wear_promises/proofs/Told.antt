@@ -2,7 +2,7 @@
 -- Assumes nothing.
 use Prim.Native.Nat.{ℕ, zero, suc, _+_, _-_, _*_, _/_, _<_, _≤_}
 use mathlib.Core.Path.{_≡_, _∙_, refl, sym, ap}
-use mathlib.Core.Bool.{Bool, true, false, not, cond}
+use mathlib.Core.Bool.{false, not, cond}
 use mathlib.Core.List.{List, [], _∷_, _++_}
 use native.Mathlib.Nat.{add-comm, add-assoc, mul-assoc, mul-div-cancel}
 use native.Mathlib.Decide.{decLt}
@@ -20,10 +20,10 @@ use Rattle.parts.specs.Table.{factsOf, groupsOf}
 use Rattle.parts.specs.Refusals.{isFine, verdictNumberOf, soonerOf}
 use Rattle.parts.specs.Bytes.{AllBelow, topped}
 use Rattle.parts.proofs.Laws.{branch, known, unknown, sound}
-use Rattle.parts.proofs.Claims.{refused-not, sooner-fine, exact, later-claim}
+use Rattle.parts.proofs.Claims.{sooner-fine, exact, later-claim}
 use Rattle.parts.proofs.Bytes.{top-low, top-high}
 use Rattle.wear.specs.declared.Most.{Most}
-use Rattle.wear.specs.Report.{sumOf, most, mostFrom, mostOf, joinedOf}
+use Rattle.wear.specs.Report.{most, mostFrom, mostOf, joinedOf}
 use Rattle.wear.specs.Calls.{countsVerdictOf, countsBy, WearLeft, wearOf, reportBy, reportOf, joinVerdict, joinOf}
 use Rattle.wear.proofs.Laws.{counts-fine}
 use Rattle.chip.specs.Model.{old}
@@ -31,8 +31,8 @@ use Rattle.chip.specs.Calls.{RunLeft}
 use Rattle.chip_promises.specs.Stops.{freshWatch}
 use Rattle.chip.specs.Delivery.{standbyOf, deliveredOf}
 use Rattle.wear_promises.specs.History.{timesOf}
-use Rattle.wear_promises.specs.Counts.{Counts, traceBy, heapBy, heardOf, heapTimes}
-use Rattle.wear_promises.specs.Told.{Reporter, MostIsMost, ReportNumbers, ReportPinned, JoinAdds, JoinAnyOrder, zeros, HeapsMerge}
+use Rattle.wear_promises.specs.Counts.{Counts, traceBy, heapBy, heapTimes}
+use Rattle.wear_promises.specs.Told.{MostIsMost, ReportNumbers, ReportPinned, JoinAdds, JoinAnyOrder, zeros, HeapsMerge}
 use Rattle.wear_promises.proofs.Times.{top-in}
 use Rattle.wear_promises.proofs.Beside.{run-is-chips, counts-right, counts-later, known-claim, no-counts, other-counts}
 use Rattle.wear_promises.proofs.Traces.{traces-add-up}

@@ -1,14 +1,13 @@
 -- Each of the wrong counters breaks what is promised, on a history of one or two bytes.
 -- Assumes nothing.
 use Prim.Native.Nat.{ℕ, zero, suc, _+_, _<_}
-use mathlib.Core.Path.{_≡_, _∙_, refl, sym, ap, subst}
+use mathlib.Core.Path.{_≡_, _∙_, refl, ap, subst}
 use mathlib.Core.Bool.{true, false}
 use mathlib.Core.List.{List, [], _∷_, _++_}
 use native.Mathlib.Omega.{arith}
-use lib.ListN.{length, getD, take, drop, set, replicate, length-set, length-replicate}
-use Rattle.parts.specs.declared.Facts.{Facts}
+use lib.ListN.{length, getD, take, drop, set, replicate, length-set}
 use Rattle.parts.specs.declared.Verdict.{Verdict}
-use Rattle.parts.specs.declared.Verdict.the-variants.{Fine, Refused}
+use Rattle.parts.specs.declared.Verdict.the-variants.{Fine}
 use Rattle.parts.specs.Table.{factsOf, groupsOf, idSizeOf, buffersRightOf, enableRightOf, addressBytesOf}
 use Rattle.parts.specs.Events.{eventWith, eventRightOf}
 use Rattle.parts.specs.Bytes.{AllBelow, allBelowOf, topped, upOf}
@@ -16,23 +15,22 @@ use Rattle.parts.proofs.Bytes.{low-before}
 use lib.Dec.{ltb}
 use borrow.Author.Tests.{ltb-true}
 use Rattle.parts.specs.Refusals.{soonerOf, lentVerdictOf, lossVerdictOf}
-use Rattle.line.specs.declared.Phase.the-variants.{Idle}
-use Rattle.line.specs.Rules.{rollOf, beforeOf, onwardOf, enabledOf, namedOf, decodeOf, addressStartOf, selectedOf, loadArrayOf, loadIdOf, loadedOf, refusesOf, latchedOf, filledOf, lockedByOf, takenOf, receivedOf, receiveActOf, receiveLevelOf, movedOf, sentOf, sendLevelOf, clockedOf, clockActOf, clockLevelOf, startedOf, startActOf, asksOf, placedOf, stoppedOf, stopActOf, stopBegunOf, endedByOf, endedOf, endActOf, pinnedOf, resetOf, nextOf, actOf, levelOf, begunOf}
+use Rattle.line.specs.Rules.{rollOf, beforeOf, onwardOf, enabledOf, namedOf, decodeOf, addressStartOf, selectedOf, loadArrayOf, loadIdOf, loadedOf, refusesOf, latchedOf, filledOf, lockedByOf, takenOf, receivedOf, receiveActOf, receiveLevelOf, clockedOf, clockActOf, clockLevelOf, startedOf, startActOf, asksOf, placedOf, stoppedOf, stopActOf, stopBegunOf, endedByOf, endedOf, endActOf, pinnedOf, resetOf, nextOf, actOf, levelOf, begunOf}
 use Rattle.state.specs.declared.Chip.{Chip}
 use Rattle.state.specs.Range.{marksRightOf, pinRightOf, lockRightOf, phaseRightOf, restRightOf, inRangeOf}
-use Rattle.chip.specs.Memory.{Mem, noLatch, counterPageOf, touchedOf, seenOf, stateOf, chipLevelOf}
-use Rattle.chip.specs.Delivery.{pinAtFirstOf, standbyOf, codedOf, deliveredIdOf, deliveredOf}
-use Rattle.chip.specs.Model.{Model, old, ours}
+use Rattle.chip.specs.Memory.{noLatch, counterPageOf, touchedOf, seenOf, stateOf, chipLevelOf}
+use Rattle.chip.specs.Delivery.{pinAtFirstOf, standbyOf, deliveredIdOf, deliveredOf}
+use Rattle.chip.specs.Model.{old, ours}
 use Rattle.chip.specs.Runs.{levelsOf, cyclesOf, closesOf}
 use Rattle.chip.specs.Calls.{heldVerdictOf, cutVerdictOf, runVerdictOf}
 use Rattle.chip_promises.specs.Stops.{lockChosenOf, writesOf, asksCycleOf, wellPlacedOf, startSeen, clockSeen, stopSeen, endSeen, pinSeen, watchOf, stopOf, watchAt}
 use Rattle.chip_promises.specs.Calls.{noted}
-use Rattle.chip_promises.specs.Histories.{Item, byteSent, itemCodesOf, S, P, E, R}
+use Rattle.chip_promises.specs.Histories.{byteSent, itemCodesOf, S, P, E, R}
 use Rattle.wear.specs.Wear.{Counter, bumpedOf, pageWornOf, targetWornOf, cycleWornOf, closedIn, wornOf, ourCounter, wornBy}
 use Rattle.wear.specs.Report.{sumOf}
 use Rattle.wear.specs.Calls.{countsVerdictOf, WearLeft, wearVerdict, wearLeftOf, wearWith, wearOf}
 use Rattle.wear_promises.specs.History.{addressOf, dataCountOf, landsOf, namesArray, touchesOf, pendingOf, completesOf, timesOf, touchedIn}
-use Rattle.wear_promises.specs.Counts.{Counts, WearCall, unworn, afterWear, wearCallsBy, WearIsHistory, NoneAtTop}
+use Rattle.wear_promises.specs.Counts.{Counts, afterWear, wearCallsBy, WearIsHistory, NoneAtTop}
 use Rattle.wear_promises.specs.Told.{zeros}
 use Rattle.wear_promises.specs.WrongCounters.{countsNothing, countsAtStop, countsEachByte, countsNoCuts, countsIdent, countsFirst, countsPage, countsWrapping, TotalOf, WrongCounters}
 use Rattle.wear_promises.specs.Histories.{written}

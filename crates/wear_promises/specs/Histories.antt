@@ -6,7 +6,7 @@ use mathlib.Core.List.{List, [], _∷_, _++_}
 use lib.Dec.{eqb}
 use Rattle.parts.specs.Table.{factsOf}
 use Rattle.chip_promises.specs.Stops.{freshWatch}
-use Rattle.chip_promises.specs.Histories.{Item, event, clock, byteSent, itemCodesOf, itemLevelsOf, S, P, E, L, H, R}
+use Rattle.chip_promises.specs.Histories.{Item, clock, byteSent, itemCodesOf, itemLevelsOf, S, P, E, L, H, R}
 use Rattle.wear_promises.specs.History.{timesOf, touchedIn}
 
 -- group n was touched so many times

@@ -1,5 +1,4 @@
 use mathlib.Core.Path.{_∙_, sym, refl}
-use native.Mathlib.Omega.{arith}
 use Rattle.parts.specs.Table.{factsOf}
 use Rattle.wear.proofs.Laws.{join-fine}
 use borrow.Author.Needs.{needs}

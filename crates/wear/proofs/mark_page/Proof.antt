@@ -1,7 +1,5 @@
 use Prim.Native.Nat.{_/_}
 use native.Mathlib.Nat.{div-le-self}
-use Rattle.parts.specs.Table.{factsOf}
-use Rattle.chip.specs.Memory.{counterPageOf}
 use Prim.Native.Nat.{_+_, _-_, _≤_}
 use mathlib.Core.Path.{_≡_, refl, _∙_, sym, ap}
 use native.Mathlib.Omega.{arith}

@@ -1,5 +1,4 @@
 use Rattle.parts.proofs.Kit.{tests}
-use borrow.Author.Needs.{needs}
 use Rattle.wear.proofs.more.Statement.{statement}
 use Rattle.wear.proofs.more.Tie as tie
 
