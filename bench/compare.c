@@ -1,10 +1,11 @@
 // The product and the plain C model in one process: first the same events to both, with power lost in cycles and pages lent for that, every
 // level, every stored byte, the lock, the counter and the cycles compared, and with counts of wear every count too, the same Intel HEX texts to
-// both readers and the same captures to both; then the events, bytes of text and samples per second of each. Prints a line for each workload,
-// and ends with 1 where they differ.
+// both readers, the same captures and the same images with counts to both; then the events, bytes of text, samples and bytes of images per second
+// of each. Prints a line for each workload, and ends with 1 where they differ.
 #include "capture.h"
 #include "hex.h"
 #include "product.h"
+#include "worn.h"
 
 typedef long time_type;
 struct timespec {
@@ -463,6 +464,162 @@ static void tally_product(unsigned part, unsigned enable, size_t n) {
     product.cycles = counts[2];
 }
 
+// ---- images with counts
+
+// An image with room for some bytes more, and what is made of it by each.
+enum { IMAGE_ROOM = SAPWOODLE_WORN_MOST + 8 };
+static uint8_t image[IMAGE_ROOM], image_by_plain[IMAGE_ROOM], image_by_product[IMAGE_ROOM];
+
+// How often each number was answered: that the comparison had some of each.
+static size_t answered[256];
+
+static struct store store_of(struct world *w, unsigned part) {
+    return (struct store){w->array, model_size(part), w->id, model_id_size(part), w->counts, model_groups(part)};
+}
+
+// The same bytes and counts for both, of which the part's are lent.
+static void random_store(int worn) {
+    random_array(plain.array, sizeof plain.array);
+    random_array(plain.id, sizeof plain.id);
+    random_counts(plain.counts);
+    if (!worn)
+        for (unsigned i = 0; i < GROUPS; i++) plain.counts[i] = 0;
+    memcpy(product.array, plain.array, sizeof plain.array);
+    memcpy(product.id, plain.id, sizeof plain.id);
+    memcpy(product.counts, plain.counts, sizeof plain.counts);
+}
+
+// Mostly the length itself, else one a little off it.
+static size_t about(size_t length) { return random_below(4) ? length : length + random_below(5) - 2; }
+
+// Whether both answered and wrote the same, and nothing else in their room.
+static int same_made(const char *what, unsigned part, unsigned a, unsigned b, size_t n, size_t k) {
+    answered[a]++;
+    if (a == b && n == k && memcmp(image_by_plain, image_by_product, IMAGE_ROOM) == 0) return 1;
+    printf("differ %s part %u: plain %u with %zu bytes, product %u with %zu\n", what, part, a, n, b, k);
+    return 0;
+}
+
+static void random_room(void) {
+    random_array(image_by_plain, IMAGE_ROOM);
+    memcpy(image_by_product, image_by_plain, IMAGE_ROOM);
+}
+
+static int same_saved(unsigned part, int worn) {
+    size_t n = 9, k = 8, room = about(image_worn(part));
+    struct store s = store_of(&plain, part);
+    unsigned locked = model_id_size(part) ? random_below(2) : 0, named = random_below(16) ? part : 6 + random_below(250);
+    random_store(worn);
+    random_room();
+    if (random_below(8) == 0) s.array_length = about(s.array_length);
+    if (random_below(8) == 0) s.counts_length = about(s.counts_length);
+    unsigned a = worn_save(named, locked, &s, image_by_plain, room, &n);
+    unsigned b = product_save_worn((uint8_t)named, locked, &s, image_by_product, room, &k);
+    return same_made("worn_save", part, a, b, n, k);
+}
+
+static int same_loaded(unsigned part, size_t n) {
+    struct store s = store_of(&plain, part), p = store_of(&product, part);
+    static uint8_t before[SAPWOODLE_STATE_LENGTH + 2], room[SAPWOODLE_STATE_LENGTH + 2];
+    unsigned enable = random_below(8) ? 0 : random_below(9), locked = 0;
+    size_t state_length = random_below(4) ? SAPWOODLE_STATE_LENGTH : about(SAPWOODLE_STATE_LENGTH);
+    uint8_t named = 99;
+    random_store(1);
+    random_array(before, sizeof before);
+    memcpy(room, before, sizeof before);
+    if (random_below(8) == 0) s.id_length = p.id_length = 1 + random_below(64);
+    if (random_below(8) == 0) s.counts_length = p.counts_length = about(model_groups(part) - 2);
+    unsigned b = product_load_worn(image, n, (uint8_t)enable, room, state_length, &p, &named);
+    unsigned a = worn_load(image, n, enable, state_length == SAPWOODLE_STATE_LENGTH, &locked, &s);
+    // The part that the image names may be another of the same lengths, without a pin.
+    if (a == 0) {
+        memcpy(before, delivered, sizeof delivered);
+        before[2] = model_has_pin(image[5]) ? 3 : 0;
+        before[4] = (uint8_t)locked;
+    }
+    answered[a]++;
+    if (a == b && named == (n > 5 ? image[5] : 0) && memcmp(before, room, sizeof room) == 0 &&
+        memcmp(plain.array, product.array, sizeof plain.array) == 0 && memcmp(plain.id, product.id, sizeof plain.id) == 0 &&
+        memcmp(plain.counts, product.counts, sizeof plain.counts) == 0)
+        return 1;
+    printf("differ worn_load part %u, %zu bytes: plain %u, product %u\n", part, n, a, b);
+    return 0;
+}
+
+typedef unsigned (*converter)(const uint8_t *, size_t, uint8_t *, size_t, size_t *);
+
+static int same_converted(const char *what, unsigned part, size_t n, size_t length, converter by_plain, converter by_product) {
+    size_t k = 9, l = 8, room = about(length);
+    random_room();
+    unsigned a = by_plain(image, n, image_by_plain, room, &k), b = by_product(image, n, image_by_product, room, &l);
+    return same_made(what, part, a, b, k, l);
+}
+
+static int same_image(unsigned part, size_t n) {
+    return same_loaded(part, n) && same_converted("to_worn", part, n, image_worn(part), worn_from_plain, product_from_plain) &&
+           same_converted("to_plain", part, n, image_plain(part), worn_to_plain, product_to_plain);
+}
+
+// An image of either version; answers its length.
+static size_t make_image(unsigned part, unsigned version, int worn) {
+    struct store s = store_of(&plain, part);
+    size_t n = 0;
+    random_store(worn);
+    random_array(image, sizeof image);
+    worn_save(part, model_id_size(part) ? random_below(2) : 0, &s, image, sizeof image, &n);
+    image[4] = (uint8_t)version;
+    return version == 1 ? image_plain(part) : n;
+}
+
+// Something about it is wrong: a byte of its head, another length, or a count.
+static size_t spoil_image(size_t n) {
+    static const uint8_t often[] = {0, 1, 2, 3, 5, 6, 'E', 'P', 'R'};
+    switch (random_below(4)) {
+    case 0: return random_below(2) ? about(n) : random_below(9);
+    case 1: image[n - 1 - random_below(4)]++; return n;
+    default: image[random_below(7)] = random_below(2) ? often[random_below(sizeof often)] : (uint8_t)random_below(256); return n;
+    }
+}
+
+// Answers how many images were compared, 0 where something differs.
+static size_t same_images(unsigned part) {
+    size_t compared = 0;
+    fresh(part);
+    for (unsigned k = 0; k < 120; k++) {
+        if (!same_saved(part, k % 3 != 0)) return 0;
+        size_t n = make_image(part, 1 + k % 2, k % 3 != 0);
+        if (!same_image(part, n)) return 0;
+        n = spoil_image(n);
+        if (!same_image(part, n)) return 0;
+        compared += 3;
+    }
+    return compared;
+}
+
+static void save_plain(unsigned part, unsigned enable, size_t n) {
+    struct store s = store_of(&plain, part);
+    (void)n;
+    worn_save(part, enable, &s, image, sizeof image, &plain.cycles);
+}
+
+static void save_product(unsigned part, unsigned enable, size_t n) {
+    struct store s = store_of(&plain, part);
+    (void)n;
+    product_save_worn((uint8_t)part, enable, &s, image, sizeof image, &product.cycles);
+}
+
+static void load_plain(unsigned part, unsigned enable, size_t n) {
+    struct store s = store_of(&plain, part);
+    unsigned locked = 0;
+    plain.cycles = worn_load(image, n, enable, 1, &locked, &s);
+}
+
+static void load_product(unsigned part, unsigned enable, size_t n) {
+    struct store s = store_of(&product, part);
+    uint8_t named = 0;
+    product.cycles = product_load_worn(image, n, (uint8_t)enable, state, sizeof state, &s, &named);
+}
+
 // ---- times
 
 typedef void (*runner)(unsigned, unsigned, size_t);
@@ -536,6 +693,14 @@ int main(int argc, char **argv) {
         samples += n;
     }
     printf("compared samples=%zu parts=6 same=yes\n", samples);
+    size_t images = 0;
+    for (unsigned p = 0; p < 6; p++) {
+        size_t n = same_images(p);
+        if (n == 0) return 1;
+        images += n;
+    }
+    printf("compared images=%zu done=%zu refused_1=%zu refused_2=%zu refused_3=%zu refused_4=%zu refused_6=%zu refused_12=%zu refused_21=%zu parts=6 same=yes\n",
+           images, answered[0], answered[1], answered[2], answered[3], answered[4], answered[6], answered[12], answered[21]);
     if (part > 5) return 1;
     for (int w = 0; w < 4; w++) {
         size_t n = make[w](part);
@@ -565,5 +730,9 @@ int main(int argc, char **argv) {
         measure(worn[w], "events", part, k, worn_plain, worn_product);
         measure_beside(worn[w], "events", part, k, "run", run_product, worn_product);
     }
+    size_t length = make_image(part, 2, 1);
+    fresh(part);
+    measure("worn_save", "bytes", part, length, save_plain, save_product);
+    measure("worn_load", "bytes", part, length, load_plain, load_product);
     return 0;
 }

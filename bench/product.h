@@ -5,6 +5,7 @@
 #include "capture.h"
 #include "hex.h"
 #include "model.h"
+#include "worn.h"
 
 void *memcpy(void *, const void *, size_t);
 
@@ -88,6 +89,29 @@ static struct seen product_capture(uint8_t part, uint8_t enable, uint8_t *state,
 static void product_tally(uint8_t bus, const uint8_t *samples, size_t n, unsigned counts[4]) {
     size_t place = 0;
     sapwoodle_capture_tally(bus, samples, n, &counts[0], &counts[1], &counts[2], &counts[3], &place);
+}
+
+// A chip as delivered but for its lock, with what is stored of it and its counts.
+static unsigned product_save_worn(uint8_t part, unsigned locked, const struct store *from, uint8_t *out, size_t room, size_t *written) {
+    uint8_t state[SAPWOODLE_STATE_LENGTH];
+    memcpy(state, delivered, sizeof state);
+    state[4] = (uint8_t)locked;
+    return sapwoodle_save_worn(part, state, sizeof state, from->array, from->array_length, from->id, from->id_length, from->counts,
+                               from->counts_length, out, room, written);
+}
+
+static unsigned product_load_worn(const uint8_t *image, size_t n, uint8_t enable, uint8_t *state, size_t state_length, const struct store *to,
+                                  uint8_t *part) {
+    return sapwoodle_load_worn(image, n, enable, state, state_length, to->array, to->array_length, to->id, to->id_length, to->counts,
+                               to->counts_length, part);
+}
+
+static unsigned product_from_plain(const uint8_t *image, size_t n, uint8_t *out, size_t room, size_t *written) {
+    return sapwoodle_to_worn(image, n, out, room, written);
+}
+
+static unsigned product_to_plain(const uint8_t *image, size_t n, uint8_t *out, size_t room, size_t *written) {
+    return sapwoodle_to_plain(image, n, out, room, written);
 }
 
 #endif

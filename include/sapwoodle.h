@@ -20,8 +20,9 @@
  *      7  address plus length beyond the array or       18  HEX: overlap, or beyond the array
  *         page; no such page                            19  HEX: no end record, or text after it
  *                                                       20  capture: a sample above 3
+ *                                                       21  image: counts would be lost
  *
- * Where several of 1 to 8, 12, 13 and 20 apply, the first of 1 2 3 4 20 13 5 6 7 8 12 is answered; of 16 to 19, which come after these, the one of the
+ * Where several of 1 to 8, 12, 13, 20 and 21 apply, the first of 1 2 3 4 20 13 5 6 7 8 12 21 is answered; of 16 to 19, which come after these, the one of the
  * earliest record, and within it the lowest. A call refused with one of these changes no lent byte or count; its results are the ones said below for
  * a refused call.
  *
@@ -326,6 +327,51 @@ unsigned char sapwoodle_wear_bench_run(unsigned char part, unsigned char enable,
     unsigned char *data, unsigned long data_length,
     unsigned int *counts, unsigned long counts_length,
     unsigned long *place, unsigned long *polls, unsigned long *bytes, unsigned long *cycles, unsigned long *clocks);
+
+/* ---- the image with counts of wear: version 2. It is version 1 but for that number, and behind the identification page for each group, from
+ * group 0 on, its count, four bytes, high byte first. The lengths are exact
+ *
+ *     0  'E' 'P' 'R'     3  00h 02h     5  part     6  lock, 0 or 1     7  the array, then the identification page, then the counts
+ *
+ *     part     version 1     version 2
+ *     0, 1         2,071        10,263
+ *     2            8,199        16,391
+ *     3            8,231        16,423
+ *     4           32,775        65,543
+ *     5           32,839        65,607
+ *
+ * sapwoodle_load takes version 1 alone: version 2 is 12 there. */
+#define SAPWOODLE_WORN_MOST (SAPWOODLE_IMAGE_MOST + 4 * SAPWOODLE_GROUPS_MOST)
+
+/* The bytes and the counts as they stand, without what is latched or under way: a cycle that is saved so counts for nothing. `written` gets the length
+ * of the image, of a refused call 0; further bytes of `out` keep their values. Refused with 1, 3, 4, 6. */
+unsigned char sapwoodle_save_worn(unsigned char part,
+    const unsigned char *state, unsigned long state_length,
+    const unsigned char *array, unsigned long array_length,
+    const unsigned char *id, unsigned long id_length,
+    const unsigned int *counts, unsigned long counts_length,
+    unsigned char *out, unsigned long out_length,
+    unsigned long *written);
+
+/* As sapwoodle_load, from an image of either version, and the counts with it: of version 1 each is 0. Any number is a count. Refused with 1, 2, 3, 4, 12;
+ * an image too short to hold its part byte is 12 at once. */
+unsigned char sapwoodle_load_worn(const unsigned char *image, unsigned long image_length, unsigned char enable,
+    unsigned char *state, unsigned long state_length,
+    unsigned char *array, unsigned long array_length,
+    unsigned char *id, unsigned long id_length,
+    unsigned int *counts, unsigned long counts_length,
+    unsigned char *part);
+
+/* An image of version 1 as one of version 2, with all counts 0. `written` gets its length, of a refused call 0; further bytes of `out` keep their values.
+ * Refused with 1, 6, 12, an image of version 2 with 12 too; one too short to hold its part byte is 12 at once. */
+unsigned char sapwoodle_to_worn(const unsigned char *image, unsigned long image_length,
+    unsigned char *out, unsigned long out_length,
+    unsigned long *written);
+
+/* An image of version 2 as one of version 1, likewise: refused with 21 where a count is not 0, which version 1 cannot hold. Refused with 1, 6, 12, 21. */
+unsigned char sapwoodle_to_plain(const unsigned char *image, unsigned long image_length,
+    unsigned char *out, unsigned long out_length,
+    unsigned long *written);
 
 /* ---- the trace program: a typed trace in, what the program prints out, `refused N` too. `length` gets the number of bytes written, at
  * most 32,800. Refused with 6 where `out` is too short for them: it is then as before, and `length` gets 0. */

@@ -1,6 +1,6 @@
 // Two chips with their memory, as bytes in one lent buffer: first that of the reading asked for, then that of the other reading; behind them
 // both as they were before the file that is run. Each has its state, its array and its identification page, with room for the largest
-// part's.
+// part's. Last stand the counts of wear of the first, four bytes each, high byte first.
 ghost use mathlib.Core.Path.{_≡_};
 ghost use lib.ListN.{length};
 use capture::Seen;
@@ -17,10 +17,12 @@ const PAGE: usize = 32905;
 
 const BOTH: usize = 65938;
 
-pub fn room() -> [u8; 131876]
-    ensures { λ r. ⌜ 131876 ≡ length r ⌝ }
+const COUNTS: usize = 131876;
+
+pub fn room() -> [u8; 164644]
+    ensures { λ r. ⌜ 164644 ≡ length r ⌝ }
 {
-    [0; 131876]
+    [0; 164644]
 }
 
 fn at(board: usize, i: usize) -> usize {
@@ -35,12 +37,52 @@ fn load(from: &[u8], first: usize, to: &mut [u8]) {
     }
 }
 
+// The chip in a place.
+fn take(boards: &[u8], board: usize, held: &mut [u8], array: &mut [u8], id: &mut [u8]) {
+    load(boards, board, held);
+    load(boards, at(board, ARRAY), array);
+    load(boards, at(board, PAGE), id);
+}
+
 // A chip in its place.
 pub fn put(boards: &mut [u8], board: usize, held: &[u8], array: &[u8], id: &[u8]) {
     files::extend(boards, board, held);
     files::extend(boards, at(board, ARRAY), array);
     files::extend(boards, at(board, PAGE), id);
 }
+
+fn count_in(boards: &[u8], from: usize) -> u32 {
+    let a = parts::byte_at(boards, from);
+    let b = parts::byte_at(boards, at(from, 1));
+    let c = parts::byte_at(boards, at(from, 2));
+    let d = parts::byte_at(boards, at(from, 3));
+    parts::joined(a, b, c, d) as u32
+}
+
+fn take_counts(boards: &[u8], counts: &mut [u32]) {
+    let mut from = COUNTS;
+    let mut i = 0;
+    while i < counts.len() {
+        counts[i] = count_in(boards, from);
+        from = at(from, 4);
+        i += 1;
+    }
+}
+
+fn put_count(boards: &mut [u8], to: usize, n: u32) -> usize {
+    files::extend(boards, to, &parts::word(n as usize))
+}
+
+pub fn put_counts(boards: &mut [u8], counts: &[u32]) {
+    let mut to = COUNTS;
+    let mut i = 0;
+    while i < counts.len() {
+        to = put_count(boards, to, counts[i]);
+        i += 1;
+    }
+}
+
+// ---- a piece of a capture
 
 fn run_held(
     job: Job,
@@ -56,14 +98,12 @@ fn run_held(
     seen
 }
 
-// A piece of a capture on one of the two.
+// On one of the two.
 pub fn run(job: Job, boards: &mut [u8], board: usize, bus: bool, samples: &[u8]) -> Seen {
     let mut held = [0u8; pack_chip::LENGTH];
     let mut array = [0u8; 32768];
     let mut id = [0u8; 64];
-    load(boards, board, &mut held);
-    load(boards, at(board, ARRAY), &mut array);
-    load(boards, at(board, PAGE), &mut id);
+    take(boards, board, &mut held, &mut array, &mut id);
     let seen = run_held(
         job,
         &mut held,
@@ -76,24 +116,121 @@ pub fn run(job: Job, boards: &mut [u8], board: usize, bus: bool, samples: &[u8])
     seen
 }
 
+// Up to a Stop: a cycle begins at one, so what ends here is the cycle that was under way before, and until then it stays as it is.
+fn count_piece(
+    job: Job,
+    held: &mut [u8],
+    array: &mut [u8],
+    id: &mut [u8],
+    counts: &mut [u32],
+    bus: bool,
+    samples: &[u8],
+) {
+    let before = pack_chip::unpack(held);
+    let seen = run_held(job, held, array, id, bus, samples);
+    if 0 < seen.ends {
+        wear::mark(job.part, before, counts);
+    }
+}
+
+// The samples from one on are counted where a Stop or the end comes; answers from where on they are not yet.
+fn count_to(
+    job: Job,
+    held: &mut [u8],
+    array: &mut [u8],
+    id: &mut [u8],
+    counts: &mut [u32],
+    bus: bool,
+    samples: &[u8],
+    from: usize,
+    i: usize,
+) -> usize {
+    if !crate::fill::ends_piece(samples, i) {
+        return from;
+    }
+    if i < samples.len() {
+        if from <= i {
+            let end = i + 1;
+            count_piece(job, held, array, id, counts, bus, &samples[from..end]);
+        }
+    }
+    i
+}
+
+fn count_all(
+    job: Job,
+    held: &mut [u8],
+    array: &mut [u8],
+    id: &mut [u8],
+    counts: &mut [u32],
+    bus: bool,
+    samples: &[u8],
+) {
+    let mut from = 0;
+    let mut i = 0;
+    while i < samples.len() {
+        from = count_to(job, held, array, id, counts, bus, samples, from, i);
+        i += 1;
+    }
+}
+
+// Where counts are kept they go on by the cycles that end in the piece, on a copy of the first chip. Of a file that is refused later they are
+// not taken back: nothing is saved then.
+fn count(job: Job, boards: &mut [u8], bus: bool, samples: &[u8]) {
+    if !job.wear {
+        return;
+    }
+    let mut held = [0u8; pack_chip::LENGTH];
+    let mut array = [0u8; 32768];
+    let mut id = [0u8; 64];
+    let mut counts = [0u32; 8192];
+    take(boards, OWN, &mut held, &mut array, &mut id);
+    take_counts(boards, &mut counts);
+    count_all(
+        job,
+        &mut held,
+        fitted::array(job.part, &mut array),
+        fitted::id(job.part, &mut id),
+        fitted::counts(job.part, &mut counts),
+        bus,
+        samples,
+    );
+    put_counts(boards, &counts);
+}
+
+// On the first, and its counts go on.
+pub fn run_own(job: Job, boards: &mut [u8], bus: bool, samples: &[u8]) -> Seen {
+    count(job, boards, bus, samples);
+    run(job, boards, OWN, bus, samples)
+}
+
+// ---- both chips
+
 // Whether the file stands that is asked for, with the chip of the reading asked for.
 pub fn save(job: Job, boards: &[u8]) -> bool {
     let mut held = [0u8; pack_chip::LENGTH];
     let mut array = [0u8; 32768];
     let mut id = [0u8; 64];
-    load(boards, OWN, &mut held);
-    load(boards, ARRAY, &mut array);
-    load(boards, PAGE, &mut id);
+    let mut counts = [0u32; 8192];
+    take(boards, OWN, &mut held, &mut array, &mut id);
+    take_counts(boards, &mut counts);
     save_held(
         job,
         &mut held,
         fitted::array(job.part, &mut array),
         fitted::id(job.part, &mut id),
+        fitted::counts(job.part, &mut counts),
     )
 }
 
-fn save_held(job: Job, held: &mut [u8], array: &mut [u8], id: &mut [u8]) -> bool {
-    files::save(job.save, job.part, held, array, id)
+fn save_held(
+    job: Job,
+    held: &mut [u8],
+    array: &mut [u8],
+    id: &mut [u8],
+    counts: &mut [u32],
+) -> bool {
+    files::save_kept(job, held, array, id, counts)
 }
 
 fn copy(boards: &mut [u8], from: usize, to: usize) {

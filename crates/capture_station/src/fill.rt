@@ -235,6 +235,11 @@ fn is_stop(samples: &[u8], k: usize) -> bool {
     false
 }
 
+// Whether an entry makes a Stop, or is the last.
+pub fn ends_piece(samples: &[u8], k: usize) -> bool {
+    is_stop(samples, k) | (samples.len() <= std::num::wrapping_add_usize(k, 1))
+}
+
 // The entry that makes the last Stop; 0 for none.
 pub fn last_stop(samples: &[u8], n: usize) -> usize {
     let mut k = n;

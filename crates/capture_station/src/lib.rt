@@ -176,7 +176,7 @@ fn run_piece(
     out: &mut [u8],
 ) -> Walked {
     let bus = !job.letter;
-    let seen = boards::run(job, boards, boards::OWN, bus, samples);
+    let seen = boards::run_own(job, boards, bus, samples);
     let other = boards::run(job, boards, boards::OTHER, !bus, samples);
     let mark = seen.mark;
     let s = w.source;
@@ -825,6 +825,7 @@ fn run(job: Job, boards: &mut [u8]) -> bool {
 fn prepared(
     job: Job,
     verdict: Verdict,
+    worn: bool,
     held: &mut [u8],
     array: &mut [u8],
     id: &mut [u8],
@@ -833,14 +834,22 @@ fn prepared(
     let ready = files::prepared(verdict, job, held, array, id);
     boards::put(boards, boards::OWN, held, array, id);
     boards::put(boards, boards::OTHER, held, array, id);
-    Ready::Judged(ready)
+    Ready::Judged(ready, worn)
 }
 
-fn begin(job: Job, held: &mut [u8], array: &mut [u8], id: &mut [u8], boards: &mut [u8]) -> Ready {
-    let first = files::at_first(job, held, array, id);
+fn begin(
+    job: Job,
+    held: &mut [u8],
+    array: &mut [u8],
+    id: &mut [u8],
+    counts: &mut [u32],
+    boards: &mut [u8],
+) -> Ready {
+    let first = files::at_first(job, held, array, id, counts);
+    boards::put_counts(boards, counts);
     match first {
         Ready::Told => Ready::Told,
-        Ready::Judged(verdict) => prepared(job, verdict, held, array, id, boards),
+        Ready::Judged(verdict, worn) => prepared(job, verdict, worn, held, array, id, boards),
     }
 }
 
@@ -849,11 +858,13 @@ fn lay(job: Job, boards: &mut [u8]) -> Ready {
     let mut held = [0u8; pack_chip::LENGTH];
     let mut array = [0u8; 32768];
     let mut id = [0u8; 64];
+    let mut counts = [0u32; 8192];
     begin(
         job,
         &mut held,
         fitted::array(job.part, &mut array),
         fitted::id(job.part, &mut id),
+        fitted::counts(job.part, &mut counts),
         boards,
     )
 }
@@ -869,7 +880,13 @@ fn run_on(job: Job, boards: &mut [u8]) -> bool {
     let ready = lay(job, boards);
     match ready {
         Ready::Told => false,
-        Ready::Judged(verdict) => run_laid(job, verdict, boards),
+        Ready::Judged(verdict, worn) => {
+            let kept = Job {
+                wear: job.wear | worn,
+                ..job
+            };
+            run_laid(kept, verdict, boards)
+        }
     }
 }
 

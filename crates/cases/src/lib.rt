@@ -1,4 +1,5 @@
 // The lines that a trying program reads: a letter for what is done, up to sixteen numbers and, after a colon, what is tried.
+pub mod counts;
 
 // The part from `a` to `e`, for a caller whose slice has it.
 pub fn cut(s: &[u8], a: usize, e: usize) -> &[u8] {
@@ -14,7 +15,7 @@ pub fn more(n: usize) -> usize {
     if n < 65536 { n + 1 } else { n }
 }
 
-// A number with one digit more; anything but a digit leaves it.
+// A number with one digit more; anything but a digit leaves it, and so does an eleventh digit.
 fn with_digit(n: usize, x: u8) -> usize {
     if x < 48 {
         return n;
@@ -22,7 +23,7 @@ fn with_digit(n: usize, x: u8) -> usize {
     if 57 < x {
         return n;
     }
-    if n < 65536 {
+    if n < 1000000000 {
         return n * 10 + (x - 48) as usize;
     }
     n
@@ -70,6 +71,20 @@ pub fn label(line: &[u8]) -> &[u8] {
     cut(line, more(more(place(line, b':'))), line.len())
 }
 
+// Up to the first such byte.
+pub fn front(s: &[u8], mark: u8) -> &[u8] {
+    cut(s, 0, place(s, mark))
+}
+
+// Behind the first such byte; nothing where there is none.
+pub fn behind(s: &[u8], mark: u8) -> &[u8] {
+    let n = place(s, mark);
+    if n < s.len() {
+        return cut(s, more(n), s.len());
+    }
+    cut(s, s.len(), s.len())
+}
+
 // ---- bytes that tell places apart
 
 pub fn next(x: u8) -> u8 {
@@ -87,8 +102,13 @@ pub fn fill(s: &mut [u8], first: u8) {
     }
 }
 
-fn mix(sum: usize, x: u8) -> usize {
-    (sum % 1000003 * 31 + x as usize) % 1000003
+// Two numbers as one that tells them apart.
+pub fn mix(sum: usize, x: usize) -> usize {
+    (sum % 1000003 * 31 + x % 1000003) % 1000003
+}
+
+fn mix_byte(sum: usize, x: u8) -> usize {
+    mix(sum, x as usize)
 }
 
 // A number that tells buffers apart by their bytes and the places of these.
@@ -96,7 +116,7 @@ pub fn mixed(s: &[u8]) -> usize {
     let mut sum = 0;
     let mut i = 0;
     while i < s.len() {
-        sum = mix(sum, s[i]);
+        sum = mix_byte(sum, s[i]);
         i += 1;
     }
     sum

@@ -9,6 +9,20 @@ use Rattle.wear_promises.proofs.Told.{most-is-most, report-numbers, report-pinn
 use Rattle.wear_promises.proofs.Pinned.{wear-pinned}
 use Rattle.wear_promises.proofs.Histories.{histories-worn}
 use Rattle.wear_promises.proofs.WrongCounters.{wrong-counters}
+use Rattle.image_promises.proofs.Places.{worn-places, worn-lengths}
+use Rattle.image_promises.proofs.Numbers.{save-worn-numbers, load-worn-numbers}
+use Rattle.image_promises.proofs.ToNumbers.{to-worn-numbers, to-plain-numbers}
+use Rattle.image_promises.proofs.Written.{layout-written, layout-read, accepts-all-worn}
+use Rattle.image_promises.proofs.Kept.{gives-back-worn, saves-same-worn, accepts-only-worn, old-reader-refuses, plain-loads-zero}
+use Rattle.image_promises.proofs.Converted.{converts-there, converts-back, there-and-back, back-and-there, loses-nothing}
+use Rattle.image_promises.proofs.Same.{there-converts-same, back-converts-same}
+use Rattle.image_promises.proofs.One.{one-worn-number}
+use Rattle.image_promises.proofs.Pinned.{refused-keeps as worn-refused-keeps, worn-ours, worn-pinned}
+use Rattle.image_promises.proofs.Swapped.{swap-keeps-history}
+use Rattle.image_promises.proofs.WrongSaves.{wrong-worn}
+use Rattle.wear.specs.Calls.{wearOf}
+use Rattle.image_worn.specs.Calls.{savingWorn, loadingWorn}
+use Rattle.sapwoodle.proofs.worns.Kept.{worn-bytes-kept}
 use Rattle.bench_promises.proofs.Worn.{bench-wear-is-history, worn-is-bench}
 use Rattle.chip_laws.proofs.Roll.{page-rule}
 use Rattle.chip_laws.proofs.Runs.{run-is-steps}
@@ -143,5 +157,32 @@ requests =
             any-order = join-any-order;
             heaps = heaps-merge;
             wrong = wrong-counters;
+          };
+      seventh =
+          record {
+            swapped = swap-keeps-history wearOf savingWorn loadingWorn wear-is-history gives-back-worn;
+            places = worn-places;
+            lengths = worn-lengths;
+            written = layout-written;
+            read = layout-read;
+            gives-back = gives-back-worn;
+            saves-same = saves-same-worn;
+            all = accepts-all-worn;
+            only = accepts-only-worn;
+            zero = plain-loads-zero;
+            there = converts-there;
+            back = converts-back;
+            loses-nothing = loses-nothing;
+            there-and-back = there-and-back;
+            back-and-there = back-and-there;
+            same = (there-converts-same, back-converts-same);
+            old = old-reader-refuses;
+            numbers = (save-worn-numbers, load-worn-numbers, to-worn-numbers, to-plain-numbers);
+            one-number = one-worn-number;
+            refused = worn-refused-keeps;
+            bytes-refused = worn-bytes-kept;
+            ours = worn-ours;
+            pinned = worn-pinned;
+            wrong = wrong-worn;
           };
     }

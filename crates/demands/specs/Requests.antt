@@ -40,11 +40,19 @@ use Rattle.wear_promises.specs.Counts.{WearIsHistory, TotalIsHistory, TracesAdd
 use Rattle.wear_promises.specs.Told.{MostIsMost, ReportNumbers, ReportPinned, JoinAdds, JoinAnyOrder, HeapsMerge}
 use Rattle.wear_promises.specs.Histories.{wornHold, wornHistories}
 use Rattle.wear_promises.specs.WrongCounters.{WrongCounters}
+use Rattle.image.specs.Calls.{loading}
+use Rattle.image_worn.specs.Calls.{savingWorn, loadingWorn, toWornOf, toPlainOf}
+use Rattle.image_promises.specs.Layout.{LayoutWritten, LayoutRead, ConvertsThere, ConvertsBack, WornPlaces, WornLengths}
+use Rattle.image_promises.specs.Promises.{GivesBackWorn, SavesSameWorn, PlainLoadsZero, OldReaderRefuses, AcceptsOnlyWorn, AcceptsAllWorn, ThereAndBack, BackAndThere, LosesNothing, ConvertsSame, RefusedKeeps as WornRefusedKeeps}
+use Rattle.image_promises.specs.Numbers.{SaveWornNumbers, LoadWornNumbers, ToWornNumbers, ToPlainNumbers, OneWornNumber}
+use Rattle.image_promises.specs.Pinned.{WornOurs, WornPinned}
+use Rattle.image_promises.specs.Swapped.{SwapKeepsHistory}
+use Rattle.image_promises.specs.Wrong.{WrongWorn}
 use Rattle.bench.specs.Worn.{benchWornOf}
 use Rattle.bench_promises.specs.Worn.{BenchWearIsHistory, WornIsBench}
 use mathlib.Core.Path.{_≡_}
 use mathlib.Core.Bool.{true}
-use Rattle.sapwoodle.specs.Promises.{NextIsDrivers, BenchIsBenchs, CaptureIsChips, CaptureRefuses4, StepIsChips, RunIsChips, StepOld, RunOld, StepRefuses3, RunRefuses3}
+use Rattle.sapwoodle.specs.Promises.{NextIsDrivers, BenchIsBenchs, CaptureIsChips, CaptureRefuses4, StepIsChips, RunIsChips, StepOld, RunOld, StepRefuses3, RunRefuses3, WornBytesKept}
 use Rattle.sapwoodle.specs.Chips.{stepping, running}
 use Rattle.sapwoodle.specs.Drivers.{asking}
 use Rattle.sapwoodle.specs.Runs.{benching}
@@ -213,6 +221,47 @@ pub record Request6 : Type 0 where
   -- these; so does a total that is the number of cycles
   pub wrong : WrongCounters
 
+-- §7, "Wear in the image.": of `savingWorn`, `loadingWorn`, `toWornOf` and `toPlainOf`, which `code` of specs/Demands.antt says that the functions are
+pub record Request7 : Type 0 where
+  -- "Boxes that are swapped between sites lose their history.": saved at one and loaded at another, a box's counts are those of both histories
+  pub swapped : SwapKeepsHistory wearOf savingWorn loadingWorn
+  -- "Version 0002h of the `EPR` image adds the counts of §6 after the identification page, high byte first": each byte in its place, and how many there are
+  pub places : WornPlaces
+  pub lengths : WornLengths
+  -- that is what is saved, and what is loaded; the one gives back what the other was given
+  pub written : LayoutWritten savingWorn
+  pub read : LayoutRead loadingWorn
+  pub gives-back : GivesBackWorn savingWorn loadingWorn
+  pub saves-same : SavesSameWorn savingWorn loadingWorn
+  -- images of the two versions are taken, and no others
+  pub all : AcceptsAllWorn loadingWorn
+  pub only : AcceptsOnlyWorn loadingWorn
+  -- "Version 1 files load with all counts zero and convert to version 2"
+  pub zero : PlainLoadsZero loadingWorn loading
+  pub there : ConvertsThere toWornOf
+  -- "Back to version 1 only if all counts are zero"
+  pub back : ConvertsBack toPlainOf
+  pub loses-nothing : LosesNothing toPlainOf
+  -- "and there and back gives the same bytes"; what is loaded is the same before and after
+  pub there-and-back : ThereAndBack toWornOf toPlainOf
+  pub back-and-there : BackAndThere toWornOf toPlainOf
+  pub same : ConvertsSame toWornOf loadingWorn × ConvertsSame toPlainOf loadingWorn
+  -- "a version 1 reader refuses version 2": ours of document 01, which stands as it did
+  pub old : OldReaderRefuses loading
+  -- "Refusals: 21 counts would be lost, after 12": in its place among the others; a refused call changes nothing
+  pub numbers : SaveWornNumbers savingWorn × LoadWornNumbers loadingWorn × ToWornNumbers toWornOf × ToPlainNumbers toPlainOf
+  pub one-number : OneWornNumber
+  pub refused : WornRefusedKeeps savingWorn loadingWorn toWornOf toPlainOf
+  -- from C too
+  pub bytes-refused : WornBytesKept
+  -- these leave nothing open: ours keep them, and whoever else does is ours
+  pub ours : WornOurs
+  pub pinned : WornPinned
+  -- ways back that drop counts or look at some of them or at some of their bytes, loaders that leave counts, savers that write none, low bytes first, or
+  -- counts before the identification page, a length four bytes short, 21 before 12, a reader of version 1 that takes version 2, and conversions that refuse
+  -- everything break these
+  pub wrong : WrongWorn
+
 pub record Requests : Type 0 where
   pub first : Request1
   pub second : Request2
@@ -220,3 +269,4 @@ pub record Requests : Type 0 where
   pub fourth : Request4
   pub fifth : Request5
   pub sixth : Request6
+  pub seventh : Request7

@@ -101,6 +101,23 @@ use Rattle.determined.specs.Functions.{
   WearReportDetermined,
   WearJoinDetermined,
   BenchRunWornDetermined,
+  PartsCopyDetermined,
+  PartsWordDetermined,
+  PartsJoinedDetermined,
+  ImageLengthDetermined,
+  SaveVerdictDetermined,
+  PartInDetermined,
+  LockInDetermined,
+  FormedDetermined,
+  WornLengthDetermined,
+  SaveWornDetermined,
+  LoadWornDetermined,
+  ToWornDetermined,
+  ToPlainDetermined,
+  SapwoodleSaveWornDetermined,
+  SapwoodleLoadWornDetermined,
+  SapwoodleToWornDetermined,
+  SapwoodleToPlainDetermined,
   SapwoodleGroupsDetermined,
   SapwoodleWearRunDetermined,
   SapwoodleWearReportDetermined,
@@ -110,7 +127,7 @@ use Rattle.determined.specs.Functions.{
   DriverUnpackDetermined,
 }
 use Rattle.determined.proofs.Answers.{agree, same, plainly, of-machine}
-use Rattle.determined.proofs.Machines.{deliver-is, step-is, run-is, save-is, load-is, hex-read-is, hex-write-is, capture-run-is, capture-events-is, count-is, trace-is, begin-is, next-is-our-driver, bench-record-is-our-bench, bench-run-is-our-bench, pass-is, mark-is, wear-run-is, wear-report-is, wear-join-is, bench-run-worn-is, sapwoodle-wear-run-is, sapwoodle-wear-report-is, sapwoodle-wear-join-is, sapwoodle-wear-bench-run-is, sapwoodle-deliver-is, sapwoodle-step-is, sapwoodle-run-is, sapwoodle-save-is, sapwoodle-load-is, sapwoodle-hex-read-is, sapwoodle-hex-write-is, sapwoodle-capture-run-is, sapwoodle-capture-events-is, sapwoodle-capture-tally-is, sapwoodle-driver-begin-is, sapwoodle-driver-next-is, sapwoodle-bench-run-is, sapwoodle-trace-is}
+use Rattle.determined.proofs.Machines.{deliver-is, step-is, run-is, save-is, load-is, hex-read-is, hex-write-is, capture-run-is, capture-events-is, count-is, trace-is, begin-is, next-is-our-driver, bench-record-is-our-bench, bench-run-is-our-bench, pass-is, mark-is, wear-run-is, wear-report-is, wear-join-is, bench-run-worn-is, save-worn-is, load-worn-is, to-worn-is, to-plain-is, sapwoodle-save-worn-is, sapwoodle-load-worn-is, sapwoodle-to-worn-is, sapwoodle-to-plain-is, sapwoodle-wear-run-is, sapwoodle-wear-report-is, sapwoodle-wear-join-is, sapwoodle-wear-bench-run-is, sapwoodle-deliver-is, sapwoodle-step-is, sapwoodle-run-is, sapwoodle-save-is, sapwoodle-load-is, sapwoodle-hex-read-is, sapwoodle-hex-write-is, sapwoodle-capture-run-is, sapwoodle-capture-events-is, sapwoodle-capture-tally-is, sapwoodle-driver-begin-is, sapwoodle-driver-next-is, sapwoodle-bench-run-is, sapwoodle-trace-is}
 
 pub facts-of-determined : FactsOfDetermined
 facts-of-determined = record { taken = λ κs a. tt; equal = λ κs a x y p q. same (agree (p .0) (q .0)) refl }
@@ -446,6 +463,57 @@ sapwoodle-wear-join-determined = of-machine (λ κs a. tt) sapwoodle-wear-join-i
 pub sapwoodle-wear-bench-run-determined : SapwoodleWearBenchRunDetermined
 sapwoodle-wear-bench-run-determined = of-machine (λ κs a. tt) sapwoodle-wear-bench-run-is
 
+pub parts-copy-determined : PartsCopyDetermined
+parts-copy-determined = record { taken = λ κs a. tt; equal = λ κs a x y p q. same refl (λ i. (agree p q i, (tt, (tt, tt)))) }
+
+pub parts-word-determined : PartsWordDetermined
+parts-word-determined = plainly (λ κs a u v. refl)
+
+pub parts-joined-determined : PartsJoinedDetermined
+parts-joined-determined = record { taken = λ κs a. tt; equal = λ κs a x y p q. same (agree (p .0) (q .0)) refl }
+
+pub image-length-determined : ImageLengthDetermined
+image-length-determined = plainly (λ κs a u v. refl)
+
+pub save-verdict-determined : SaveVerdictDetermined
+save-verdict-determined = plainly (λ κs a u v. refl)
+
+pub part-in-determined : PartInDetermined
+part-in-determined = plainly (λ κs a u v. refl)
+
+pub lock-in-determined : LockInDetermined
+lock-in-determined = plainly (λ κs a u v. refl)
+
+pub formed-determined : FormedDetermined
+formed-determined = plainly (λ κs a u v. refl)
+
+pub worn-length-determined : WornLengthDetermined
+worn-length-determined = plainly (λ κs a u v. refl)
+
+pub save-worn-determined : SaveWornDetermined
+save-worn-determined = of-machine (λ κs a. tt) save-worn-is
+
+pub load-worn-determined : LoadWornDetermined
+load-worn-determined = of-machine (λ κs a. tt) load-worn-is
+
+pub to-worn-determined : ToWornDetermined
+to-worn-determined = of-machine (λ κs a. tt) to-worn-is
+
+pub to-plain-determined : ToPlainDetermined
+to-plain-determined = of-machine (λ κs a. tt) to-plain-is
+
+pub sapwoodle-save-worn-determined : SapwoodleSaveWornDetermined
+sapwoodle-save-worn-determined = of-machine (λ κs a. tt) sapwoodle-save-worn-is
+
+pub sapwoodle-load-worn-determined : SapwoodleLoadWornDetermined
+sapwoodle-load-worn-determined = of-machine (λ κs a. tt) sapwoodle-load-worn-is
+
+pub sapwoodle-to-worn-determined : SapwoodleToWornDetermined
+sapwoodle-to-worn-determined = of-machine (λ κs a. tt) sapwoodle-to-worn-is
+
+pub sapwoodle-to-plain-determined : SapwoodleToPlainDetermined
+sapwoodle-to-plain-determined = of-machine (λ κs a. tt) sapwoodle-to-plain-is
+
 pub every-answer : EveryAnswer
 every-answer =
     record {
@@ -469,6 +537,10 @@ every-answer =
       wear-report = wear-report-determined;
       wear-join = wear-join-determined;
       bench-run-worn = bench-run-worn-determined;
+      save-worn = save-worn-determined;
+      load-worn = load-worn-determined;
+      to-worn = to-worn-determined;
+      to-plain = to-plain-determined;
       sapwoodle-deliver = sapwoodle-deliver-determined;
       sapwoodle-step = sapwoodle-step-determined;
       sapwoodle-run = sapwoodle-run-determined;
@@ -487,5 +559,9 @@ every-answer =
       sapwoodle-wear-report = sapwoodle-wear-report-determined;
       sapwoodle-wear-join = sapwoodle-wear-join-determined;
       sapwoodle-wear-bench-run = sapwoodle-wear-bench-run-determined;
+      sapwoodle-save-worn = sapwoodle-save-worn-determined;
+      sapwoodle-load-worn = sapwoodle-load-worn-determined;
+      sapwoodle-to-worn = sapwoodle-to-worn-determined;
+      sapwoodle-to-plain = sapwoodle-to-plain-determined;
       sapwoodle-trace = sapwoodle-trace-determined;
     }

@@ -2,7 +2,7 @@
 -- order; what is left is a row of the parameters.
 -- Assumes nothing.
 use mathlib.Core.Path.{refl}
-use Rattle.determined.specs.Machines.{EveryMachine, DeliverIs, StepIs, RunIs, SaveIs, LoadIs, HexReadIs, HexWriteIs, CaptureRunIs, CaptureEventsIs, CountIs, TraceIs, BeginIs, NextIsOurDriver, BenchRecordIsOurBench, BenchRunIsOurBench, PassIs, MarkIs, WearRunIs, WearReportIs, WearJoinIs, BenchRunWornIs, SapwoodleWearRunIs, SapwoodleWearReportIs, SapwoodleWearJoinIs, SapwoodleWearBenchRunIs, SapwoodleDeliverIs, SapwoodleStepIs, SapwoodleRunIs, SapwoodleSaveIs, SapwoodleLoadIs, SapwoodleHexReadIs, SapwoodleHexWriteIs, SapwoodleCaptureRunIs, SapwoodleCaptureEventsIs, SapwoodleCaptureTallyIs, SapwoodleDriverBeginIs, SapwoodleDriverNextIs, SapwoodleBenchRunIs, SapwoodleTraceIs}
+use Rattle.determined.specs.Machines.{EveryMachine, DeliverIs, StepIs, RunIs, SaveIs, LoadIs, HexReadIs, HexWriteIs, CaptureRunIs, CaptureEventsIs, CountIs, TraceIs, BeginIs, NextIsOurDriver, BenchRecordIsOurBench, BenchRunIsOurBench, PassIs, MarkIs, WearRunIs, WearReportIs, WearJoinIs, BenchRunWornIs, SaveWornIs, LoadWornIs, ToWornIs, ToPlainIs, SapwoodleSaveWornIs, SapwoodleLoadWornIs, SapwoodleToWornIs, SapwoodleToPlainIs, SapwoodleWearRunIs, SapwoodleWearReportIs, SapwoodleWearJoinIs, SapwoodleWearBenchRunIs, SapwoodleDeliverIs, SapwoodleStepIs, SapwoodleRunIs, SapwoodleSaveIs, SapwoodleLoadIs, SapwoodleHexReadIs, SapwoodleHexWriteIs, SapwoodleCaptureRunIs, SapwoodleCaptureEventsIs, SapwoodleCaptureTallyIs, SapwoodleDriverBeginIs, SapwoodleDriverNextIs, SapwoodleBenchRunIs, SapwoodleTraceIs}
 use Rattle.determined.proofs.Answers.{same}
 
 pub deliver-is : DeliverIs
@@ -122,6 +122,30 @@ sapwoodle-wear-join-is = λ κs a x p. same (p .0) (λ i. (tt, (p .1 i, (tt, tt)
 pub sapwoodle-wear-bench-run-is : SapwoodleWearBenchRunIs
 sapwoodle-wear-bench-run-is = λ κs a x p. same (p .0) (λ i. (tt, (tt, (tt, (tt, (tt, (tt, (tt, (tt, (p .1 .0 i, (p .1 .1 .0 i .cells, (p .1 .1 .0 i .ident, (p .1 .1 .1 .0 i, (p .1 .1 .1 .1 .0 i, (p .1 .1 .1 .1 .1 .0 i, (p .1 .1 .1 .1 .1 .1 .0 i, (p .1 .1 .1 .1 .1 .1 .1 .0 i, (p .1 .1 .1 .1 .1 .1 .1 .1 .0 i, (p .1 .1 .1 .1 .1 .1 .1 .1 .1 i, tt)))))))))))))))))))
 
+pub save-worn-is : SaveWornIs
+save-worn-is = λ κs a x p. same (p .0) (λ i. (tt, (tt, (tt, (tt, (tt, (p .1 i, tt)))))))
+
+pub load-worn-is : LoadWornIs
+load-worn-is = λ κs a x p. same (p .0) (λ i. (tt, (tt, (p .1 .0 i, (p .1 .1 .0 i, (p .1 .1 .1 i, tt))))))
+
+pub to-worn-is : ToWornIs
+to-worn-is = λ κs a x p. same (p .0) (λ i. (tt, (p .1 i, tt)))
+
+pub to-plain-is : ToPlainIs
+to-plain-is = λ κs a x p. same (p .0) (λ i. (tt, (p .1 i, tt)))
+
+pub sapwoodle-save-worn-is : SapwoodleSaveWornIs
+sapwoodle-save-worn-is = λ κs a x p. same (p .0) (λ i. (tt, (tt, (tt, (tt, (tt, (p .1 .0 i, (p .1 .1 i, tt))))))))
+
+pub sapwoodle-load-worn-is : SapwoodleLoadWornIs
+sapwoodle-load-worn-is = λ κs a x p. same (p .0) (λ i. (tt, (tt, (p .1 .0 i, (p .1 .1 .0 i, (p .1 .1 .1 .0 i, (p .1 .1 .1 .1 .0 i, (p .1 .1 .1 .1 .1 i, tt))))))))
+
+pub sapwoodle-to-worn-is : SapwoodleToWornIs
+sapwoodle-to-worn-is = λ κs a x p. same (p .0) (λ i. (tt, (p .1 .0 i, (p .1 .1 i, tt))))
+
+pub sapwoodle-to-plain-is : SapwoodleToPlainIs
+sapwoodle-to-plain-is = λ κs a x p. same (p .0) (λ i. (tt, (p .1 .0 i, (p .1 .1 i, tt))))
+
 pub every-machine : EveryMachine
 every-machine =
     record {
@@ -144,6 +168,10 @@ every-machine =
       wear-report = wear-report-is;
       wear-join = wear-join-is;
       bench-run-worn = bench-run-worn-is;
+      save-worn = save-worn-is;
+      load-worn = load-worn-is;
+      to-worn = to-worn-is;
+      to-plain = to-plain-is;
       sapwoodle-deliver = sapwoodle-deliver-is;
       sapwoodle-step = sapwoodle-step-is;
       sapwoodle-run = sapwoodle-run-is;
@@ -161,5 +189,9 @@ every-machine =
       sapwoodle-wear-report = sapwoodle-wear-report-is;
       sapwoodle-wear-join = sapwoodle-wear-join-is;
       sapwoodle-wear-bench-run = sapwoodle-wear-bench-run-is;
+      sapwoodle-save-worn = sapwoodle-save-worn-is;
+      sapwoodle-load-worn = sapwoodle-load-worn-is;
+      sapwoodle-to-worn = sapwoodle-to-worn-is;
+      sapwoodle-to-plain = sapwoodle-to-plain-is;
       sapwoodle-trace = sapwoodle-trace-is;
     }

@@ -13,6 +13,9 @@ use Rattle.parts.proofs.loss_size as loss-size
 use Rattle.parts.proofs.all_below as all-below
 use Rattle.parts.proofs.flag as flag
 use Rattle.parts.proofs.byte_at as byte-at
+use Rattle.parts.proofs.copy as parts-copy
+use Rattle.parts.proofs.word as parts-word
+use Rattle.parts.proofs.joined as parts-joined
 use Rattle.parts.proofs.number as number
 use Rattle.parts.proofs.verdict_number as verdict-number
 use Rattle.parts.proofs.spot_of as spot-of
@@ -54,6 +57,16 @@ use Rattle.page.proofs.look_refusal as look-refusal
 use Rattle.page.proofs.look as look
 use Rattle.image.proofs.save as save
 use Rattle.image.proofs.load as load
+use Rattle.image.proofs.image_length as image-length
+use Rattle.image.proofs.save_verdict as save-verdict
+use Rattle.image.proofs.part_in as part-in
+use Rattle.image.proofs.lock_in as lock-in
+use Rattle.image.proofs.formed as formed
+use Rattle.image_worn.proofs.worn_length as worn-length
+use Rattle.image_worn.proofs.save_worn as save-worn
+use Rattle.image_worn.proofs.load_worn as load-worn
+use Rattle.image_worn.proofs.to_worn as to-worn
+use Rattle.image_worn.proofs.to_plain as to-plain
 use Rattle.hexfile.proofs.read as hex-read
 use Rattle.hexfile.proofs.write as hex-write
 use Rattle.capture.proofs.judge as capture-judge
@@ -104,6 +117,10 @@ use Rattle.sapwoodle.proofs.wears.sapwoodle_wear_run as sapwoodle-wear-run
 use Rattle.sapwoodle.proofs.wears.sapwoodle_wear_report as sapwoodle-wear-report
 use Rattle.sapwoodle.proofs.wears.sapwoodle_wear_join as sapwoodle-wear-join
 use Rattle.sapwoodle.proofs.wears.sapwoodle_wear_bench_run as sapwoodle-wear-bench-run
+use Rattle.sapwoodle.proofs.worns.sapwoodle_save_worn as sapwoodle-save-worn
+use Rattle.sapwoodle.proofs.worns.sapwoodle_load_worn as sapwoodle-load-worn
+use Rattle.sapwoodle.proofs.worns.sapwoodle_to_worn as sapwoodle-to-worn
+use Rattle.sapwoodle.proofs.worns.sapwoodle_to_plain as sapwoodle-to-plain
 use Rattle.sapwoodle.proofs.sapwoodle_trace as sapwoodle-trace
 use Rattle.determined.specs.Walked.{CountAsked, CountLearnt}
 use Rattle.determined.specs.Determined.{Determined, DeterminedAs, part}
@@ -145,6 +162,15 @@ FlagDetermined = Determined flag.ended flag.Reads.Asked flag.Reads.Learnt
 
 abbrev pub ByteAtDetermined : Type 0
 ByteAtDetermined = Determined byte-at.ended byte-at.Reads.Asked byte-at.Reads.Learnt
+
+abbrev pub PartsCopyDetermined : Type 0
+PartsCopyDetermined = Determined parts-copy.ended parts-copy.Reads.Asked parts-copy.Reads.Learnt
+
+abbrev pub PartsWordDetermined : Type 0
+PartsWordDetermined = Determined parts-word.ended parts-word.Reads.Asked parts-word.Reads.Learnt
+
+abbrev pub PartsJoinedDetermined : Type 0
+PartsJoinedDetermined = Determined parts-joined.ended parts-joined.Reads.Asked parts-joined.Reads.Learnt
 
 abbrev pub NumberDetermined : Type 0
 NumberDetermined = Determined number.ended number.Reads.Asked number.Reads.Learnt
@@ -283,6 +309,38 @@ SaveDetermined = Determined save.ended save.Reads.Asked save.Reads.Learnt
 
 abbrev pub LoadDetermined : Type 0
 LoadDetermined = Determined load.ended load.Reads.Asked load.Reads.Learnt
+
+abbrev pub ImageLengthDetermined : Type 0
+ImageLengthDetermined = Determined image-length.ended image-length.Reads.Asked image-length.Reads.Learnt
+
+abbrev pub SaveVerdictDetermined : Type 0
+SaveVerdictDetermined = Determined save-verdict.ended save-verdict.Reads.Asked save-verdict.Reads.Learnt
+
+abbrev pub PartInDetermined : Type 0
+PartInDetermined = Determined part-in.ended part-in.Reads.Asked part-in.Reads.Learnt
+
+abbrev pub LockInDetermined : Type 0
+LockInDetermined = Determined lock-in.ended lock-in.Reads.Asked lock-in.Reads.Learnt
+
+abbrev pub FormedDetermined : Type 0
+FormedDetermined = Determined formed.ended formed.Reads.Asked formed.Reads.Learnt
+
+-- ---- image_worn
+
+abbrev pub WornLengthDetermined : Type 0
+WornLengthDetermined = Determined worn-length.ended worn-length.Reads.Asked worn-length.Reads.Learnt
+
+abbrev pub SaveWornDetermined : Type 0
+SaveWornDetermined = Determined save-worn.ended save-worn.Reads.Asked save-worn.Reads.Learnt
+
+abbrev pub LoadWornDetermined : Type 0
+LoadWornDetermined = Determined load-worn.ended load-worn.Reads.Asked load-worn.Reads.Learnt
+
+abbrev pub ToWornDetermined : Type 0
+ToWornDetermined = Determined to-worn.ended to-worn.Reads.Asked to-worn.Reads.Learnt
+
+abbrev pub ToPlainDetermined : Type 0
+ToPlainDetermined = Determined to-plain.ended to-plain.Reads.Asked to-plain.Reads.Learnt
 
 -- ---- hexfile
 
@@ -453,6 +511,18 @@ SapwoodleWearJoinDetermined = Determined sapwoodle-wear-join.ended sapwoodle-wea
 abbrev pub SapwoodleWearBenchRunDetermined : Type 0
 SapwoodleWearBenchRunDetermined = Determined sapwoodle-wear-bench-run.ended sapwoodle-wear-bench-run.Reads.Asked sapwoodle-wear-bench-run.Reads.Learnt
 
+abbrev pub SapwoodleSaveWornDetermined : Type 0
+SapwoodleSaveWornDetermined = Determined sapwoodle-save-worn.ended sapwoodle-save-worn.Reads.Asked sapwoodle-save-worn.Reads.Learnt
+
+abbrev pub SapwoodleLoadWornDetermined : Type 0
+SapwoodleLoadWornDetermined = Determined sapwoodle-load-worn.ended sapwoodle-load-worn.Reads.Asked sapwoodle-load-worn.Reads.Learnt
+
+abbrev pub SapwoodleToWornDetermined : Type 0
+SapwoodleToWornDetermined = Determined sapwoodle-to-worn.ended sapwoodle-to-worn.Reads.Asked sapwoodle-to-worn.Reads.Learnt
+
+abbrev pub SapwoodleToPlainDetermined : Type 0
+SapwoodleToPlainDetermined = Determined sapwoodle-to-plain.ended sapwoodle-to-plain.Reads.Asked sapwoodle-to-plain.Reads.Learnt
+
 abbrev pub SapwoodleTraceDetermined : Type 0
 SapwoodleTraceDetermined = Determined sapwoodle-trace.ended sapwoodle-trace.Reads.Asked sapwoodle-trace.Reads.Learnt
 
@@ -479,6 +549,10 @@ pub record EveryAnswer : Type 0 where
   pub wear-report : WearReportDetermined
   pub wear-join : WearJoinDetermined
   pub bench-run-worn : BenchRunWornDetermined
+  pub save-worn : SaveWornDetermined
+  pub load-worn : LoadWornDetermined
+  pub to-worn : ToWornDetermined
+  pub to-plain : ToPlainDetermined
   pub sapwoodle-deliver : SapwoodleDeliverDetermined
   pub sapwoodle-step : SapwoodleStepDetermined
   pub sapwoodle-run : SapwoodleRunDetermined
@@ -497,4 +571,8 @@ pub record EveryAnswer : Type 0 where
   pub sapwoodle-wear-report : SapwoodleWearReportDetermined
   pub sapwoodle-wear-join : SapwoodleWearJoinDetermined
   pub sapwoodle-wear-bench-run : SapwoodleWearBenchRunDetermined
+  pub sapwoodle-save-worn : SapwoodleSaveWornDetermined
+  pub sapwoodle-load-worn : SapwoodleLoadWornDetermined
+  pub sapwoodle-to-worn : SapwoodleToWornDetermined
+  pub sapwoodle-to-plain : SapwoodleToPlainDetermined
   pub sapwoodle-trace : SapwoodleTraceDetermined

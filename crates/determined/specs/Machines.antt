@@ -11,6 +11,7 @@ use Rattle.chip.specs.Memory.{mem, chip}
 use Rattle.chip.specs.Model.{cutBy}
 use Rattle.chip.specs.Calls.{deliverOf, stepOf, runOf, passOf}
 use Rattle.image.specs.Calls.{saving, loading}
+use Rattle.image_worn.specs.Calls.{savingWorn, loadingWorn, toWornOf, toPlainOf}
 use Rattle.hexfile.specs.Calls.{readingOf, writingOf}
 use Rattle.capture.specs.Calls.{seeingOf, listingOf}
 use Rattle.capture_promises.specs.Machines.{countingOf}
@@ -28,6 +29,7 @@ use Rattle.sapwoodle.specs.Captures.{busOf, capturing, listing, tallying}
 use Rattle.sapwoodle.specs.Drivers.{requestOf, beginning, asking}
 use Rattle.sapwoodle.specs.Runs.{benching}
 use Rattle.sapwoodle.specs.Wears.{wearing, reporting, joining, benchWearing}
+use Rattle.sapwoodle.specs.Worns.{savingWornBytes, loadingWornBytes, toWornBytes, toPlainBytes}
 use Rattle.wear.specs.Wear.{closedOf}
 use Rattle.wear.specs.Calls.{wearOf, reportOf, joinOf}
 use Rattle.bench.specs.Worn.{benchWornOf}
@@ -41,6 +43,10 @@ use Rattle.wear.proofs.report as wear-report
 use Rattle.wear.proofs.join as wear-join
 use Rattle.image.proofs.save as save
 use Rattle.image.proofs.load as load
+use Rattle.image_worn.proofs.save_worn as save-worn
+use Rattle.image_worn.proofs.load_worn as load-worn
+use Rattle.image_worn.proofs.to_worn as to-worn
+use Rattle.image_worn.proofs.to_plain as to-plain
 use Rattle.hexfile.proofs.read as hex-read
 use Rattle.hexfile.proofs.write as hex-write
 use Rattle.capture.proofs.run as capture-run
@@ -69,6 +75,10 @@ use Rattle.sapwoodle.proofs.wears.sapwoodle_wear_run as sapwoodle-wear-run
 use Rattle.sapwoodle.proofs.wears.sapwoodle_wear_report as sapwoodle-wear-report
 use Rattle.sapwoodle.proofs.wears.sapwoodle_wear_join as sapwoodle-wear-join
 use Rattle.sapwoodle.proofs.wears.sapwoodle_wear_bench_run as sapwoodle-wear-bench-run
+use Rattle.sapwoodle.proofs.worns.sapwoodle_save_worn as sapwoodle-save-worn
+use Rattle.sapwoodle.proofs.worns.sapwoodle_load_worn as sapwoodle-load-worn
+use Rattle.sapwoodle.proofs.worns.sapwoodle_to_worn as sapwoodle-to-worn
+use Rattle.sapwoodle.proofs.worns.sapwoodle_to_plain as sapwoodle-to-plain
 use Rattle.sapwoodle.proofs.sapwoodle_trace as sapwoodle-trace
 use Rattle.determined.specs.Walked.{CountLearnt}
 use Rattle.determined.specs.Determined.{Learnt, AnswerTo, Allows}
@@ -150,6 +160,34 @@ LoadIs =
     (λ κs a.
     let m = loading (a .0 .now) (a .1 .0) (mem (a .1 .1 .0 .now) (a .1 .1 .1 .0 .now)) in
     record { result = m .answer; left = (tt, (tt, (m .stored .cells, (m .stored .ident, tt)))) })
+
+abbrev pub SaveWornIs : Type 0
+SaveWornIs =
+    Is save-worn.ended save-worn.Reads.Learnt
+    (λ κs a.
+    let m = savingWorn (a .0) (a .1 .0) (mem (a .1 .1 .0 .now) (a .1 .1 .1 .0 .now)) (a .1 .1 .1 .1 .0 .now) (a .1 .1 .1 .1 .1 .0 .now) in
+    record { result = m .answer; left = (tt, (tt, (tt, (tt, (tt, (m .out, tt)))))) })
+
+abbrev pub LoadWornIs : Type 0
+LoadWornIs =
+    Is load-worn.ended load-worn.Reads.Learnt
+    (λ κs a.
+    let m = loadingWorn (a .0 .now) (a .1 .0) (mem (a .1 .1 .0 .now) (a .1 .1 .1 .0 .now)) (a .1 .1 .1 .1 .0 .now) in
+    record { result = m .answer; left = (tt, (tt, (m .stored .cells, (m .stored .ident, (m .counts, tt))))) })
+
+abbrev pub ToWornIs : Type 0
+ToWornIs =
+    Is to-worn.ended to-worn.Reads.Learnt
+    (λ κs a.
+    let m = toWornOf (a .0 .now) (a .1 .0 .now) in
+    record { result = m .answer; left = (tt, (m .out, tt)) })
+
+abbrev pub ToPlainIs : Type 0
+ToPlainIs =
+    Is to-plain.ended to-plain.Reads.Learnt
+    (λ κs a.
+    let m = toPlainOf (a .0 .now) (a .1 .0 .now) in
+    record { result = m .answer; left = (tt, (m .out, tt)) })
 
 abbrev pub HexReadIs : Type 0
 HexReadIs =
@@ -361,6 +399,34 @@ SapwoodleWearBenchRunIs =
     let m = benchWearing (requestOf (a .0) (a .1 .0) (a .1 .1 .0) (a .1 .1 .1 .0) (a .1 .1 .1 .1 .0) (a .1 .1 .1 .1 .1 .0)) (a .1 .1 .1 .1 .1 .1 .0) (a .1 .1 .1 .1 .1 .1 .1 .0) (a .1 .1 .1 .1 .1 .1 .1 .1 .0 .now) (mem (a .1 .1 .1 .1 .1 .1 .1 .1 .1 .0 .now) (a .1 .1 .1 .1 .1 .1 .1 .1 .1 .1 .0 .now)) (a .1 .1 .1 .1 .1 .1 .1 .1 .1 .1 .1 .0 .now) (a .1 .1 .1 .1 .1 .1 .1 .1 .1 .1 .1 .1 .0 .now) in
     record { result = m .bench .number; left = (tt, (tt, (tt, (tt, (tt, (tt, (tt, (tt, (m .bench .state, (m .bench .stored .cells, (m .bench .stored .ident, (m .bench .buffer, (m .counts, (m .bench .place, (m .bench .polls, (m .bench .bytes, (m .bench .cycles, (m .bench .clocks, tt)))))))))))))))))) })
 
+abbrev pub SapwoodleSaveWornIs : Type 0
+SapwoodleSaveWornIs =
+    Is sapwoodle-save-worn.ended sapwoodle-save-worn.Reads.Learnt
+    (λ κs a.
+    let m = savingWornBytes (a .0) (a .1 .0 .now) (mem (a .1 .1 .0 .now) (a .1 .1 .1 .0 .now)) (a .1 .1 .1 .1 .0 .now) (a .1 .1 .1 .1 .1 .0 .now) in
+    record { result = m .number; left = (tt, (tt, (tt, (tt, (tt, (m .out, (m .written, tt))))))) })
+
+abbrev pub SapwoodleLoadWornIs : Type 0
+SapwoodleLoadWornIs =
+    Is sapwoodle-load-worn.ended sapwoodle-load-worn.Reads.Learnt
+    (λ κs a.
+    let m = loadingWornBytes (a .0 .now) (a .1 .0) (a .1 .1 .0 .now) (mem (a .1 .1 .1 .0 .now) (a .1 .1 .1 .1 .0 .now)) (a .1 .1 .1 .1 .1 .0 .now) in
+    record { result = m .load .number; left = (tt, (tt, (m .load .state, (m .load .stored .cells, (m .load .stored .ident, (m .counts, (m .load .part, tt))))))) })
+
+abbrev pub SapwoodleToWornIs : Type 0
+SapwoodleToWornIs =
+    Is sapwoodle-to-worn.ended sapwoodle-to-worn.Reads.Learnt
+    (λ κs a.
+    let m = toWornBytes (a .0 .now) (a .1 .0 .now) in
+    record { result = m .number; left = (tt, (m .out, (m .written, tt))) })
+
+abbrev pub SapwoodleToPlainIs : Type 0
+SapwoodleToPlainIs =
+    Is sapwoodle-to-plain.ended sapwoodle-to-plain.Reads.Learnt
+    (λ κs a.
+    let m = toPlainBytes (a .0 .now) (a .1 .0 .now) in
+    record { result = m .number; left = (tt, (m .out, (m .written, tt))) })
+
 abbrev pub SapwoodleTraceIs : Type 0
 SapwoodleTraceIs =
     Is sapwoodle-trace.ended sapwoodle-trace.Reads.Learnt
@@ -390,6 +456,10 @@ pub record EveryMachine : Type 0 where
   pub wear-report : WearReportIs
   pub wear-join : WearJoinIs
   pub bench-run-worn : BenchRunWornIs
+  pub save-worn : SaveWornIs
+  pub load-worn : LoadWornIs
+  pub to-worn : ToWornIs
+  pub to-plain : ToPlainIs
   pub sapwoodle-deliver : SapwoodleDeliverIs
   pub sapwoodle-step : SapwoodleStepIs
   pub sapwoodle-run : SapwoodleRunIs
@@ -407,4 +477,8 @@ pub record EveryMachine : Type 0 where
   pub sapwoodle-wear-report : SapwoodleWearReportIs
   pub sapwoodle-wear-join : SapwoodleWearJoinIs
   pub sapwoodle-wear-bench-run : SapwoodleWearBenchRunIs
+  pub sapwoodle-save-worn : SapwoodleSaveWornIs
+  pub sapwoodle-load-worn : SapwoodleLoadWornIs
+  pub sapwoodle-to-worn : SapwoodleToWornIs
+  pub sapwoodle-to-plain : SapwoodleToPlainIs
   pub sapwoodle-trace : SapwoodleTraceIs

@@ -1,10 +1,13 @@
 // Stored chips: an image or an Intel HEX file that is read, and an image written into a file that is there whole or not at all. A chip is
 // held as its bytes.
+pub mod shape;
+pub mod tell;
 mod why;
 
 ghost use mathlib.Core.Path.{_≡_};
 ghost use lib.ListN.{length};
 use hexfile::HexRead;
+use image::Saved;
 use libc::STDERR_FILENO;
 use libc::STDIN_FILENO;
 use parts::Loss;
@@ -13,10 +16,10 @@ use parts::Verdict;
 use words::Job;
 use words::Number;
 
-// What became of a chip before its run: it was judged, or standard error has the reason.
+// What became of a chip before its run: it was judged, and whether its file has the counts of its wear; or standard error has the reason.
 pub enum Ready {
     Told,
-    Judged(Verdict),
+    Judged(Verdict, bool),
 }
 
 // What became of a HEX file; of one that was read and refused, standard error has the reason too.
@@ -172,15 +175,30 @@ pub fn hex_fetched(
 
 // ---- reading an image
 
+// Whether the bytes say that counts stand behind the chip.
+pub fn is_worn(bytes: &[u8]) -> bool {
+    parts::byte_at(bytes, 4) == 2
+}
+
+// Whether a chip was refused.
+fn refused(ready: Ready) -> bool {
+    match ready {
+        Ready::Told => false,
+        Ready::Judged(verdict, _) => parts::verdict_number(verdict) != 0,
+    }
+}
+
 // Whether the bytes are a whole image of the part that they name, whatever part that is.
 fn is_image(part: u8, bytes: &[u8]) -> bool {
     let mut array = [0u8; 32768];
     let mut id = [0u8; 64];
-    let loaded = image::load(
+    let mut counts = [0u32; 8192];
+    let loaded = image_worn::load_worn(
         bytes,
         0,
         fitted::array(part, &mut array),
         fitted::id(part, &mut id),
+        fitted::counts(part, &mut counts),
     );
     let verdict = loaded.verdict;
     parts::verdict_number(verdict) == 0
@@ -192,7 +210,7 @@ fn other(part: u8, bytes: &[u8]) -> Ready {
         warn(b"sapwoodle: the image is of another part than the one named\n");
         return Ready::Told;
     }
-    Ready::Judged(Verdict::Refused(Refusal::BadImage))
+    Ready::Judged(Verdict::Refused(Refusal::BadImage), false)
 }
 
 fn load(
@@ -202,14 +220,15 @@ fn load(
     held: &mut [u8],
     array: &mut [u8],
     id: &mut [u8],
+    counts: &mut [u32],
 ) -> Ready {
-    let loaded = image::load(bytes, enable, array, id);
+    let loaded = image_worn::load_worn(bytes, enable, array, id, counts);
     if loaded.part != part {
         return other(loaded.part, bytes);
     }
     let verdict = loaded.verdict;
     pack_chip::pack(loaded.chip, held);
-    Ready::Judged(verdict)
+    Ready::Judged(verdict, is_worn(bytes))
 }
 
 fn chip_in(
@@ -220,6 +239,7 @@ fn chip_in(
     held: &mut [u8],
     array: &mut [u8],
     id: &mut [u8],
+    counts: &mut [u32],
 ) -> Ready {
     if is_hex(bytes) {
         if too_long(word, bytes.len()) {
@@ -227,9 +247,14 @@ fn chip_in(
         }
         let read = hex_chip(word, part, bytes, held, array, id);
         let verdict = read.verdict;
-        return Ready::Judged(verdict);
+        return Ready::Judged(verdict, false);
     }
-    load(part, enable, bytes, held, array, id)
+    let ready = load(part, enable, bytes, held, array, id, counts);
+    if refused(ready) {
+        shape::tell(word, bytes);
+        warn(b"\n");
+    }
+    ready
 }
 
 fn chip_from(
@@ -240,18 +265,19 @@ fn chip_from(
     held: &mut [u8],
     array: &mut [u8],
     id: &mut [u8],
+    counts: &mut [u32],
 ) -> Ready {
     let got = contents(word, bytes);
     let n = got.n;
     if got.ok {
         if n <= bytes.len() {
-            return chip_in(word, part, enable, &bytes[0..n], held, array, id);
+            return chip_in(word, part, enable, &bytes[0..n], held, array, id, counts);
         }
     }
     Ready::Told
 }
 
-// The chip that the file named by a word has, of either kind.
+// The chip that the file named by a word has, of either kind. What has no counts leaves those that are lent, which are zeros.
 pub fn fetched(
     word: usize,
     part: u8,
@@ -259,9 +285,10 @@ pub fn fetched(
     held: &mut [u8],
     array: &mut [u8],
     id: &mut [u8],
+    counts: &mut [u32],
 ) -> Ready {
     let mut bytes = room();
-    chip_from(word, part, enable, &mut bytes, held, array, id)
+    chip_from(word, part, enable, &mut bytes, held, array, id, counts)
 }
 
 // ---- the chip that a command asks for
@@ -276,11 +303,17 @@ pub fn judged(job: Job) -> Verdict {
 }
 
 // As delivered, or from the image.
-pub fn at_first(job: Job, held: &mut [u8], array: &mut [u8], id: &mut [u8]) -> Ready {
+pub fn at_first(
+    job: Job,
+    held: &mut [u8],
+    array: &mut [u8],
+    id: &mut [u8],
+    counts: &mut [u32],
+) -> Ready {
     if job.image == 0 {
-        return Ready::Judged(delivered(job.part, held, array, id));
+        return Ready::Judged(delivered(job.part, held, array, id), false);
     }
-    fetched(job.image, job.part, job.own, held, array, id)
+    fetched(job.image, job.part, job.own, held, array, id, counts)
 }
 
 fn pinned(
@@ -408,8 +441,7 @@ pub fn store(option: &[u8], word: usize, bytes: &[u8]) -> bool {
     store_as(option, &name[..n], bytes)
 }
 
-fn save_in(word: usize, part: u8, held: &[u8], array: &[u8], id: &[u8], out: &mut [u8]) -> bool {
-    let saved = image::save(part, pack_chip::unpack(held), array, id, out);
+fn save_in(word: usize, saved: Saved, out: &[u8]) -> bool {
     let n = saved.length;
     if n <= out.len() {
         return store(b"--save", word, &out[0..n]);
@@ -417,11 +449,27 @@ fn save_in(word: usize, part: u8, held: &[u8], array: &[u8], id: &[u8], out: &mu
     false
 }
 
-// Whether the file stands that a word names, or none is asked for.
+// Whether the file stands that a word names, or none is asked for: an image of version 1.
 pub fn save(word: usize, part: u8, held: &[u8], array: &[u8], id: &[u8]) -> bool {
     if word == 0 {
         return true;
     }
     let mut out = [0u8; 32839];
-    save_in(word, part, held, array, id, &mut out)
+    let saved = image::save(part, pack_chip::unpack(held), array, id, &mut out);
+    save_in(word, saved, &out)
+}
+
+// The same, of version 2.
+fn save_worn(word: usize, part: u8, held: &[u8], array: &[u8], id: &[u8], counts: &[u32]) -> bool {
+    let mut out = [0u8; 65607];
+    let saved = image_worn::save_worn(part, pack_chip::unpack(held), array, id, counts, &mut out);
+    save_in(word, saved, &out)
+}
+
+// The same, of the version that the job keeps.
+pub fn save_kept(job: Job, held: &[u8], array: &[u8], id: &[u8], counts: &[u32]) -> bool {
+    if job.wear & (0 < job.save) {
+        return save_worn(job.save, job.part, held, array, id, counts);
+    }
+    save(job.save, job.part, held, array, id)
 }

@@ -86,7 +86,7 @@ fn id_delivered(part: u8, id: &[u8]) -> bool {
 }
 
 // What a HEX file does not hold of the chip.
-fn warn_lost(part: u8, chip: Chip, id: &[u8]) {
+fn warn_lost(part: u8, chip: Chip, id: &[u8], counts: &[u32]) {
     let line = chip.line;
     let core = line.core;
     if !id_delivered(part, id) {
@@ -96,6 +96,10 @@ fn warn_lost(part: u8, chip: Chip, id: &[u8]) {
     }
     if core.locked {
         warn(b"sapwoodle: the lock is not as delivered, and a HEX file does not hold it\n");
+    }
+    let worn = wear::report(part, counts);
+    if 0 < worn.total {
+        warn(b"sapwoodle: the image has counts of wear, and a HEX file does not hold them\n");
     }
 }
 
@@ -114,35 +118,41 @@ fn tell_text(part: u8, array: &[u8]) -> bool {
     spell(part, array, &mut out)
 }
 
-fn refuse(bytes: &[u8]) -> bool {
+fn refuse(word: usize, bytes: &[u8]) -> bool {
     if files::is_hex(bytes) {
         warn(b"sapwoodle: the file is a HEX file already\n");
+    } else {
+        files::shape::tell(word, bytes);
+        warn(b"\n");
     }
     answer::no_image(answer::refused(Refusal::BadImage))
 }
 
 // An image has one part; every part has the enable 0.
-fn load(bytes: &[u8], array: &mut [u8], id: &mut [u8]) -> bool {
-    let loaded = image::load(bytes, 0, array, id);
+fn load(word: usize, bytes: &[u8], array: &mut [u8], id: &mut [u8], counts: &mut [u32]) -> bool {
+    let loaded = image_worn::load_worn(bytes, 0, array, id, counts);
     let verdict = loaded.verdict;
     match verdict {
         Verdict::Fine => {
-            warn_lost(loaded.part, loaded.chip, id);
+            warn_lost(loaded.part, loaded.chip, id, counts);
             tell_text(loaded.part, array)
         }
-        Verdict::Refused(_) => refuse(bytes),
+        Verdict::Refused(_) => refuse(word, bytes),
     }
 }
 
 // The part is the image's sixth byte.
-fn text_of(bytes: &[u8]) -> bool {
+fn text_of(word: usize, bytes: &[u8]) -> bool {
     let part = parts::byte_at(bytes, 5);
     let mut array = [0u8; 32768];
     let mut id = [0u8; 64];
+    let mut counts = [0u32; 8192];
     load(
+        word,
         bytes,
         fitted::array(part, &mut array),
         fitted::id(part, &mut id),
+        fitted::counts(part, &mut counts),
     )
 }
 
@@ -151,7 +161,7 @@ fn text_from(word: usize, bytes: &mut [u8]) -> bool {
     let n = got.n;
     if got.ok {
         if n <= bytes.len() {
-            return text_of(&bytes[0..n]);
+            return text_of(word, &bytes[0..n]);
         }
     }
     false

@@ -24,7 +24,7 @@ use Rattle.state.specs.declared.Chip.{Chip}
 use Rattle.state.specs.Range.{emptyOf, marksRightOf, pinRightOf, lockRightOf, phaseRightOf, restRightOf, inRangeOf}
 use Rattle.chip.specs.Memory.{Mem, noLatch}
 use Rattle.chip.specs.Delivery.{pinAtFirstOf, standbyOf}
-use Rattle.image.specs.Layout.{imageHeadOf, imageOf, imageLengthOf, partIn, lockIn, storedIn, imageMarkRightOf, lockByteRightOf, formedOf}
+use Rattle.image.specs.Layout.{imageHeadOf, imageOf, imageLengthOf, partIn, lockIn, storedIn, markRightOf, lockByteRightOf, formedAs, formedOf}
 use Rattle.image.specs.Calls.{saveVerdictOf, judgedOf, loadVerdictOf}
 use Rattle.image.specs.Promises.{BuffersFit}
 use Rattle.image.proofs.Laws.{CanLoad}
@@ -36,8 +36,8 @@ module _ (part : ℕ) (lock : Bool) (m : Mem) where
   unfolding partIn imageOf
   part-of-image = refl
 
-  pub mark-of-image : imageMarkRightOf (imageOf part lock m) ≡ true
-  unfolding imageMarkRightOf imageOf
+  pub mark-of-image : markRightOf 1 (imageOf part lock m) ≡ true
+  unfolding markRightOf imageOf
   mark-of-image = refl
 
   pub flag-of-image : getD (imageOf part lock m) 6 0 ≡ flagOf lock
@@ -68,7 +68,7 @@ lockable-right f false h = refl
 
 module _ (part : ℕ) (lock : Bool) (m : Mem) (known : factsOf part .known ≡ true) (t : BuffersFit part m) (h : lock ≡ true → factsOf part .ident ≡ true) where
   formed : formedOf (factsOf part) (imageOf part lock m) ≡ true
-  unfolding formedOf
+  unfolding formedAs
   formed =
       rw (eq-eqb (length (imageOf part lock m)) (imageLengthOf (factsOf part)) (length-of-image part lock m t), mark-of-image part lock m, flag-of-image part lock m)
       (lockable-right (factsOf part) lock h)
@@ -118,7 +118,7 @@ module _ (l : List ℕ) (enable n d : ℕ) (k : CanLoad l enable n d) where
   rest = sym (take-append-drop (factsOf (partIn l) .size) (drop 7 l)) ∙ rw drop-drop
 
   head : getD l 0 0 ∷ getD l 1 0 ∷ getD l 2 0 ∷ getD l 3 0 ∷ getD l 4 0 ∷ getD l 5 0 ∷ getD l 6 0 ∷ [] ≡ imageHeadOf (partIn l) (lockIn l)
-  unfolding imageMarkRightOf partIn lockIn
+  unfolding markRightOf partIn lockIn
   head =
       let a = both (eqb (getD l 0 0) 0x45) _ (k .marked) in
       let b = both (eqb (getD l 1 0) 0x50) _ (a .1) in

@@ -1,14 +1,13 @@
 -- Laws that the proofs of the code share: copies one after another, and what a call that is not refused has.
 -- Assumes nothing.
-use Prim.Native.Nat.{ℕ, _+_, _-_, _≤_, _<_}
+use Prim.Native.Nat.{ℕ, _+_, _-_, _≤_}
 use mathlib.Core.Path.{_≡_, _∙_, refl}
 use mathlib.Core.Bool.{Bool, true, false, not, cond}
-use mathlib.Core.List.{List, _++_, append-nil}
-use native.Mathlib.Numerals.{add-one}
-use native.Mathlib.Nat.{zero-add, add-sub-cancel-left}
+use mathlib.Core.List.{List, _++_}
+use native.Mathlib.Nat.{add-sub-cancel-left}
 use native.Mathlib.Omega.{arith}
-use lib.ListN.{length, getD, take, drop, set, length-append, length-take, length-drop, drop-of-length-le}
-use lib.Seq.{paste, paste-suc, take-all, take-at, drop-append-add, drop-drop}
+use lib.ListN.{length, getD, take, drop, length-append, length-take, length-drop}
+use lib.Seq.{take-all}
 use lib.Dec.{ltb, eqb}
 use borrow.Author.Tests.{eqb-true, ltb-false}
 use Rattle.parts.specs.declared.Facts.{Facts}
@@ -16,77 +15,49 @@ use Rattle.parts.specs.declared.Refusal.the-variants.{WrongEnable, BadState, Sh
 use Rattle.parts.specs.declared.Verdict.the-variants.{Fine}
 use Rattle.parts.specs.Table.{factsOf, idSizeOf, enableRightOf}
 use Rattle.parts.specs.Refusals.{claimOf, lentVerdictOf}
+use Rattle.parts.specs.Bytes.{copiedOf}
 use Rattle.parts.proofs.Laws.{passed}
+use Rattle.parts.proofs.Bytes.{copy-first, copy-next, copy-over}
 use Rattle.parts.proofs.Claims.{claim-fine, right-fine, sooner-fine, lent-fine}
 use Rattle.parts.proofs.Tests.{both}
 use Rattle.state.specs.declared.Chip.{Chip}
 use Rattle.state.specs.Range.{inRangeOf}
 use Rattle.chip.specs.Memory.{mem}
 use Rattle.chip.proofs.Laws.{buffers-are}
-use Rattle.image.specs.Layout.{imageHeadOf, imageOf, imageLengthOf, putOf, partIn, storedIn, imageMarkRightOf, lockByteRightOf, formedOf}
+use Rattle.image.specs.Layout.{imageHeadOf, imageOf, imageLengthOf, partIn, storedIn, markRightOf, lockByteRightOf, formedAs}
 use Rattle.image.specs.Calls.{saveVerdictOf, judgedOf, loadVerdictOf}
-
--- ---- a copy
-
-pub copy-step : (o o₀ : List ℕ) (at : ℕ) (s : List ℕ) (i : ℕ) → o ≡ paste o₀ at s i → at + i < length o₀ → i < length s
-    → set o (at + i) (getD s i 0) ≡ paste o₀ at s (i + 1)
-copy-step o o₀ at s i e h k = rw (add-one, e) (paste-suc o₀ at s i 0 h k)
-
-pub copy-end : (o o₀ : List ℕ) (at : ℕ) (s : List ℕ) (i : ℕ) → o ≡ paste o₀ at s i → i ≤ length s → length s ≤ i → o ≡ putOf o₀ at s
-unfolding putOf
-copy-end o o₀ at s i e h k =
-    let same : i ≡ length s = omega arith in
-    e ∙ rw (take-all i s k, same)
-
--- a copy from the start on
-put-first : (s o : List ℕ) → putOf o 0 s ≡ s ++ drop (length s) o
-unfolding putOf
-put-first s o = rw zero-add refl
-
-drop-past : (a o : List ℕ) (n m : ℕ) → length a ≡ n → drop (n + m) (a ++ drop n o) ≡ drop (n + m) o
-drop-past a o n m e = rw (← e, drop-append-add, drop-drop)
-
--- a copy that goes on where the one before it ended
-put-next : (a s o : List ℕ) (n : ℕ) → length a ≡ n → putOf (a ++ drop n o) n s ≡ (a ++ s) ++ drop (n + length s) o
-unfolding putOf
-put-next a s o n e = rw (take-at a (drop n o) n e, drop-past a o n (length s) e)
-
--- a copy over the whole of a buffer
-pub put-whole : (o s : List ℕ) → length o ≡ length s → putOf o 0 s ≡ s
-put-whole o s e =
-    let short : length o ≤ length s = omega arith in
-    put-first s o ∙ rw (drop-of-length-le o short, append-nil)
 
 -- ---- the three copies of a save
 
 module _ (part : ℕ) (lock : Bool) (h a d o p q r : List ℕ)
     (hh : h ≡ imageHeadOf part lock)
-    (hp : p ≡ putOf o 0 h)
-    (hq : q ≡ putOf p 7 a)
-    (hr : r ≡ putOf q (7 + length a) d) where
+    (hp : p ≡ copiedOf o 0 h)
+    (hq : q ≡ copiedOf p 7 a)
+    (hr : r ≡ copiedOf q (7 + length a) d)
+    (room : 7 + length a + length d ≤ length o) where
   pub written : r ≡ imageOf part lock (mem a d) ++ drop (7 + length a + length d) o
   unfolding imageOf
   written =
-      let one : p ≡ imageHeadOf part lock ++ drop 7 o = hp ∙ rw hh (put-first (imageHeadOf part lock) o) in
-      let two : q ≡ (imageHeadOf part lock ++ a) ++ drop (7 + length a) o = hq ∙ rw one (put-next (imageHeadOf part lock) a o 7 refl) in
-      hr ∙ rw two (put-next (imageHeadOf part lock ++ a) d o (7 + length a) (length-append (imageHeadOf part lock) a))
+      let one : p ≡ imageHeadOf part lock ++ drop 7 o = hp ∙ rw hh (copy-first (imageHeadOf part lock) o (omega arith)) in
+      let two : q ≡ (imageHeadOf part lock ++ a) ++ drop (7 + length a) o = hq ∙ rw one (copy-next (imageHeadOf part lock) a o 7 refl (omega arith)) in
+      hr ∙ rw two (copy-next (imageHeadOf part lock ++ a) d o (7 + length a) (length-append (imageHeadOf part lock) a) room)
 
 -- ---- the two copies of a load
 
 pub part-cells : (f : Facts) (l s : List ℕ) (n : ℕ) → n ≡ f .size → length s ≡ n → 7 + n ≤ length l
-    → putOf s 0 (take (7 + n - 7) (drop 7 l)) ≡ storedIn f l .cells
+    → copiedOf s 0 (take (7 + n - 7) (drop 7 l)) ≡ storedIn f l .cells
 unfolding storedIn
 part-cells f l s n e h k =
     let long : length s ≡ length (take n (drop 7 l)) = simp (length-take, length-drop) (omega arith) in
-    rw (add-sub-cancel-left, ← e) (put-whole s (take n (drop 7 l)) long)
+    rw (add-sub-cancel-left, ← e) (copy-over s (take n (drop 7 l)) long)
 
 pub part-ident : (f : Facts) (l s : List ℕ) (n : ℕ) → n ≡ f .size → length l ≡ 7 + n + length s
-    → putOf s 0 (take (length l - (7 + n)) (drop (7 + n) l)) ≡ storedIn f l .ident
+    → copiedOf s 0 (take (length l - (7 + n)) (drop (7 + n) l)) ≡ storedIn f l .ident
 unfolding storedIn
 part-ident f l s n e h =
     let short : length (drop (7 + n) l) ≤ length l - (7 + n) = simp length-drop (omega arith) in
     let long : length s ≡ length (drop (7 + n) l) = simp length-drop (omega arith) in
-    rw (take-all (length l - (7 + n)) (drop (7 + n) l) short, ← e) (put-whole s (drop (7 + n) l) long)
+    rw (take-all (length l - (7 + n)) (drop (7 + n) l) short, ← e) (copy-over s (drop (7 + n) l) long)
 
 -- ---- what a call that is not refused has
 
@@ -127,18 +98,18 @@ pub record CanLoad (l : List ℕ) (enable n d : ℕ) : Type 0 where
   pub cells : n ≡ factsOf (partIn l) .size
   pub ident : d ≡ idSizeOf (factsOf (partIn l))
   pub long : length l ≡ imageLengthOf (factsOf (partIn l))
-  pub marked : imageMarkRightOf l ≡ true
+  pub marked : markRightOf 1 l ≡ true
   pub lock : lockByteRightOf (factsOf (partIn l)) (getD l 6 0) ≡ true
 
 pub load-fine : (l : List ℕ) (enable n d : ℕ) → loadVerdictOf l enable n d ≡ Fine → CanLoad l enable n d
-unfolding loadVerdictOf judgedOf formedOf
+unfolding loadVerdictOf judgedOf formedAs
 load-fine l enable n d h =
     let (lent, r) = sooner-fine (lentVerdictOf (factsOf (partIn l)) n d) _ (passed (ltb (length l) 6) _ _ h .1) in
-    let (enable-right, form) = sooner-fine (claimOf (not (enableRightOf (factsOf (partIn l)) enable)) WrongEnable) (claimOf (not (cond (eqb (length l) (imageLengthOf (factsOf (partIn l)))) (cond (imageMarkRightOf l) (lockByteRightOf (factsOf (partIn l)) (getD l 6 0)) false) false)) BadImage) r in
+    let (enable-right, form) = sooner-fine (claimOf (not (enableRightOf (factsOf (partIn l)) enable)) WrongEnable) (claimOf (not (cond (eqb (length l) (imageLengthOf (factsOf (partIn l)))) (cond (markRightOf 1 l) (lockByteRightOf (factsOf (partIn l)) (getD l 6 0)) false) false)) BadImage) r in
     let f = lent-fine (factsOf (partIn l)) n d lent in
     let b = buffers-are (factsOf (partIn l)) n d (f .1) in
-    let w = both (eqb (length l) (imageLengthOf (factsOf (partIn l)))) (cond (imageMarkRightOf l) (lockByteRightOf (factsOf (partIn l)) (getD l 6 0)) false) (right-fine _ BadImage form) in
-    let t = both (imageMarkRightOf l) (lockByteRightOf (factsOf (partIn l)) (getD l 6 0)) (w .1) in
+    let w = both (eqb (length l) (imageLengthOf (factsOf (partIn l)))) (cond (markRightOf 1 l) (lockByteRightOf (factsOf (partIn l)) (getD l 6 0)) false) (right-fine _ BadImage form) in
+    let t = both (markRightOf 1 l) (lockByteRightOf (factsOf (partIn l)) (getD l 6 0)) (w .1) in
     record { known = f .0; enabled = right-fine _ WrongEnable enable-right; cells = b .0; ident = b .1; long = eqb-true (length l) (imageLengthOf (factsOf (partIn l))) (w .0); marked = t .0; lock = t .1 }
 
 pub load-room : (l : List ℕ) (enable n d part : ℕ) → loadVerdictOf l enable n d ≡ Fine → part ≡ partIn l

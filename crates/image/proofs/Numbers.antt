@@ -21,7 +21,7 @@ use Rattle.state.specs.declared.Chip.{Chip}
 use Rattle.state.specs.Range.{inRangeOf}
 use Rattle.chip.specs.Memory.{Mem, mem}
 use Rattle.chip.specs.Delivery.{standbyOf}
-use Rattle.image.specs.Layout.{imageLengthOf, partIn, formedOf}
+use Rattle.image.specs.Layout.{imageLengthOf, partIn, formedAs, formedOf}
 use Rattle.image.specs.Calls.{saveVerdictOf, saveBy, saving, judgedOf, loadVerdictOf, loading}
 use Rattle.image.specs.Promises.{Saving, Loading, BuffersFit, Form}
 use Rattle.image.specs.Numbers.{saveNumber, SaveNumbers, Openable, loadNumber, LoadNumbers, OneImageNumber, RoomFirstBreaks, FormFirstBreaks}
@@ -256,7 +256,7 @@ room-first-breaks p =
 
 -- an image of six bytes, of no such part
 pub form-first-breaks : FormFirstBreaks
-unfolding formedOf imageLengthOf partIn factsOf idSizeOf
+unfolding formedAs imageLengthOf partIn factsOf idSizeOf
 form-first-breaks p =
     let z : _≡_ {A = ℕ} 12 1 = p (0 ∷ 0 ∷ 0 ∷ 0 ∷ 0 ∷ 9 ∷ []) 0 (mem [] []) .no-part (omega arith) (omega arith) in
     absurd (omega (arith, z))

@@ -27,14 +27,22 @@ saveVerdictOf part c n d room =
     (soonerOf (claimOf (not (inRangeOf (factsOf part) c)) BadState)
     (claimOf (ltb room (imageLengthOf (factsOf part))) ShortBuffer))
 
-abbrev pub saveBy : Facts → Verdict → Saved
-saveBy f Fine = record { verdict = Fine; length = imageLengthOf f }
-saveBy f (Refused r) = record { verdict = Refused r; length = 0 }
+-- of an image of n bytes
+abbrev pub savedBy : ℕ → Verdict → Saved
+savedBy n Fine = record { verdict = Fine; length = n }
+savedBy n (Refused r) = record { verdict = Refused r; length = 0 }
 
--- the bytes as they stand, whatever the chip is doing; bytes past the image keep their values
+-- bytes past the image keep their values
+abbrev pub outBy : List ℕ → ℕ → List ℕ → Verdict → List ℕ
+outBy image n out Fine = image ++ drop n out
+outBy image n out (Refused r) = out
+
+abbrev pub saveBy : Facts → Verdict → Saved
+saveBy f = savedBy (imageLengthOf f)
+
+-- the bytes as they stand, whatever the chip is doing
 abbrev pub saveOut : ℕ → Chip → Mem → List ℕ → Verdict → List ℕ
-saveOut part c m out Fine = imageOf part (c .line .core .locked) m ++ drop (imageLengthOf (factsOf part)) out
-saveOut part c m out (Refused r) = out
+saveOut part c m out = outBy (imageOf part (c .line .core .locked) m) (imageLengthOf (factsOf part)) out
 
 -- ---- loading: 12 for an image that does not hold its part byte; else refusals 1, 2, 3, 12
 

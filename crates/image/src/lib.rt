@@ -5,11 +5,13 @@ ghost use lib.ListN.{length, drop};
 ghost use mathlib.Core.List.{_++_};
 ghost use Rattle.parts.specs.Table.{factsOf};
 ghost use Rattle.chip.specs.Memory.{mem};
-ghost use Rattle.image.specs.Layout.{imageHeadOf, imageOf, imageLengthOf, putOf, partIn, lockIn, storedIn, imageMarkRightOf, lockByteRightOf, formedOf};
+ghost use Rattle.image.specs.Layout.{imageHeadOf, imageOf, imageLengthOf, partIn, lockIn, storedIn, markRightOf, lockByteRightOf, formedAs};
 ghost use Rattle.image.specs.Calls.{saveVerdictOf, judgedOf, loadVerdictOf, saving, loading};
 use parts::Refusal;
 use parts::Verdict;
 use state::Chip;
+
+const VERSION: u8 = 1;
 
 pub struct Saved {
     pub verdict: Verdict,
@@ -25,18 +27,8 @@ pub struct Loaded {
 
 // ---- shared by both
 
-fn copy_in(out: &mut [u8], at: usize, bytes: &[u8])
-    requires { ⌜ at + length (now bytes) ≤ length (now out) ⌝ }
-    ensures { λ _. ⌜ now (out .exit) ≡ putOf (now (out .entry)) at (now (bytes .entry)) ⌝ }
-{
-    let mut i = 0;
-    while i < bytes.len() {
-        out[at + i] = bytes[i];
-        i += 1;
-    }
-}
-
-fn image_length(part: u8) -> usize
+// The bytes of a part's image; of a number that is no part what its row gives (S-3).
+pub fn image_length(part: u8) -> usize
     ensures { λ r. ⌜ r ≡ imageLengthOf (factsOf part) ⌝ }
 {
     let f = parts::facts_of(part);
@@ -51,10 +43,10 @@ fn head(part: u8, lock: bool) -> [u8; 7]
     ensures { λ r. ⌜ r ≡ imageHeadOf part lock ⌝ }
 {
     let flag = parts::flag(lock);
-    [0x45, 0x50, 0x52, 0x00, 0x01, part, flag]
+    [0x45, 0x50, 0x52, 0x00, VERSION, part, flag]
 }
 
-fn save_verdict(part: u8, chip: Chip, n: usize, d: usize, room: usize) -> Verdict
+pub fn save_verdict(part: u8, chip: Chip, n: usize, d: usize, room: usize) -> Verdict
     ensures { λ r. ⌜ r ≡ saveVerdictOf part chip n d room ⌝ }
 {
     let f = parts::facts_of(part);
@@ -74,9 +66,9 @@ fn write(part: u8, lock: bool, array: &[u8], id: &[u8], out: &mut [u8])
 {
     let first = head(part, lock);
     let n = array.len();
-    copy_in(out, 0, &first);
-    copy_in(out, 7, array);
-    copy_in(out, 7 + n, id);
+    parts::copy(out, 0, &first);
+    parts::copy(out, 7, array);
+    parts::copy(out, 7 + n, id);
 }
 
 // The chip as it stands: what is latched or under way is not saved.
@@ -106,21 +98,21 @@ pub fn save(part: u8, chip: Chip, array: &[u8], id: &[u8], out: &mut [u8]) -> Sa
 // ---- loading
 
 // The part byte; 0 where the image is too short to hold one.
-fn part_in(image: &[u8]) -> u8
+pub fn part_in(image: &[u8]) -> u8
     ensures { λ r. ⌜ r ≡ partIn (now (image .entry)) ⌝ }
 {
     parts::byte_at(image, 5)
 }
 
-fn lock_in(image: &[u8]) -> bool
+pub fn lock_in(image: &[u8]) -> bool
     ensures { λ r. ⌜ r ≡ lockIn (now (image .entry)) ⌝ }
 {
     parts::byte_at(image, 6) == 1
 }
 
-// The mark `EPR` and the version 0001h.
-fn mark_right(image: &[u8]) -> bool
-    ensures { λ r. ⌜ r ≡ imageMarkRightOf (now (image .entry)) ⌝ }
+// The mark `EPR` and the version, whose high byte is 0.
+fn mark_right(version: u8, image: &[u8]) -> bool
+    ensures { λ r. ⌜ r ≡ markRightOf version (now (image .entry)) ⌝ }
 {
     if parts::byte_at(image, 0) != 0x45 {
         return false;
@@ -134,7 +126,7 @@ fn mark_right(image: &[u8]) -> bool
     if parts::byte_at(image, 3) != 0x00 {
         return false;
     }
-    parts::byte_at(image, 4) == 0x01
+    parts::byte_at(image, 4) == version
 }
 
 fn lock_byte_right(part: u8, byte: u8) -> bool
@@ -150,14 +142,14 @@ fn lock_byte_right(part: u8, byte: u8) -> bool
     false
 }
 
-fn formed(part: u8, image: &[u8]) -> bool
-    ensures { λ r. ⌜ r ≡ formedOf (factsOf part) (now (image .entry)) ⌝ }
+// Whether the image is one of a version, whose images of the part have `need` bytes.
+pub fn formed(version: u8, need: usize, part: u8, image: &[u8]) -> bool
+    ensures { λ r. ⌜ r ≡ formedAs version need (factsOf part) (now (image .entry)) ⌝ }
 {
-    let need = image_length(part);
     if image.len() != need {
         return false;
     }
-    let marked = mark_right(image);
+    let marked = mark_right(version, image);
     if marked {
         let flag = parts::byte_at(image, 6);
         return lock_byte_right(part, flag);
@@ -173,7 +165,7 @@ fn judged(image: &[u8], enable: u8, n: usize, d: usize) -> Verdict
     let f = parts::facts_of(part);
     let lent = parts::lent_verdict(f, n, d);
     let enabled = parts::enable_right(f, enable);
-    let right = formed(part, image);
+    let right = formed(VERSION, image_length(part), part, image);
     let enable = parts::claim(!enabled, Refusal::WrongEnable);
     let form = parts::claim(!right, Refusal::BadImage);
     parts::sooner(lent, parts::sooner(enable, form))
@@ -195,8 +187,8 @@ fn fill(part: u8, image: &[u8], array: &mut [u8], id: &mut [u8])
 {
     let n = array.len();
     let end = 7 + n;
-    copy_in(array, 0, &image[7..end]);
-    copy_in(id, 0, &image[end..]);
+    parts::copy(array, 0, &image[7..end]);
+    parts::copy(id, 0, &image[end..]);
 }
 
 // A chip in standby as after reset, from the image and an enable for it.

@@ -1,6 +1,6 @@
 -- Packing and unpacking are inverse, both ways.
 -- Assumes nothing.
-use Prim.Native.Nat.{ℕ, zero, suc, _+_, _-_, _*_, _/_, _%_, _<_, _≤_}
+use Prim.Native.Nat.{ℕ, zero, suc, _+_, _-_, _<_, _≤_}
 use mathlib.Core.Path.{_≡_, refl, sym, ap, _∙_}
 use mathlib.Core.Bool.{Bool, true, false, cond, false≢true}
 use mathlib.Core.List.{List, [], _∷_, _++_}
@@ -8,9 +8,9 @@ use native.Mathlib.Omega.{arith}
 use lib.ListN.{length, getD}
 use lib.Dec.{eqb, ltb}
 use borrow.Author.Tests.{eqb-true, eqb-false, ltb-true, ltb-false, lt-ltb}
-use Rattle.parts.specs.Bytes.{flagOf, AllBelow}
+use Rattle.parts.specs.Bytes.{flagOf, AllBelow, wordEnd, wordOf, numberIn}
 use Rattle.parts.proofs.Laws.{branch}
-use Rattle.parts.proofs.Bytes.{flag-below, flag-back, flag-in, below-at}
+use Rattle.parts.proofs.Bytes.{flag-below, flag-back, flag-in, below-at, joined-word, joined-small, word-joined, words-below}
 use Rattle.parts.proofs.Tests.{both, either}
 use Rattle.driver.specs.declared.Place.{Place}
 use Rattle.driver.specs.declared.Place.the-variants.{Array, Ident}
@@ -23,7 +23,7 @@ use Rattle.driver.specs.declared.Phase.the-variants.{Ready, Bits, Heard, Rest, 
 use Rattle.driver.specs.declared.Driver.{Driver}
 use Rattle.driver.specs.Request.{fromOf}
 use Rattle.driver.specs.Step.{clocksOf}
-use Rattle.pack_driver.specs.Layout.{placeCodeOf, slotCodeOf, failedCodeOf, driverPhaseCodeOf, driverLength, wordEnd, wordOf, wordsOf, numbersOf, packedDriverOf, allSmall, smallOf, packsDriverOf, packDriverInto, placeIn, slotIn, failedIn, driverPhaseIn, wordJoinedOf, numberIn, driverIn, driverPhaseCodeRightOf, driverCodesRightOf, holdsDriverOf, unpackedDriverOf}
+use Rattle.pack_driver.specs.Layout.{placeCodeOf, slotCodeOf, failedCodeOf, driverPhaseCodeOf, driverLength, numbersOf, packedDriverOf, allSmall, smallOf, packsDriverOf, packDriverInto, placeIn, slotIn, failedIn, driverPhaseIn, driverIn, driverPhaseCodeRightOf, driverCodesRightOf, holdsDriverOf, unpackedDriverOf}
 use Rattle.pack_driver.specs.Promises.{DriverFits, DriverPacksBack, DriverUnpacksBack}
 use Rattle.pack_driver.proofs.Laws.{holds-length}
 
@@ -39,31 +39,6 @@ all-small (x ∷ xs) h = let (s, t) = both (ltb x wordEnd) (allSmall xs) h in (l
 pub small-all : (xs : List ℕ) → AllBelow wordEnd xs → allSmall xs ≡ true
 small-all [] h = refl
 small-all (x ∷ xs) h = rw (lt-ltb x wordEnd (h .0)) (small-all xs (h .1))
-
-joined-word : (x : ℕ) → x < wordEnd → wordJoinedOf (x / 16777216 % 256) (x / 65536 % 256) (x / 256 % 256) (x % 256) ≡ x
-joined-word x h =
-    let e₁ : x / 65536 ≡ x / 256 / 256 = omega arith in
-    let e₂ : x / 16777216 ≡ x / 65536 / 256 = omega arith in
-    let f₀ : x ≡ x / 256 * 256 + x % 256 = omega arith in
-    let f₁ : x / 256 ≡ x / 65536 * 256 + x / 256 % 256 = omega arith in
-    let f₂ : x / 65536 ≡ x / 16777216 * 256 + x / 65536 % 256 = omega arith in
-    let f₃ : x / 16777216 % 256 ≡ x / 16777216 = omega arith in
-    omega arith
-
-joined-small : (a b c d : ℕ) → a < 256 → b < 256 → c < 256 → d < 256 → wordJoinedOf a b c d < wordEnd
-joined-small a b c d ha hb hc hd = omega arith
-
-word-joined : (a b c d : ℕ) → a < 256 → b < 256 → c < 256 → d < 256 → wordOf (wordJoinedOf a b c d) ≡ a ∷ b ∷ c ∷ d ∷ []
-word-joined a b c d ha hb hc hd =
-    let e₁ : wordJoinedOf a b c d / 16777216 % 256 ≡ a = omega arith in
-    let e₂ : wordJoinedOf a b c d / 65536 % 256 ≡ b = omega arith in
-    let e₃ : wordJoinedOf a b c d / 256 % 256 ≡ c = omega arith in
-    let e₄ : wordJoinedOf a b c d % 256 ≡ d = omega arith in
-    λ i. e₁ i ∷ e₂ i ∷ e₃ i ∷ e₄ i ∷ []
-
-words-below : (xs : List ℕ) → AllBelow 256 (wordsOf xs)
-words-below [] = tt
-words-below (x ∷ xs) = (omega arith, (omega arith, (omega arith, (omega arith, words-below xs))))
 
 -- ---- codes
 

@@ -1,23 +1,19 @@
 -- Laws that the proofs of the code share: numbers stored four bytes at a time, and a buffer that is stored over whole.
 -- Assumes nothing.
-use Prim.Native.Nat.{ℕ, _+_, _/_, _%_}
+use Prim.Native.Nat.{ℕ}
 use mathlib.Core.Path.{_≡_}
 use mathlib.Core.Bool.{true}
 use mathlib.Core.List.{List}
-use native.Mathlib.Numerals.{add-one, add-two, add-three}
-use lib.ListN.{length, set}
+use lib.ListN.{length}
 use lib.Seq.{sets}
 use lib.Dec.{eqb}
 use borrow.Author.Tests.{eqb-true}
+use Rattle.parts.specs.Bytes.{wordOf, wordsOf}
 use Rattle.parts.proofs.Tests.{both}
 use Rattle.parts.proofs.Bytes.{sets-whole}
 use Rattle.driver.specs.declared.Driver.{Driver}
 use Rattle.driver.specs.Request.{fromOf}
-use Rattle.pack_driver.specs.Layout.{driverLength, wordOf, wordsOf, driverHeadOf, numbersOf, packedDriverOf, holdsDriverOf}
-
-pub word-put : (out : List ℕ) (at x a b c : ℕ) → a ≡ x / 16777216 % 256 → b ≡ x / 65536 % 256 → c ≡ x / 256 % 256
-    → set (set (set (set out at a) (at + 1) b) (at + 2) c) (at + 3) (x % 256) ≡ sets out at (wordOf x)
-word-put out at x a b c p q r = rw (p, q, r, add-one, add-two, add-three)
+use Rattle.pack_driver.specs.Layout.{driverLength, driverHeadOf, numbersOf, packedDriverOf, holdsDriverOf}
 
 -- one number after the other, each where the one before ends
 module _ (o o₁ o₂ o₃ o₄ o₅ o₆ o₇ : List ℕ) (d : Driver) (from : ℕ) (f : from ≡ fromOf (d .request .place))

@@ -7,6 +7,7 @@ use native.Mathlib.Omega.{arith}
 use lib.ListN.{length, getD}
 use lib.Dec.{eqb, ltb}
 use Rattle.parts.specs.Table.{factsOf, enableRightOf}
+use Rattle.parts.specs.Bytes.{wordEnd}
 use Rattle.parts.specs.Refusals.{soonerOf}
 use Rattle.parts.proofs.Laws.{branch}
 use Rattle.driver.specs.declared.Place.the-variants.{Array}
@@ -49,7 +50,7 @@ use Rattle.driver.specs.Step.{
   bufferOf,
 }
 use Rattle.driver.proofs.Facts.{reach, most-fits, range-request, good-counts}
-use Rattle.pack_driver.specs.Layout.{wordEnd, numbersOf, smallOf, noDriver, unpackedDriverOf}
+use Rattle.pack_driver.specs.Layout.{numbersOf, smallOf, noDriver, unpackedDriverOf}
 use Rattle.pack_driver.specs.Promises.{DriverRefusesOthers, InRangeSmall, SomeNotPacked, StaysSmall}
 use Rattle.pack_driver.proofs.Kept.{all-small, small-all}
 

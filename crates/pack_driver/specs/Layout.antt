@@ -3,12 +3,12 @@
 --     then seven numbers of four bytes, high byte first: 7 first address or location, 11 length, 15 budget, 19 bytes sent or got,
 --     23 bytes seen to be done, 27 polls for this page, 31 polls in all
 -- Assumes nothing.
-use Prim.Native.Nat.{ℕ, _+_, _-_, _*_, _/_, _%_}
+use Prim.Native.Nat.{ℕ, _+_, _-_}
 use mathlib.Core.Bool.{Bool, true, false, cond}
 use mathlib.Core.List.{List, [], _∷_, _++_}
 use lib.ListN.{length, getD}
 use lib.Dec.{eqb, ltb}
-use Rattle.parts.specs.Bytes.{flagOf}
+use Rattle.parts.specs.Bytes.{flagOf, wordEnd, wordsOf, numberIn}
 use Rattle.driver.specs.declared.Place.{Place}
 use Rattle.driver.specs.declared.Place.the-variants.{Array, Ident}
 use Rattle.driver.specs.declared.Request.{Request}
@@ -57,18 +57,6 @@ driverPhaseCodeOf (Over f) = 16 + failedCodeOf f
 
 abbrev pub driverLength : ℕ
 driverLength = 35
-
--- a number below this has four bytes
-abbrev pub wordEnd : ℕ
-wordEnd = 4294967296
-
--- the four bytes of a number, high byte first
-abbrev pub wordOf : ℕ → List ℕ
-wordOf x = x / 16777216 % 256 ∷ x / 65536 % 256 ∷ x / 256 % 256 ∷ x % 256 ∷ []
-
-abbrev pub wordsOf : List ℕ → List ℕ
-wordsOf [] = []
-wordsOf (x ∷ xs) = wordOf x ++ wordsOf xs
 
 abbrev pub driverHeadOf : Driver → List ℕ
 driverHeadOf d =
@@ -134,13 +122,6 @@ driverPhaseIn n clocks =
     (cond (ltb n 8) (Bits (slotIn (n - 1)) clocks)
     (cond (ltb n 15) (Heard (slotIn (n - 8)))
     (cond (ltb n 16) Rest (Over (failedIn (n - 16))))))
-
--- four bytes as a number
-abbrev pub wordJoinedOf : ℕ → ℕ → ℕ → ℕ → ℕ
-wordJoinedOf a b c d = a * 16777216 + b * 65536 + c * 256 + d
-
-abbrev pub numberIn : List ℕ → ℕ → ℕ
-numberIn l at = wordJoinedOf (getD l at 0) (getD l (at + 1) 0) (getD l (at + 2) 0) (getD l (at + 3) 0)
 
 abbrev pub requestIn : List ℕ → Request
 requestIn l =

@@ -7,11 +7,11 @@ use mathlib.Core.Bool.{true, false}
 use mathlib.Core.List.{List}
 use lib.ListN.{length}
 use Rattle.parts.specs.declared.Refusal.the-variants.{BadState}
-use Rattle.parts.specs.Bytes.{AllBelow}
+use Rattle.parts.specs.Bytes.{AllBelow, wordEnd}
 use Rattle.driver.specs.declared.Driver.{Driver}
 use Rattle.driver.specs.declared.Answer.the-variants.{Refused}
 use Rattle.driver.specs.Step.{clocksOf, rangeOf, driverNextOf, bufferOf}
-use Rattle.pack_driver.specs.Layout.{driverLength, wordEnd, smallOf, packsDriverOf, holdsDriverOf}
+use Rattle.pack_driver.specs.Layout.{driverLength, smallOf, packsDriverOf, holdsDriverOf}
 
 -- a state whose bytes fit their types
 pub record DriverFits (d : Driver) : Type 0 where

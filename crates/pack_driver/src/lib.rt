@@ -1,8 +1,9 @@
 // The state of a driver as bytes, and back, for callers that hold bytes only.
 ghost use mathlib.Core.Path.{_≡_};
-ghost use Prim.Native.Nat.{_+_, _/_, _%_, _<_, _≤_};
+ghost use Prim.Native.Nat.{_+_, _<_, _≤_};
 ghost use lib.ListN.{length};
 ghost use lib.Seq.{sets};
+ghost use Rattle.parts.specs.Bytes.{wordOf, wordsOf, numberIn};
 ghost use Rattle.driver.specs.Step.{clocksOf};
 ghost use Rattle.pack_driver.specs.Layout.{
   placeCodeOf,
@@ -10,8 +11,6 @@ ghost use Rattle.pack_driver.specs.Layout.{
   failedCodeOf,
   driverPhaseCodeOf,
   driverLength,
-  wordOf,
-  wordsOf,
   driverHeadOf,
   numbersOf,
   smallOf,
@@ -21,7 +20,6 @@ ghost use Rattle.pack_driver.specs.Layout.{
   slotIn,
   failedIn,
   driverPhaseIn,
-  numberIn,
   requestIn,
   countsIn,
   driverPhaseCodeRightOf,
@@ -108,21 +106,15 @@ fn clocks(phase: Phase) -> u8
 
 // ---- packing
 
-fn byte(x: usize, unit: usize) -> u8
-    requires { ⌜ 0 < unit ⌝ }
-    ensures { λ r. ⌜ r ≡ x / unit % 256 ⌝ }
-{
-    (x / unit % 256) as u8
-}
-
 fn put_number(out: &mut [u8], at: usize, x: usize)
     requires { ⌜ at + 4 ≤ length (now out) ⌝ }
     ensures { λ _. ⌜ now (out .exit) ≡ sets (now (out .entry)) at (wordOf x) ⌝ }
 {
-    out[at] = byte(x, 16777216);
-    out[at + 1] = byte(x, 65536);
-    out[at + 2] = byte(x, 256);
-    out[at + 3] = (x % 256) as u8;
+    let w = parts::word(x);
+    out[at] = w[0];
+    out[at + 1] = w[1];
+    out[at + 2] = w[2];
+    out[at + 3] = w[3];
 }
 
 fn put_head(driver: Driver, out: &mut [u8])
@@ -261,21 +253,11 @@ fn phase_in(code: u8, clocks: u8) -> Phase
     Phase::Over(failed_in(code - 16))
 }
 
-fn wide(x: u8) -> usize
-    ensures { λ r. ⌜ r ≡ x ⌝ }
-    ensures range { λ r. ⌜ r < 256 ⌝ }
-{
-    x as usize
-}
-
 fn number_in(bytes: &[u8], at: usize) -> usize
     requires { ⌜ at + 4 ≤ length (now bytes) ⌝ }
     ensures { λ r. ⌜ r ≡ numberIn (now (bytes .entry)) at ⌝ }
 {
-    wide(bytes[at]) * 16777216
-        + wide(bytes[at + 1]) * 65536
-        + wide(bytes[at + 2]) * 256
-        + wide(bytes[at + 3])
+    parts::joined(bytes[at], bytes[at + 1], bytes[at + 2], bytes[at + 3])
 }
 
 fn request_in(bytes: &[u8]) -> Request

@@ -16,7 +16,7 @@ use Rattle.parts.specs.Table.{tableOf, factsOf, nameOf, idSizeOf, buffer
 use Rattle.parts.specs.Events.{eventWith, eventOf}
 use Rattle.parts.specs.Sound.{Sound, OneOrder}
 use Rattle.parts.specs.declared.Refusal.{Refusal}
-use Rattle.parts.specs.declared.Refusal.the-variants.{NoPart, WrongEnable, WrongBuffer, BadState, BadEvent, ShortBuffer, Beyond, BadLimit, NoSelect, NoData, PollsUsed, BadImage, TooMany, NoFirst, NoSecond, BadRecord, BadSum, Misplaced, NoEnd, BadSample}
+use Rattle.parts.specs.declared.Refusal.the-variants.{NoPart, WrongEnable, WrongBuffer, BadState, BadEvent, ShortBuffer, Beyond, BadLimit, NoSelect, NoData, PollsUsed, BadImage, TooMany, NoFirst, NoSecond, BadRecord, BadSum, Misplaced, NoEnd, BadSample, CountsLost}
 use Rattle.parts.specs.declared.Verdict.{Verdict}
 use Rattle.parts.specs.declared.Verdict.the-variants.{Fine, Refused}
 use Rattle.parts.specs.Refusals.{numberOf, rankOf, verdictNumberOf}
@@ -94,6 +94,7 @@ entered (BadSum n) = (omega arith, refl)
 entered (Misplaced n) = (omega arith, refl)
 entered (NoEnd n) = (omega arith, refl)
 entered (BadSample k) = (omega arith, refl)
+entered CountsLost = (omega arith, refl)
 
 pub one-order : OneOrder
 one-order r s e = entered r .1 ∙ ap (λ (k : ℕ). k % 100) e ∙ sym (entered s .1)

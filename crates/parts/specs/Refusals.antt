@@ -1,4 +1,4 @@
--- Document 01, 'Refusal numbers', and document 02, §1 to §3 and §5: number, rank and place of each refusal, and which of several is given.
+-- Document 01, 'Refusal numbers', and document 02, §1 to §3, §5 and §7: number, rank and place of each refusal, and which of several is given.
 -- Assumes nothing.
 use Prim.Native.Nat.{ℕ}
 use mathlib.Core.Bool.{Bool, true, false, not, cond}
@@ -6,7 +6,7 @@ use lib.Dec.{ltb, eqb}
 use Rattle.parts.specs.declared.Facts.{Facts}
 use Rattle.parts.specs.declared.Loss.{Loss}
 use Rattle.parts.specs.declared.Refusal.{Refusal}
-use Rattle.parts.specs.declared.Refusal.the-variants.{NoPart, WrongEnable, WrongBuffer, BadState, BadEvent, ShortBuffer, Beyond, BadLimit, NoSelect, NoData, PollsUsed, BadImage, TooMany, NoFirst, NoSecond, BadRecord, BadSum, Misplaced, NoEnd, BadSample}
+use Rattle.parts.specs.declared.Refusal.the-variants.{NoPart, WrongEnable, WrongBuffer, BadState, BadEvent, ShortBuffer, Beyond, BadLimit, NoSelect, NoData, PollsUsed, BadImage, TooMany, NoFirst, NoSecond, BadRecord, BadSum, Misplaced, NoEnd, BadSample, CountsLost}
 use Rattle.parts.specs.declared.Spot.{Spot}
 use Rattle.parts.specs.declared.Spot.the-variants.{Nowhere, At}
 use Rattle.parts.specs.declared.Entry.{Entry}
@@ -25,7 +25,7 @@ entry number rank spot = record { 0 = number; 1 = rank; 2 = spot }
 -- goes "with the first place"; 02 §1: "9 is the select only; 14 first address byte, 15 second", and "give the page of the transfer's address.
 -- Refusal 10 gains the data byte's index in the request". 02 §2: "16 malformed record, 17 wrong sum, 18 overlap or beyond the array, 19 no end
 -- record or text after it; the earliest record decides, within it the lowest number": each goes with the record's line, counted from 1. §3: "20 a sample
--- above 3, at its place, after 4": its rank stands behind that of 4, before that of 13
+-- above 3, at its place, after 4": its rank stands behind that of 4, before that of 13. §7: "21 counts would be lost, after 12"
 abbrev pub entryOf : Refusal → Entry
 entryOf NoPart = entry 1 1001 Nowhere
 entryOf WrongEnable = entry 2 2002 Nowhere
@@ -47,6 +47,7 @@ entryOf (BadSum n) = entry 17 17017 (At n)
 entryOf (Misplaced n) = entry 18 18018 (At n)
 entryOf (NoEnd n) = entry 19 19019 (At n)
 entryOf (BadSample k) = entry 20 4020 (At k)
+entryOf CountsLost = entry 21 21021 Nowhere
 
 abbrev pub numberOf : Refusal → ℕ
 numberOf r = entryOf r .0

@@ -1,13 +1,14 @@
 // The six parts, the two numberings, the bus events and the refusals of document 01.
 ghost use mathlib.Core.Path.{_≡_};
-ghost use Prim.Native.Nat.{_≤_};
+ghost use Prim.Native.Nat.{_≤_, _<_};
 ghost use lib.ListN.{length, getD};
 ghost use Rattle.parts.specs.Table.{rowOf, noPart, tableOf, factsOf, nameOf, idSizeOf, buffersRightOf, addressBytesOf, enableRightOf};
 ghost use Rattle.parts.specs.Sound.{Sound};
 ghost use Rattle.parts.specs.Events.{eventWith, eventRightOf, lossSizeOf};
 ghost use Rattle.parts.specs.Refusals.{entryOf, numberOf, rankOf, spotOf, placeTold, verdictNumberOf, verdictPlaceOf, claimOf, soonerOf, lentVerdictOf, lossVerdictOf};
-ghost use Rattle.parts.specs.Bytes.{flagOf, allBelowOf, upOf};
-ghost use mathlib.Core.Bool.{true};
+ghost use Rattle.parts.specs.Bytes.{flagOf, allBelowOf, upOf, copiedOf, wordEnd, wordOf, wordJoinedOf};
+ghost use mathlib.Core.Bool.{true, cond};
+ghost use lib.Dec.{ltb};
 
 // The address of a byte of the array.
 pub struct ArrayAddress(pub usize);
@@ -261,6 +262,12 @@ pub fn all_below(limit: u8, bytes: &[u8]) -> bool
     low
 }
 
+fn least(a: usize, b: usize) -> usize
+    ensures { λ r. ⌜ r ≡ cond (ltb a b) a b ⌝ }
+{
+    if a < b { a } else { b }
+}
+
 // The byte of a buffer, and 0 beyond its end.
 pub fn byte_at(s: &[u8], at: usize) -> u8
     ensures { λ r. ⌜ r ≡ getD (now (s .entry)) at 0 ⌝ }
@@ -269,6 +276,48 @@ pub fn byte_at(s: &[u8], at: usize) -> u8
         return s[at];
     }
     0
+}
+
+// As many of the bytes as there is room for, from a place on.
+pub fn copy(out: &mut [u8], at: usize, bytes: &[u8])
+    ensures { λ _. ⌜ now (out .exit) ≡ copiedOf (now (out .entry)) at (now (bytes .entry)) ⌝ }
+{
+    if out.len() < at {
+        return;
+    }
+    let n = least(bytes.len(), out.len() - at);
+    let mut i = 0;
+    while i < n {
+        out[at + i] = bytes[i];
+        i += 1;
+    }
+}
+
+// The four bytes of a number, high byte first; of a larger one the last four.
+pub fn word(x: usize) -> [u8; 4]
+    ensures { λ r. ⌜ r ≡ wordOf x ⌝ }
+{
+    [
+        (x / 16777216 % 256) as u8,
+        (x / 65536 % 256) as u8,
+        (x / 256 % 256) as u8,
+        (x % 256) as u8,
+    ]
+}
+
+fn wide(x: u8) -> usize
+    ensures { λ r. ⌜ r ≡ x ⌝ }
+    ensures range { λ r. ⌜ r < 256 ⌝ }
+{
+    x as usize
+}
+
+// Four bytes as a number, the high one first.
+pub fn joined(a: u8, b: u8, c: u8, d: u8) -> usize
+    ensures { λ r. ⌜ r ≡ wordJoinedOf a b c d ⌝ }
+    ensures range { λ r. ⌜ r < wordEnd ⌝ }
+{
+    wide(a) * 16777216 + wide(b) * 65536 + wide(c) * 256 + wide(d)
 }
 
 // One more, where `on`; a count stays at the top of its 32 bits.
@@ -318,6 +367,8 @@ pub enum Refusal {
     NoEnd(usize),
     // Of a capture of the two wires, with the first such sample, counted from 0: above 3.
     BadSample(usize),
+    // An image of version 1 has no room for counts that are not 0.
+    CountsLost,
 }
 
 // The place that a refusal tells: of 5 the event's, of 9, 14 and 15 the page, of 10 the data byte's, of 16 to 19 the line, of 20 the sample's.
@@ -354,6 +405,7 @@ fn entry_of(r: Refusal) -> Entry
         Refusal::Misplaced(n) => Entry(18, 18018, Spot::At(n)),
         Refusal::NoEnd(n) => Entry(19, 19019, Spot::At(n)),
         Refusal::BadSample(k) => Entry(20, 4020, Spot::At(k)),
+        Refusal::CountsLost => Entry(21, 21021, Spot::Nowhere),
     }
 }
 

@@ -157,7 +157,7 @@ fn usage(fd: i32) {
     );
     io::write_all(
         fd,
-        b"       sapwoodle hex check PART FILE                 an Intel HEX file, looked at. Refused, each says the line: 16 no record, 17 a wrong\n                                                     sum, 18 overlap or beyond the array, 19 no end record or text behind it\n       sapwoodle hex image PART FILE --save FILE     a chip as delivered with its array, saved as an EPR image\n       sapwoodle hex text IMAGE                      the array of an EPR image, as Intel HEX\n       sapwoodle wear TRACE..                        how many ended or cut cycles touched each group of the array, over traces that are\n                                                     run one after another, each from delivery\n       sapwoodle help           prints this\n       sapwoodle version        prints the version\n--image FILE of write, read and capture takes an EPR image or an Intel HEX file; a file that is read can be - : standard input.\n--capture FILE of write and read draws the wires of the run, for capture or for sigrok.\n--cut K of write loses the power before event K, counted from 0 as --events shows them, and tells each byte that is then not as before. In a\ncycle each error-correction group with a written byte comes up as a page that is lent: --page FILE has its bytes, --fill HH is each of them;\nwithout either each byte of the page comes up turned into its complement. --lock: a locking cycle leaves the lock (a write begins none; bench shows one).\nRefused: 3 for that page's length.\n",
+        b"       sapwoodle hex check PART FILE                 an Intel HEX file, looked at. Refused, each says the line: 16 no record, 17 a wrong\n                                                     sum, 18 overlap or beyond the array, 19 no end record or text behind it\n       sapwoodle hex image PART FILE --save FILE     a chip as delivered with its array, saved as an EPR image\n       sapwoodle hex text IMAGE                      the array of an EPR image, as Intel HEX\n       sapwoodle wear TRACE..                        how many ended or cut cycles touched each group of the array, over traces that are\n                                                     run one after another, each from delivery\n       sapwoodle image info FILE                     an EPR image in one line: version, part, lock, bytes, and what is worn\n       sapwoodle image convert FILE OUT --to 1|2     the image in the other version, into OUT, whole or not at all. Refused: 21 version 1 cannot\n                                                     hold counts that are not 0; 12 it has that version already, or is no image\n       sapwoodle help           prints this\n       sapwoodle version        prints the version\n--image FILE of write, read and capture takes an EPR image, version 1 or 2, or an Intel HEX file; a file that is read can be - : standard input.\n--save FILE writes the version of the image that was loaded, else version 1; with --wear version 2, which has the counts of wear: they go on by the\ncycles that end or are cut in the run.\n--capture FILE of write and read draws the wires of the run, for capture or for sigrok.\n--cut K of write loses the power before event K, counted from 0 as --events shows them, and tells each byte that is then not as before. In a\ncycle each error-correction group with a written byte comes up as a page that is lent: --page FILE has its bytes, --fill HH is each of them;\nwithout either each byte of the page comes up turned into its complement. --lock: a locking cycle leaves the lock (a write begins none; bench shows one).\nRefused: 3 for that page's length.\n",
     );
     io::write_all(
         fd,
@@ -165,7 +165,7 @@ fn usage(fd: i32) {
     );
     io::write_all(
         fd,
-        b"wear [--counts FILE].. [--save FILE] [--all] [--list FILE].. TRACE.. tells the total, the group with most, as a share of the 4000000 cycles that\nthe data sheets name at 25 degrees, and the ten most worn groups; with --all each worn group's number and count instead. A cycle counts once for\neach group in which it has a byte, when it ends (E) or is cut (R). --list FILE has names of traces, one a line. --save FILE keeps the counts,\n--counts FILE goes on from them, and several are joined. All are of one part: another is refused 3. What is refused is named, and nothing is told\nor saved then; 12: no file of counts. A count stays at 4294967295: 'or more' is told then.\n",
+        b"wear [--image FILE] [--counts FILE].. [--save FILE] [--all] [--list FILE].. TRACE.. tells the total, the group with most, as a share of the 4000000 cycles that\nthe data sheets name at 25 degrees, and the ten most worn groups; with --all each worn group's number and count instead. A cycle counts once for\neach group in which it has a byte, when it ends (E) or is cut (R). --list FILE has names of traces, one a line. --save FILE keeps the counts,\n--counts FILE goes on from them, and several are joined. --image FILE goes on from the counts of an EPR image (zeros where it is of version 1),\nwherever it stands; --save FILE is then an EPR image of version 2: what that one stores and its lock, with the counts. All are of one part: another is refused 3. What is refused is named, and nothing is told\nor saved then; 12: no file of counts. A count stays at 4294967295: 'or more' is told then.\n",
     );
     io::write_all(
         fd,
@@ -241,6 +241,11 @@ fn choose_other(word: &[u8], count: usize) {
         wear_station::wear_command(2, count);
         return;
     }
+    let imaged = check::same(word, b"image");
+    if imaged {
+        image_station::image_command(2, count);
+        return;
+    }
     unknown(word);
 }
 
@@ -251,7 +256,7 @@ fn choose(word: &[u8]) {
     }
     let version = check::same(word, b"version");
     if version {
-        return put(b"sapwoodle 0.13.0\n");
+        return put(b"sapwoodle 0.14.0\n");
     }
     let help = check::same(word, b"help");
     if help {

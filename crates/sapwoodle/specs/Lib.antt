@@ -7,4 +7,5 @@ pub mod Captures
 pub mod Drivers
 pub mod Runs
 pub mod Wears
+pub mod Worns
 pub mod Promises

@@ -1,6 +1,7 @@
--- What is promised of the calls over bytes, stated over any functions of the form. `stepping`, `running`, `delivering`, `savingOf`,
--- `loadingOf`, `beginning`, `asking` and `benching`, which the contracts cite, keep it: proofs/chips/Kept.antt and so on. What an image holds
--- is promised in the crate `image`, what the driver does to the chip in the crate `bench_promises`.
+-- What is promised of the calls over bytes, stated over any functions of the form. `stepping`, `running`, `delivering`, `savingBytes`,
+-- `loadingBytes`, `savingWornBytes`, `loadingWornBytes`, `toWornBytes`, `toPlainBytes`, `beginning`, `asking` and `benching`, which the contracts
+-- cite, keep it: proofs/chips/Kept.antt and so on. What an image holds is promised in the crates `image` and `image_worn`, what the driver does to
+-- the chip in the crate `bench_promises`.
 -- Assumes nothing.
 use Prim.Native.Nat.{ℕ, _+_, _<_}
 use mathlib.Core.Path.{_≡_}
@@ -23,6 +24,7 @@ use Rattle.capture.specs.Calls.{seeingOf}
 use Rattle.capture.specs.Tallies.{tally}
 use Rattle.image.specs.Layout.{partIn, lockIn}
 use Rattle.image.specs.Calls.{saving}
+use Rattle.image_worn.specs.Calls.{savingWorn}
 use Rattle.driver.specs.declared.Request.{Request}
 use Rattle.driver.specs.declared.Answer.the-variants.{Refused}
 use Rattle.driver.specs.Step.{beginOf, driverNextOf, bufferOf}
@@ -36,6 +38,7 @@ use Rattle.sapwoodle.specs.Hexes.{BytesAfterHexRead, BytesAfterHexWrite,
 use Rattle.sapwoodle.specs.Captures.{BytesAfterCapture, BytesAfterEvents, BytesAfterTally, capturedBytes, capturing, listing, tallying}
 use Rattle.sapwoodle.specs.Drivers.{requestOf, BytesAfterBegin, beginning, toldOf, BytesAfterNext, asking}
 use Rattle.sapwoodle.specs.Runs.{BytesAfterBench, benching}
+use Rattle.sapwoodle.specs.Worns.{BytesAfterLoadWorn, savedBytes, savingWornBytes, loadingWornBytes, toWornBytes, toPlainBytes}
 
 -- ======== the chip
 
@@ -252,6 +255,57 @@ abbrev pub LoadHolds : LoadingBytes → Type 0
 LoadHolds load =
     (l : List ℕ) (enable : ℕ) (s : List ℕ) (m : Mem) → load l enable s m .number ≡ 0
     → (holdsChipOf (load l enable s m .state) ≡ true) × (unpackedChipOf (load l enable s m .state) ≡ standbyOf (factsOf (partIn l)) (lockIn l))
+
+-- ======== the image with counts of wear (document 02, §7)
+
+-- of the part, the state's bytes, what is stored, the counts and the output buffer
+abbrev pub SavingWornBytes : Type 0
+SavingWornBytes = ℕ → List ℕ → Mem → List ℕ → List ℕ → BytesAfterSave
+
+-- of the image, the enable, the state's bytes, what is stored and the counts
+abbrev pub LoadingWornBytes : Type 0
+LoadingWornBytes = List ℕ → ℕ → List ℕ → Mem → List ℕ → BytesAfterLoadWorn
+
+-- of the image and the output buffer
+abbrev pub ConvertingBytes : Type 0
+ConvertingBytes = List ℕ → List ℕ → BytesAfterSave
+
+-- ---- "a call refused for bad input changes no byte", and no count; a length of 0 is answered, and of an image always the part that its byte names
+
+abbrev pub SaveWornKeeps : SavingWornBytes → Type 0
+SaveWornKeeps save =
+    (part : ℕ) (s : List ℕ) (m : Mem) (counts out : List ℕ) → (save part s m counts out .number ≡ 0 → ⊥)
+    → (save part s m counts out .written ≡ 0) × (save part s m counts out .out ≡ out)
+
+abbrev pub LoadWornKeeps : LoadingWornBytes → Type 0
+LoadWornKeeps load =
+    (l : List ℕ) (enable : ℕ) (s : List ℕ) (m : Mem) (counts : List ℕ) → (load l enable s m counts .load .number ≡ 0 → ⊥)
+    → (load l enable s m counts .load .state ≡ s) × (load l enable s m counts .load .stored ≡ m)
+    × (load l enable s m counts .counts ≡ counts) × (load l enable s m counts .load .part ≡ partIn l)
+
+abbrev pub ConvertKeeps : ConvertingBytes → Type 0
+ConvertKeeps convert =
+    (l out : List ℕ) → (convert l out .number ≡ 0 → ⊥) → (convert l out .written ≡ 0) × (convert l out .out ≡ out)
+
+pub record WornBytesKept : Type 0 where
+  pub save : SaveWornKeeps savingWornBytes
+  pub load : LoadWornKeeps loadingWornBytes
+  pub to-worn : ConvertKeeps toWornBytes
+  pub to-plain : ConvertKeeps toPlainBytes
+
+-- ---- on the bytes of a state, what is saved is the chip's image
+
+abbrev pub SaveWornIsImages : SavingWornBytes → Type 0
+SaveWornIsImages save =
+    (part : ℕ) (c : Chip) (m : Mem) (counts out : List ℕ) → ChipFits c
+    → save part (packedChipOf c) m counts out ≡ savedBytes (savingWorn part c m counts out)
+
+-- and the bytes hold the chip that was loaded
+abbrev pub LoadWornHolds : LoadingWornBytes → Type 0
+LoadWornHolds load =
+    (l : List ℕ) (enable : ℕ) (s : List ℕ) (m : Mem) (counts : List ℕ) → load l enable s m counts .load .number ≡ 0
+    → (holdsChipOf (load l enable s m counts .load .state) ≡ true)
+    × (unpackedChipOf (load l enable s m counts .load .state) ≡ standbyOf (factsOf (partIn l)) (lockIn l))
 
 -- ======== the driver
 

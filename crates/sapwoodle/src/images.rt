@@ -1,7 +1,6 @@
 // Saving and loading.
 ghost use mathlib.Core.Path.{_≡_};
 ghost use Rattle.chip.specs.Memory.{mem};
-ghost use Rattle.image.specs.Layout.{partIn};
 ghost use Rattle.sapwoodle.specs.Images.{savingBytes, looksOf, loadingBytes};
 use crate::answers;
 
@@ -30,23 +29,13 @@ pub extern "C" fn sapwoodle_save(
 }
 
 // Whether the image is looked at.
-fn looks(state: usize, image: usize) -> bool
+pub(crate) fn looks(state: usize, image: usize) -> bool
     ensures { λ r. ⌜ r ≡ looksOf state image ⌝ }
 {
     if state == pack_chip::LENGTH {
         return true;
     }
     image < 6
-}
-
-// The part byte; 0 where the image is too short to hold one.
-fn part_in(image: &[u8]) -> u8
-    ensures { λ r. ⌜ r ≡ partIn (now (image .entry)) ⌝ }
-{
-    if 5 < image.len() {
-        return image[5];
-    }
-    0
 }
 
 // A chip from an image and an enable for it; `part` gets its part byte.
@@ -70,7 +59,7 @@ pub extern "C" fn sapwoodle_load(
     ensures part { λ _. ⌜ now (part .exit)
         ≡ loadingBytes (now (image .entry)) enable (now (state .entry)) (mem (now (array .entry)) (now (id .entry))) .part ⌝ }
 {
-    let own = part_in(image);
+    let own = image::part_in(image);
     *part = own;
     let looked = looks(state.len(), image.len());
     if !looked {

@@ -7,6 +7,7 @@ pub mod hexes;
 pub mod images;
 pub mod runs;
 pub mod wears;
+pub mod worns;
 
 ghost use mathlib.Core.Path.{_≡_};
 ghost use Rattle.parts.specs.Table.{factsOf, idSizeOf};

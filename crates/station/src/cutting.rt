@@ -60,6 +60,14 @@ fn asked(h: Halted, code: u8, t: Taken, data: &mut [u8]) -> Halted {
     }
 }
 
+// A cycle counts when it ends.
+fn count(part: u8, code: u8, held: &[u8], counts: &mut [u32]) {
+    if code != ENDS {
+        return;
+    }
+    wear::mark(part, pack_chip::unpack(held), counts);
+}
+
 fn step(
     part: u8,
     enable: u8,
@@ -68,8 +76,10 @@ fn step(
     held: &mut [u8],
     array: &mut [u8],
     id: &mut [u8],
+    counts: &mut [u32],
     data: &mut [u8],
 ) -> Halted {
+    count(part, code, held, counts);
     let t = power_station::take(part, enable, code, held, array, id);
     asked(h, code, t, data)
 }
@@ -82,12 +92,13 @@ fn replay(
     held: &mut [u8],
     array: &mut [u8],
     id: &mut [u8],
+    counts: &mut [u32],
     data: &mut [u8],
 ) -> Halted {
     let mut h = first;
     let mut i = 0;
     while i < events.len() {
-        h = step(part, enable, h, events[i], held, array, id, data);
+        h = step(part, enable, h, events[i], held, array, id, counts, data);
         i += 1;
     }
     h
@@ -128,6 +139,7 @@ fn replayed(
     held: &mut [u8],
     array: &mut [u8],
     id: &mut [u8],
+    counts: &mut [u32],
     data: &mut [u8],
 ) -> Standing {
     let k = job.cut;
@@ -141,6 +153,7 @@ fn replayed(
             held,
             array,
             id,
+            counts,
             data,
         );
         return figures(job.part, h, held, data);
@@ -320,8 +333,16 @@ fn on_tape(k: usize, sent: usize) -> bool {
     true
 }
 
-// The chip loses its power.
-fn lose(job: Job, page: &[u8], held: &mut [u8], array: &mut [u8], id: &mut [u8]) {
+// The chip loses its power; a cycle that this cuts counts.
+fn lose(
+    job: Job,
+    page: &[u8],
+    held: &mut [u8],
+    array: &mut [u8],
+    id: &mut [u8],
+    counts: &mut [u32],
+) {
+    wear::mark(job.part, pack_chip::unpack(held), counts);
     pack_chip::pack(lost(job, page, pack_chip::unpack(held), array, id), held);
 }
 
@@ -332,10 +353,11 @@ fn cut_chip(
     held: &mut [u8],
     array: &mut [u8],
     id: &mut [u8],
+    counts: &mut [u32],
     data: &mut [u8],
 ) -> Standing {
-    let found = replayed(job, events, held, array, id, data);
-    lose(job, page, held, array, id);
+    let found = replayed(job, events, held, array, id, counts, data);
+    lose(job, page, held, array, id, counts);
     found
 }
 
@@ -359,9 +381,17 @@ fn tell(
 }
 
 // The files stand before the report is told.
-fn stored(job: Job, held: &[u8], array: &[u8], id: &[u8], events: &[u8], levels: &[u8]) -> bool {
+fn stored(
+    job: Job,
+    held: &[u8],
+    array: &[u8],
+    id: &[u8],
+    counts: &[u32],
+    events: &[u8],
+    levels: &[u8],
+) -> bool {
     if crate::drawn(job, Verdict::Fine, job.cut, events, levels) {
-        return files::save(job.save, job.part, held, array, id);
+        return files::save_kept(job, held, array, id, counts);
     }
     false
 }
@@ -372,14 +402,15 @@ fn cut_run(
     held: &mut [u8],
     array: &mut [u8],
     id: &mut [u8],
+    counts: &mut [u32],
     was: &[u8],
     was_id: &[u8],
     data: &mut [u8],
     events: &mut [u8],
     levels: &mut [u8],
 ) -> bool {
-    let found = cut_chip(job, page, events, held, array, id, data);
-    if stored(job, held, array, id, events, levels) {
+    let found = cut_chip(job, page, events, held, array, id, counts, data);
+    if stored(job, held, array, id, counts, events, levels) {
         return tell(job, found, array, id, was, was_id, events, levels);
     }
     false
@@ -425,6 +456,7 @@ fn run_on(
     held: &mut [u8],
     array: &mut [u8],
     id: &mut [u8],
+    counts: &mut [u32],
     was: &mut [u8],
     was_id: &mut [u8],
     data: &mut [u8],
@@ -453,6 +485,7 @@ fn run_on(
             held,
             array,
             id,
+            counts,
             was,
             was_id,
             data,
@@ -469,6 +502,7 @@ pub fn run(
     held: &mut [u8],
     array: &mut [u8],
     id: &mut [u8],
+    counts: &mut [u32],
     data: &mut [u8],
 ) -> bool {
     let mut was = [0u8; 32768];
@@ -479,6 +513,7 @@ pub fn run(
         held,
         array,
         id,
+        counts,
         fitted::array(job.part, &mut was),
         fitted::id(job.part, &mut was_id),
         data,

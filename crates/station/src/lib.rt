@@ -11,6 +11,7 @@ use power_station::Ended;
 use power_station::TAPE;
 use power_station::ground;
 use power_station::recorded;
+use power_station::request;
 use words::Job;
 use words::answer;
 use words::report;
@@ -75,9 +76,9 @@ fn drawn(job: Job, verdict: Verdict, sent: usize, events: &[u8], levels: &[u8]) 
 }
 
 // A run that is not done leaves no file.
-fn saved(job: Job, verdict: Verdict, held: &[u8], array: &[u8], id: &[u8]) -> bool {
+fn saved(job: Job, verdict: Verdict, held: &[u8], array: &[u8], id: &[u8], counts: &[u32]) -> bool {
     match verdict {
-        Verdict::Fine => files::save(job.save, job.part, held, array, id),
+        Verdict::Fine => files::save_kept(job, held, array, id, counts),
         Verdict::Refused(_) => true,
     }
 }
@@ -102,8 +103,56 @@ fn tell_bytes(ok: bool, job: Job, verdict: Verdict, data: &[u8]) -> bool {
     }
 }
 
+// The counts go on by the cycles that end in the run.
+fn run_worn(
+    job: Job,
+    held: &[u8],
+    array: &mut [u8],
+    id: &mut [u8],
+    data: &mut [u8],
+    counts: &mut [u32],
+) {
+    bench::run_worn(
+        request(job),
+        job.own,
+        job.ends,
+        pack_chip::unpack(held),
+        array,
+        id,
+        data,
+        counts,
+    );
+}
+
+// Where counts are kept, the run goes over copies first: a tape may be too short to count by.
+fn count(job: Job, held: &[u8], array: &[u8], id: &[u8], data: &[u8], counts: &mut [u32]) {
+    if !job.wear {
+        return;
+    }
+    let mut other = [0u8; 32768];
+    let mut other_id = [0u8; 64];
+    let mut bytes = [0u8; 32769];
+    power_station::copy(array, id, &mut other, &mut other_id);
+    files::extend(&mut bytes, 0, data);
+    run_worn(
+        job,
+        held,
+        fitted::array(job.part, &mut other),
+        fitted::id(job.part, &mut other_id),
+        fitted::first(&mut bytes, data.len()),
+        counts,
+    );
+}
+
 // The files stand before the report is told.
-fn run(job: Job, held: &mut [u8], array: &mut [u8], id: &mut [u8], data: &mut [u8]) -> bool {
+fn run(
+    job: Job,
+    held: &mut [u8],
+    array: &mut [u8],
+    id: &mut [u8],
+    counts: &[u32],
+    data: &mut [u8],
+) -> bool {
     let mut events = power_station::tape();
     let mut levels = power_station::tape();
     let e = recorded(job, held, array, id, data, &mut events, &mut levels);
@@ -111,7 +160,7 @@ fn run(job: Job, held: &mut [u8], array: &mut [u8], id: &mut [u8], data: &mut [u
     if !drawn(job, verdict, e.sent, &events, &levels) {
         return false;
     }
-    if !saved(job, verdict, held, array, id) {
+    if !saved(job, verdict, held, array, id, counts) {
         return false;
     }
     let told = tell_report(job, e);
@@ -125,12 +174,14 @@ fn run_or_cut(
     held: &mut [u8],
     array: &mut [u8],
     id: &mut [u8],
+    counts: &mut [u32],
     data: &mut [u8],
 ) -> bool {
     if job.cuts {
-        return cutting::run(job, page, held, array, id, data);
+        return cutting::run(job, page, held, array, id, counts, data);
     }
-    run(job, held, array, id, data)
+    count(job, held, array, id, data, counts);
+    run(job, held, array, id, counts, data)
 }
 
 fn run_prepared(
@@ -140,11 +191,12 @@ fn run_prepared(
     held: &mut [u8],
     array: &mut [u8],
     id: &mut [u8],
+    counts: &mut [u32],
     data: &mut [u8],
 ) -> bool {
     let ready = files::prepared(verdict, job, held, array, id);
     match ready {
-        Verdict::Fine => run_or_cut(job, page, held, array, id, data),
+        Verdict::Fine => run_or_cut(job, page, held, array, id, counts, data),
         Verdict::Refused(r) => report::refused(ground(job), r),
     }
 }
@@ -155,18 +207,26 @@ fn begin(
     held: &mut [u8],
     array: &mut [u8],
     id: &mut [u8],
+    counts: &mut [u32],
     data: &mut [u8],
 ) -> bool {
-    let first = files::at_first(job, held, array, id);
+    let first = files::at_first(job, held, array, id, counts);
     match first {
         Ready::Told => false,
-        Ready::Judged(verdict) => run_prepared(verdict, job, page, held, array, id, data),
+        Ready::Judged(verdict, worn) => {
+            let kept = Job {
+                wear: job.wear | worn,
+                ..job
+            };
+            run_prepared(verdict, kept, page, held, array, id, counts, data)
+        }
     }
 }
 
 fn lend(job: Job, page: &[u8], data: &mut [u8]) -> bool {
     let mut array = [0u8; 32768];
     let mut id = [0u8; 64];
+    let mut counts = [0u32; 8192];
     let mut held = [0u8; pack_chip::LENGTH];
     begin(
         job,
@@ -174,6 +234,7 @@ fn lend(job: Job, page: &[u8], data: &mut [u8]) -> bool {
         &mut held,
         fitted::array(job.part, &mut array),
         fitted::id(job.part, &mut id),
+        fitted::counts(job.part, &mut counts),
         data,
     )
 }

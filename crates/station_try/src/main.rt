@@ -1,4 +1,5 @@
-// Commands as they are typed, one after the other: the words are those of the file args, with `then` between two commands.
+// Commands as they are typed, one after the other: the words are those of the file args, with `then` between two commands. One more compares
+// two files that they left: `same A B`.
 fn is_then(word: &[u8]) -> bool {
     check::same(word, b"then")
 }
@@ -11,7 +12,59 @@ fn then_at(i: usize) -> bool {
 
 // The limit is for the proof alone.
 fn after(i: usize) -> usize {
-    if i < 2000 { i + 1 } else { i }
+    if i < 4000 { i + 1 } else { i }
+}
+
+fn say(text: &[u8]) {
+    io::write_all(libc::STDOUT_FILENO, text);
+}
+
+// ---- two files, byte for byte
+
+fn compare(one: &[u8], two: &[u8]) {
+    if check::same(one, two) {
+        return say(b"same\n");
+    }
+    say(b"differ\n");
+}
+
+fn compare_in(first: usize, a: &mut [u8], b: &mut [u8]) {
+    let one = files::contents(first, a);
+    let two = files::contents(after(first), b);
+    let n = one.n;
+    let m = two.n;
+    if !(one.ok & two.ok) {
+        return;
+    }
+    if n <= a.len() {
+        if m <= b.len() {
+            compare(&a[0..n], &b[0..m]);
+        }
+    }
+}
+
+// There is room for the largest image.
+fn same_command(first: usize) {
+    let mut a = [0u8; 65608];
+    let mut b = [0u8; 65608];
+    compare_in(first, &mut a, &mut b);
+}
+
+// ---- the commands
+
+fn choose_other(word: &[u8], next: usize, end: usize) {
+    if check::same(word, b"wear") {
+        wear_station::wear_command(next, end);
+        return;
+    }
+    if check::same(word, b"image") {
+        image_station::image_command(next, end);
+        return;
+    }
+    if check::same(word, b"same") {
+        return same_command(next);
+    }
+    station::write_command(next, end);
 }
 
 fn choose(word: &[u8], next: usize, end: usize) {
@@ -35,18 +88,14 @@ fn choose(word: &[u8], next: usize, end: usize) {
         hex_station::hex_command(next, end);
         return;
     }
-    if check::same(word, b"wear") {
-        wear_station::wear_command(next, end);
-        return;
-    }
-    station::write_command(next, end);
+    choose_other(word, next, end);
 }
 
 // The command from a word on; an empty line stands before it.
 fn command(at: usize, end: usize) {
     let mut word = io::buffer();
     let n = os::arg(at, &mut word);
-    io::write_all(libc::STDOUT_FILENO, b"\n");
+    say(b"\n");
     choose(&word[..n], after(at), end);
 }
 

@@ -1,4 +1,7 @@
 // What is told of the counts. Each function is told whether the lines before it were written, and says so of its own.
+use image_station::show::big;
+use image_station::show::or_more;
+use image_station::show::worn;
 use words::answer;
 use words::answer::address;
 use words::answer::number;
@@ -12,19 +15,10 @@ pub struct Top {
     pub count: u32,
 }
 
-// Where a count stays.
-const FULL: u32 = 4294967295;
-
 const BARS: usize = 10;
 
 fn wide(n: u32) -> usize {
     n as usize
-}
-
-fn big(ok: bool, n: u64) -> bool {
-    let mut text = [0u8; 20];
-    let k = io::decimal(n, &mut text);
-    say(ok, &text[..k])
 }
 
 // `1 trace`, `3 traces`
@@ -37,19 +31,10 @@ fn some(ok: bool, n: usize, name: &[u8]) -> bool {
     say(named, b"s")
 }
 
-// A count that stays at its top says how many there were at least.
-fn or_more(ok: bool, most: u32) -> bool {
-    if most == FULL {
-        return say(ok, b" or more");
-    }
-    ok
-}
-
 // ---- the first three lines
 
 fn head(ok: bool, part: u8, size: usize, groups: usize, traces: usize, cycles: usize) -> bool {
-    let named = say(number(say(ok, b"part "), text::wide(part)), b", ");
-    let parted = named && answer::written(words::say_name(part));
+    let parted = image_station::show::part_named(ok, part, b", ");
     let two = some(say(parted, b": "), groups, b" group");
     let three = some(say(two, b" of "), size, b" byte");
     let four = some(say(three, b"; "), traces, b" trace");
@@ -164,27 +149,6 @@ fn bars(ok: bool, size: usize, first: Top, counts: &[u32]) -> bool {
         k += 1;
     }
     told
-}
-
-// The limit is for the proof alone.
-fn counted(n: usize, count: u32) -> usize {
-    if 0 < count {
-        if n < 65536 {
-            return n + 1;
-        }
-    }
-    n
-}
-
-// How many groups are worn.
-fn worn(counts: &[u32]) -> usize {
-    let mut n = 0;
-    let mut i = 0;
-    while i < counts.len() {
-        n = counted(n, counts[i]);
-        i += 1;
-    }
-    n
 }
 
 fn rest(ok: bool, worn: usize) -> bool {

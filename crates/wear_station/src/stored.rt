@@ -1,5 +1,8 @@
 // The file of counts: the mark `EPC`, version 0001h high byte first, the part, then each group's count as four bytes, high byte first.
 use crate::tell;
+use files::shape;
+use files::tell::number;
+use files::tell::say;
 use parts::Refusal;
 
 // Room for one byte more than the largest has, so that a longer file is seen to be too long.
@@ -27,16 +30,12 @@ pub fn part_in(bytes: &[u8]) -> u8 {
 
 // ---- reading
 
-fn joined(a: u8, b: u8, c: u8, d: u8) -> u32 {
-    a as u32 * 16777216 + b as u32 * 65536 + c as u32 * 256 + d as u32
-}
-
 fn count_in(bytes: &[u8], i: usize) -> u32 {
     let a = parts::byte_at(bytes, i);
     let b = parts::byte_at(bytes, at(i, 1));
     let c = parts::byte_at(bytes, at(i, 2));
     let d = parts::byte_at(bytes, at(i, 3));
-    joined(a, b, c, d)
+    parts::joined(a, b, c, d) as u32
 }
 
 // As many counts as there is room for.
@@ -54,7 +53,7 @@ pub fn load(bytes: &[u8], counts: &mut [u32]) {
 
 fn begin(input: bool, name: &[u8]) {
     tell::begin(input, name);
-    tell::say(b": no file of counts: found ");
+    say(b": no file of counts: found ");
 }
 
 fn end() -> bool {
@@ -62,73 +61,43 @@ fn end() -> bool {
     false
 }
 
-fn marked(bytes: &[u8]) -> bool {
-    let first = parts::byte_at(bytes, 0) == b'E';
-    let second = parts::byte_at(bytes, 1) == b'P';
-    first & second & (parts::byte_at(bytes, 2) == b'C')
-}
-
-// `45h 50h 52h`: the bytes may be none that can be shown.
 fn no_mark(input: bool, name: &[u8], bytes: &[u8]) -> bool {
     begin(input, name);
-    tell::say(b"mark ");
-    tell::byte(parts::byte_at(bytes, 0));
-    tell::say(b" ");
-    tell::byte(parts::byte_at(bytes, 1));
-    tell::say(b" ");
-    tell::byte(parts::byte_at(bytes, 2));
-    tell::say(b", wanted 45h 50h 43h, EPC");
+    shape::mark(bytes);
+    say(b", wanted 45h 50h 43h, EPC");
     end()
 }
 
-fn versioned(bytes: &[u8]) -> bool {
-    (parts::byte_at(bytes, 3) == 0) & (parts::byte_at(bytes, 4) == 1)
-}
-
 fn no_version(input: bool, name: &[u8], bytes: &[u8]) -> bool {
-    let high = text::hex(parts::byte_at(bytes, 3));
     begin(input, name);
-    tell::say(b"version ");
-    tell::say(&[high[0], high[1]]);
-    tell::byte(parts::byte_at(bytes, 4));
-    tell::say(b", wanted 0001h");
+    shape::version(bytes);
+    say(b", wanted 0001h");
     end()
 }
 
 fn no_part(input: bool, name: &[u8], part: u8) -> bool {
     begin(input, name);
-    tell::say(b"part ");
-    tell::number(text::wide(part));
-    tell::say(b", wanted 0 to 5");
+    shape::no_part(part);
     end()
-}
-
-// Of a file that is longer than any, not all was read.
-fn found_bytes(n: usize) {
-    tell::number(n);
-    tell::say(b" bytes");
-    if ROOM <= n {
-        tell::say(b" or more");
-    }
 }
 
 fn no_head(input: bool, name: &[u8], n: usize) -> bool {
     begin(input, name);
-    found_bytes(n);
-    tell::say(b", wanted ");
-    tell::number(size_of(wear::groups(0)));
-    tell::say(b" or ");
-    tell::number(size_of(wear::groups(5)));
+    shape::found(n, ROOM);
+    say(b", wanted ");
+    number(size_of(wear::groups(0)));
+    say(b" or ");
+    number(size_of(wear::groups(5)));
     end()
 }
 
 fn no_length(input: bool, name: &[u8], n: usize, part: u8) -> bool {
     begin(input, name);
-    found_bytes(n);
-    tell::say(b", wanted ");
-    tell::number(size_of(wear::groups(part)));
-    tell::say(b" for part ");
-    tell::number(text::wide(part));
+    shape::found(n, ROOM);
+    say(b", wanted ");
+    number(size_of(wear::groups(part)));
+    say(b" for part ");
+    number(text::wide(part));
     end()
 }
 
@@ -149,10 +118,10 @@ pub fn right(input: bool, name: &[u8], bytes: &[u8]) -> bool {
     if bytes.len() < HEAD {
         return no_head(input, name, bytes.len());
     }
-    if !marked(bytes) {
+    if !shape::marked(bytes, b'C') {
         return no_mark(input, name, bytes);
     }
-    if !versioned(bytes) {
+    if !shape::versioned(bytes, 1, 1) {
         return no_version(input, name, bytes);
     }
     right_length(input, name, bytes)
@@ -160,21 +129,9 @@ pub fn right(input: bool, name: &[u8], bytes: &[u8]) -> bool {
 
 // ---- writing
 
-fn put(out: &mut [u8], i: usize, b: u8) {
-    if i < out.len() {
-        out[i] = b;
-    }
-}
-
-fn low(n: u32) -> u8 {
-    (n % 256) as u8
-}
-
 fn put_count(out: &mut [u8], i: usize, n: u32) {
-    put(out, i, low(n / 16777216));
-    put(out, at(i, 1), low(n / 65536));
-    put(out, at(i, 2), low(n / 256));
-    put(out, at(i, 3), low(n));
+    let bytes = parts::word(n as usize);
+    parts::copy(out, i, &bytes);
 }
 
 fn put_all(counts: &[u32], out: &mut [u8]) {
@@ -188,8 +145,8 @@ fn put_all(counts: &[u32], out: &mut [u8]) {
 }
 
 fn save_in(word: usize, part: u8, counts: &[u32], out: &mut [u8]) -> bool {
-    files::extend(out, 0, b"EPC\x00\x01");
-    put(out, PART, part);
+    let head = [b'E', b'P', b'C', 0, 1, part];
+    parts::copy(out, 0, &head);
     put_all(counts, out);
     let n = size_of(counts.len());
     if n <= out.len() {

@@ -1,21 +1,8 @@
 // What is wrong with a file, on standard error. A file is named as it was typed, or as its list names it; `input`: it is standard input.
-use libc::STDERR_FILENO;
+use files::tell::number;
+use files::tell::say;
 use parts::Refusal;
 use parts::Spot;
-
-pub fn say(text: &[u8]) {
-    io::write_all(STDERR_FILENO, text);
-}
-
-pub fn number(n: usize) {
-    io::print_decimal(STDERR_FILENO, n as u64);
-}
-
-// `45h`
-pub fn byte(b: u8) {
-    let d = text::hex(b);
-    say(&[d[0], d[1], b'h']);
-}
 
 // `sapwoodle: FILE`
 pub fn begin(input: bool, name: &[u8]) {

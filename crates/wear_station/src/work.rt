@@ -35,18 +35,6 @@ pub fn stopped(w: Worn) -> Worn {
     Worn { ok: false, ..w }
 }
 
-// Counts of the largest part, cut to a part.
-fn first(counts: &mut [u32], n: usize) -> &mut [u32] {
-    if n <= counts.len() {
-        return &mut counts[0..n];
-    }
-    counts
-}
-
-pub fn cut(part: u8, counts: &mut [u32]) -> &mut [u32] {
-    first(counts, wear::groups(part))
-}
-
 // ---- a file
 
 pub fn opened(input: bool, name: &[u8]) -> i32 {
@@ -156,7 +144,7 @@ fn run_letters(part: u8, enable: u8, letters: &[u8], counts: &mut [u32]) -> Ran 
         fitted::id(part, &mut id),
         fitted::first(&mut events, letters.len()),
         fitted::first(&mut answers, letters.len()),
-        cut(part, counts),
+        fitted::counts(part, counts),
     )
 }
 
@@ -237,8 +225,8 @@ fn joined(w: Worn, input: bool, name: &[u8], part: u8, bytes: &[u8], counts: &mu
         name,
         part,
         bytes,
-        cut(part, counts),
-        cut(part, &mut more),
+        fitted::counts(part, counts),
+        fitted::counts(part, &mut more),
     )
 }
 

@@ -1,12 +1,13 @@
 // Tries calls of `wear`, one for each line of the input, and prints what each answers. A line is a letter for the call (`call`), its numbers and,
-// after a colon, what is tried; behind a slash the counts that stand before the call (`counts`), and behind another the events (`events`) or the
+// after a colon, what is tried; behind a slash the counts that stand before the call (`cases::counts`), and behind another the events (`events`) or the
 // counts that are joined to them.
 mod counts;
 mod events;
 mod runs;
 
+use cases::behind;
 use cases::cut;
-use cases::more;
+use cases::front;
 use libc::STDIN_FILENO;
 use parts::Refusal;
 use parts::Verdict;
@@ -42,22 +43,6 @@ pub fn tell_verdict(verdict: Verdict) {
     }
 }
 
-// ---- pieces of a line
-
-// Up to the first such byte.
-pub fn front(s: &[u8], mark: u8) -> &[u8] {
-    cut(s, 0, cases::place(s, mark))
-}
-
-// Behind the first such byte; nothing where there is none.
-pub fn behind(s: &[u8], mark: u8) -> &[u8] {
-    let n = cases::place(s, mark);
-    if n < s.len() {
-        return cut(s, more(n), s.len());
-    }
-    cut(s, s.len(), s.len())
-}
-
 // ---- the calls without a chip
 
 fn tell_groups(part: u8) {
@@ -66,15 +51,15 @@ fn tell_groups(part: u8) {
 
 fn tell_report(v: [usize; 16], typed: &[u8]) {
     let mut own = [0u32; MOST];
-    counts::read(&mut own, typed);
-    counts::tell_report(narrow(v[0]), counts::shown(&own, v[LENGTH]));
+    cases::counts::read(&mut own, typed);
+    counts::tell_report(narrow(v[0]), cases::counts::shown(&own, v[LENGTH]));
 }
 
 fn join(v: [usize; 16], own: &mut [u32], other: &[u32]) -> Verdict {
     wear::join(
         narrow(v[0]),
-        counts::first(own, v[LENGTH]),
-        counts::shown(other, v[OTHER]),
+        cases::counts::first(own, v[LENGTH]),
+        cases::counts::shown(other, v[OTHER]),
     )
 }
 
@@ -82,8 +67,8 @@ fn join(v: [usize; 16], own: &mut [u32], other: &[u32]) -> Verdict {
 fn tell_join(v: [usize; 16], typed: &[u8]) {
     let mut own = [0u32; MOST];
     let mut other = [0u32; MOST];
-    counts::read(&mut own, front(typed, b'/'));
-    counts::read(&mut other, behind(typed, b'/'));
+    cases::counts::read(&mut own, front(typed, b'/'));
+    cases::counts::read(&mut other, behind(typed, b'/'));
     tell_verdict(join(v, &mut own, &other));
     say(b"; first");
     counts::tell_worn(&own);

@@ -1,6 +1,7 @@
 // Runs of events on a part as delivered, and what they leave: one after another, with a bar between, on the one chip or each from delivery. The counts
 // go on in either case.
 use cases::cut;
+use cases::mix;
 use parts::Loss;
 use parts::Verdict;
 use text::narrow;
@@ -59,18 +60,14 @@ fn deliver(v: [usize; 16], held: &mut [u8; 137], array: &mut [u8], id: &mut [u8]
 
 // ---- what is left
 
-fn both(a: usize, b: usize) -> usize {
-    (a % 1000003 * 31 + b % 1000003) % 1000003
-}
-
 fn stored(array: &[u8], id: &[u8]) -> usize {
-    both(cases::mixed(array), cases::mixed(id))
+    mix(cases::mixed(array), cases::mixed(id))
 }
 
 // A number that tells apart all that a call may change, but for the levels.
 fn left(held: &[u8], array: &[u8], id: &[u8], counts: &[u32]) -> usize {
-    let known = both(cases::mixed(held), stored(array, id));
-    both(crate::counts::mixed(counts), known)
+    let known = mix(cases::mixed(held), stored(array, id));
+    mix(cases::counts::mixed(counts), known)
 }
 
 fn level_letter(x: u8) -> u8 {
@@ -168,7 +165,7 @@ fn run(
         pack_chip::unpack(held),
         fitted::first(array, v[ARRAY]),
         fitted::first(id, v[ID]),
-        crate::counts::first(counts, v[COUNTS]),
+        cases::counts::first(counts, v[COUNTS]),
         events,
         fitted::first(levels, v[ROOM]),
     );
@@ -294,13 +291,13 @@ pub fn tell_runs(v: [usize; 16], fresh: bool, counted: &[u8], typed: &[u8]) {
     let mut array = [0u8; 32769];
     let mut id = [0u8; 65];
     let mut counts = [0u32; crate::MOST];
-    crate::counts::read(&mut counts, counted);
+    cases::counts::read(&mut counts, counted);
     deliver(v, &mut held, &mut array, &mut id);
     series(v, fresh, typed, &mut held, &mut array, &mut id, &mut counts);
     say(b"; worn");
     crate::counts::tell_worn(&counts);
     say(b"; report ");
-    crate::counts::tell_report(narrow(v[PART]), crate::counts::shown(&counts, v[COUNTS]));
+    crate::counts::tell_report(narrow(v[PART]), cases::counts::shown(&counts, v[COUNTS]));
 }
 
 // ---- what an end or a cut, now, would count
@@ -338,14 +335,14 @@ fn mark(v: [usize; 16], held: &[u8; 137], counts: &mut [u32]) {
     wear::mark(
         narrow(v[PART]),
         pack_chip::unpack(held),
-        crate::counts::first(counts, v[COUNTS]),
+        cases::counts::first(counts, v[COUNTS]),
     );
 }
 
 pub fn tell_mark(v: [usize; 16], counted: &[u8], typed: &[u8]) {
     let mut held = [0u8; 137];
     let mut counts = [0u32; crate::MOST];
-    crate::counts::read(&mut counts, counted);
+    cases::counts::read(&mut counts, counted);
     alone(v, typed, &mut held);
     tell_state(&held);
     mark(v, &held, &mut counts);

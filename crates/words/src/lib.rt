@@ -1,6 +1,7 @@
 // The words of a command line, made into a job. What is wrong with a word is said on standard error at once. And the words that more than
 // one command answers with.
 pub mod answer;
+pub mod imaging;
 pub mod report;
 pub mod wearing;
 
@@ -28,6 +29,8 @@ pub struct Job {
     // Which words name the files and have the bytes; 0 for none.
     pub image: usize,
     pub save: usize,
+    // Whether the counts of wear are saved too: it is asked for, or the file that was loaded has them.
+    pub wear: bool,
     pub bytes: usize,
     // The file that a run's wires are drawn into.
     pub drawn: usize,
@@ -104,23 +107,30 @@ const LETTER: usize = 19;
 
 const LOCK: usize = 20;
 
+const WEAR: usize = 21;
+
 // The name of an option, the bytes of a write, the first file of a capture and the word behind its last.
-const OPTION: usize = 21;
+const OPTION: usize = 22;
 
-const BYTES: usize = 22;
+const BYTES: usize = 23;
 
-const FILES: usize = 23;
+const FILES: usize = 24;
 
-const BEHIND: usize = 24;
+const BEHIND: usize = 25;
 
-// Two more that a word can be wrong as, the word behind `hex`, and that `wear` names nothing that is read.
-const LONG: usize = 25;
+// Two more that a word can be wrong as, the word behind `hex`, that `wear` names nothing that is read, the word behind `image`, and what
+// stands where `--to` of its conversion should.
+const LONG: usize = 26;
 
-const MISSING: usize = 26;
+const MISSING: usize = 27;
 
-const HEX: usize = 27;
+const HEX: usize = 28;
 
-const SOURCES: usize = 28;
+const SOURCES: usize = 29;
+
+const IMAGE_WORD: usize = 30;
+
+const TO: usize = 31;
 
 const NONE: usize = 255;
 
@@ -148,7 +158,7 @@ fn tell(text: &[u8]) {
 
 fn usage() {
     tell(
-        b"usage: sapwoodle write PART ENABLE ADDRESS HEXBYTES [option ..]    HEXBYTES - : the bytes from standard input\n       sapwoodle read PART ENABLE ADDRESS LENGTH [option ..]\n       sapwoodle capture PART ENABLE FILE.. [capture's option ..]\n       sapwoodle power PART ADDRESS LENGTH [--ident] [--enable N]\n       sapwoodle bench [PART [--enable N]]\n       sapwoodle hex check PART FILE\n       sapwoodle hex image PART FILE --save FILE\n       sapwoodle hex text IMAGE\n       sapwoodle wear [--counts FILE].. [--save FILE] [--all] [--list FILE].. TRACE..\noptions: --ident --events --budget N --ends-at D --pin high|low|floating --chip-enable N --image FILE --save FILE --capture FILE\nwrite's options too: --cut K [--page FILE | --fill HH] [--lock]\ncapture's options: --letter --events --scl BIT --sda BIT --pin high|low|floating --image FILE --save FILE\n--image takes an EPR image or an Intel HEX file; a file that is read can be - : standard input\n",
+        b"usage: sapwoodle write PART ENABLE ADDRESS HEXBYTES [option ..]    HEXBYTES - : the bytes from standard input\n       sapwoodle read PART ENABLE ADDRESS LENGTH [option ..]\n       sapwoodle capture PART ENABLE FILE.. [capture's option ..]\n       sapwoodle power PART ADDRESS LENGTH [--ident] [--enable N]\n       sapwoodle bench [PART [--enable N]]\n       sapwoodle hex check PART FILE\n       sapwoodle hex image PART FILE --save FILE\n       sapwoodle hex text IMAGE\n       sapwoodle wear [--image FILE] [--counts FILE].. [--save FILE] [--all] [--list FILE].. TRACE..\n       sapwoodle image info FILE\n       sapwoodle image convert FILE OUT --to 1|2\noptions: --ident --events --budget N --ends-at D --pin high|low|floating --chip-enable N --image FILE --save FILE [--wear] --capture FILE\nwrite's options too: --cut K [--page FILE | --fill HH] [--lock]\ncapture's options: --letter --events --scl BIT --sda BIT --pin high|low|floating --image FILE --save FILE [--wear]\n--image takes an EPR image of either version or an Intel HEX file; a file that is read can be - : standard input\n",
     );
 }
 
@@ -166,7 +176,11 @@ fn reason(kind: usize) {
         LONG => tell(b"is too long\n"),
         MISSING => tell(b"is missing\n"),
         HEX => tell(b"is none of check, image, text, for hex\n"),
-        SOURCES => tell(b"is missing: wear wants a TRACE, --list FILE or --counts FILE\n"),
+        SOURCES => tell(
+            b"is missing: wear wants a TRACE, --list FILE, --counts FILE or --image FILE\n",
+        ),
+        IMAGE_WORD => tell(b"is none of info, convert, for image\n"),
+        TO => tell(b"is not as image convert wants it: FILE OUT --to 1, or --to 2\n"),
         _ => tell(b"is no number, decimal or 0x\n"),
     }
 }
@@ -389,6 +403,9 @@ fn rarer_of(word: &[u8]) -> usize {
     if same(word, b"--save") {
         return SAVE;
     }
+    if same(word, b"--wear") {
+        return WEAR;
+    }
     if same(word, b"--ident") {
         return IDENT;
     }
@@ -529,6 +546,7 @@ fn fits(kind: usize, command: u8) -> bool {
         PIN => command != POWER,
         IMAGE => command != POWER,
         SAVE => command != POWER,
+        WEAR => command != POWER,
         EVENTS => command != POWER,
         SCL => command == CAPTURE,
         SDA => command == CAPTURE,
@@ -574,13 +592,13 @@ fn ended(read: Read) -> Read {
     read
 }
 
-// There are thirteen options of a write, nine of a read: more words than that repeat one.
+// There are fourteen options of a write, ten of a read: more words than that repeat one.
 fn take_options(read: Read) -> Read {
-    let nine = take_option(take_some(take_some(read)));
-    if nine.command == WRITE {
-        return ended(take_some(nine));
+    let ten = take_option(take_option(take_some(take_some(read))));
+    if ten.command == WRITE {
+        return ended(take_some(ten));
     }
-    ended(nine)
+    ended(ten)
 }
 
 // No bit, no byte and no event is named.
@@ -634,6 +652,7 @@ fn job_of(read: Read) -> Job {
         events: said[EVENTS] == 1,
         image: said[IMAGE],
         save: said[SAVE],
+        wear: said[WEAR] == 1,
         bytes: said[BYTES],
         drawn: said[DRAWN],
         cuts: said[CUT] != NO_EVENT,
@@ -692,6 +711,14 @@ fn lent(job: Job) -> Job {
     job
 }
 
+// Counts are kept in a file alone.
+fn kept(job: Job) -> Job {
+    if job.wear & (job.save == 0) {
+        return mistaken(job, b"sapwoodle: --wear goes with --save\n");
+    }
+    job
+}
+
 // A word that is always there is missing.
 fn missing(command: u8, end: usize) -> Job {
     job_of(bad(start(command, end, end), MISSING))
@@ -704,7 +731,7 @@ pub fn asked(reads: bool, next: usize, end: usize) -> Job {
     if end <= last {
         return missing(command, end);
     }
-    lent(once(job_of(take_all(start(command, next, end)))))
+    kept(lent(once(job_of(take_all(start(command, next, end))))))
 }
 
 // `PART ADDRESS LENGTH`, and options: judged as a write of so many bytes.
@@ -827,7 +854,7 @@ pub fn capture_asked(next: usize, end: usize) -> Job {
         return missing(CAPTURE, end);
     }
     let two = take(take(start(CAPTURE, next, end), PART), ENABLE);
-    once_of_all(paired(job_of(take_options(take_files(two)))))
+    kept(once_of_all(paired(job_of(take_options(take_files(two))))))
 }
 
 // The enable of `PART [--enable N]`, behind the part.

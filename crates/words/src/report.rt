@@ -121,6 +121,7 @@ fn reason(g: Ground, r: Refusal) -> bool {
         Refusal::Misplaced(_) => true,
         Refusal::NoEnd(_) => true,
         Refusal::BadSample(_) => true,
+        Refusal::CountsLost => true,
     }
 }
 

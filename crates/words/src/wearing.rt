@@ -17,15 +17,19 @@ pub enum Role {
     CountsFile,
     List,
     ListFile,
+    Image,
+    ImageFile,
     Save,
     SaveFile,
     All,
     Wrong,
 }
 
-// What is asked for; `ok` false: a word was wrong, and that was said. `save` is the word that names the file, or 0 for none.
+// What is asked for; `ok` false: a word was wrong, and that was said. `image` and `save` are the words that name the
+// files, or 0 for none.
 pub struct Wear {
     pub ok: bool,
+    pub image: usize,
     pub save: usize,
     pub all: bool,
 }
@@ -34,6 +38,7 @@ pub struct Wear {
 struct Taken {
     ok: bool,
     role: Role,
+    image: usize,
     save: usize,
     all: bool,
     sources: usize,
@@ -46,6 +51,9 @@ fn option(i: usize) -> Role {
     }
     if is(i, b"--list") {
         return Role::List;
+    }
+    if is(i, b"--image") {
+        return Role::Image;
     }
     if is(i, b"--save") {
         return Role::Save;
@@ -68,6 +76,7 @@ pub fn role_of(before: Role, i: usize) -> Role {
     match before {
         Role::Counts => Role::CountsFile,
         Role::List => Role::ListFile,
+        Role::Image => Role::ImageFile,
         Role::Save => Role::SaveFile,
         _ => option_or_trace(i),
     }
@@ -92,9 +101,9 @@ fn source(l: Taken, i: usize) -> Taken {
     Taken { sources, ..l }
 }
 
-// One file is saved.
-fn saves(l: Taken, i: usize) -> Taken {
-    if l.save == 0 {
+// One file is saved, and the counts of one image are gone on from.
+fn once(l: Taken, named: usize, i: usize) -> Taken {
+    if named == 0 {
         return l;
     }
     wrong(l, i)
@@ -105,7 +114,9 @@ fn seen(l: Taken, role: Role, i: usize) -> Taken {
         Role::Trace => source(l, i),
         Role::CountsFile => source(l, i),
         Role::ListFile => source(l, i),
-        Role::Save => saves(l, i),
+        Role::Image => once(l, l.image, i),
+        Role::ImageFile => source(Taken { image: i, ..l }, i),
+        Role::Save => once(l, l.save, i),
         Role::SaveFile => Taken { save: i, ..l },
         Role::All => Taken { all: true, ..l },
         Role::Wrong => wrong(l, i),
@@ -127,6 +138,7 @@ fn look(next_word: usize, end: usize) -> Taken {
     let mut l = Taken {
         ok: true,
         role: Role::All,
+        image: 0,
         save: 0,
         all: false,
         sources: 0,
@@ -147,6 +159,7 @@ fn wants_file(last: Role) -> bool {
     match last {
         Role::Counts => true,
         Role::List => true,
+        Role::Image => true,
         Role::Save => true,
         _ => false,
     }
@@ -167,7 +180,7 @@ fn whole(l: Taken, end: usize) -> bool {
         return lacks(end, SOURCES);
     }
     if 1 < l.inputs {
-        tell(b"sapwoodle: only one of TRACE, --list and --counts can be standard input\n");
+        tell(b"sapwoodle: only one of TRACE, --list, --counts and --image can be standard input\n");
         return false;
     }
     true
@@ -179,6 +192,7 @@ pub fn asked(next: usize, end: usize) -> Wear {
     let ok = l.ok && whole(l, end);
     Wear {
         ok,
+        image: l.image,
         save: l.save,
         all: l.all,
     }

@@ -13,11 +13,11 @@ abbrev μ-loop : tie.MeasureT-loop
 loop-holds : tie.Need-loop-holds Inv-loop μ-loop
 loop-holds c = search needs
 
-shared-slice-read-mix : tie.Need-shared-slice-read-mix Inv-loop μ-loop
-shared-slice-read-mix c = search needs
+shared-slice-read-mix-byte : tie.Need-shared-slice-read-mix-byte Inv-loop μ-loop
+shared-slice-read-mix-byte c = search needs
 
-mix-requires : tie.Need-mix-requires Inv-loop μ-loop
-mix-requires c κs = search needs
+mix-byte-requires : tie.Need-mix-byte-requires Inv-loop μ-loop
+mix-byte-requires c κs = search needs
 
 add-i : tie.Need-add-i Inv-loop μ-loop
 add-i c = search needs
@@ -38,8 +38,8 @@ mixed-spec =
     Inv-loop
     μ-loop
     loop-holds
-    shared-slice-read-mix
-    mix-requires
+    shared-slice-read-mix-byte
+    mix-byte-requires
     add-i
     loop-less
     loop-again

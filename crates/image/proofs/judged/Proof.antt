@@ -15,6 +15,9 @@ lent-verdict-requires c κs = search needs
 enable-right-requires : tie.Need-enable-right-requires
 enable-right-requires c κs = search needs
 
+image-length-requires : tie.Need-image-length-requires
+image-length-requires c κs = search needs
+
 formed-requires : tie.Need-formed-requires
 formed-requires c κs = search needs
 
@@ -32,7 +35,7 @@ sooner-requires-2 c κs = search needs
 
 returns : tie.Need-returns
 unfolding judgedOf
-returns c = rw (c .sooner2 .ensures, c .before .sooner .ensures, c .before .before .claim2 .ensures, c .before .before .before .claim .ensures, c .before .before .before .before .formed .ensures, c .before .before .before .before .before .enable-right .ensures, c .before .before .before .before .before .before .lent-verdict .ensures, c .before .before .before .before .before .before .before .facts-of .ensures .0, c .before .before .before .before .before .before .before .before .part-in .ensures)
+returns c = rw (c .sooner2 .ensures, c .before .sooner .ensures, c .before .before .claim2 .ensures, c .before .before .before .claim .ensures, c .before .before .before .before .formed .ensures, c .before .before .before .before .before .image-length .ensures, c .before .before .before .before .before .before .enable-right .ensures, c .before .before .before .before .before .before .before .lent-verdict .ensures, c .before .before .before .before .before .before .before .before .facts-of .ensures .0, c .before .before .before .before .before .before .before .before .before .part-in .ensures)
 
 pub judged-spec : {M : Type 1} → statement M
 judged-spec =
@@ -42,6 +45,7 @@ judged-spec =
     facts-of-requires
     lent-verdict-requires
     enable-right-requires
+    image-length-requires
     formed-requires
     claim-requires
     claim-requires-2

@@ -62,6 +62,9 @@ enum-known-r-9 c = search needs
 enum-known-r-10 : tie.Need-enum-known-r-10
 enum-known-r-10 c = search needs
 
+enum-told-11 : tie.Need-enum-told-11
+enum-told-11 c = search needs
+
 returns : tie.Need-returns
 returns c = simp (c .enum-told .given .1)
 
@@ -122,6 +125,9 @@ returns-19 c = simp (c .before .r9 .given .1)
 returns-20 : tie.Need-returns-20
 returns-20 c = simp (c .before .r10 .given .1)
 
+returns-21 : tie.Need-returns-21
+returns-21 c = simp (c .enum-told11 .given .1)
+
 pub entry-of-spec : {M : Type 1} → statement M
 entry-of-spec =
     tie.close
@@ -146,6 +152,7 @@ entry-of-spec =
     enum-known-r-8
     enum-known-r-9
     enum-known-r-10
+    enum-told-11
     returns
     returns-2
     returns-3
@@ -165,4 +172,5 @@ entry-of-spec =
     returns-17
     returns-18
     returns-19
-    returns-20)
+    returns-20
+    returns-21)

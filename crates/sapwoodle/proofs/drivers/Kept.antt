@@ -14,7 +14,7 @@ use Rattle.parts.specs.declared.Verdict.{Verdict}
 use Rattle.parts.specs.declared.Verdict.the-variants.{Fine, Refused as Judged}
 use Rattle.parts.specs.Table.{factsOf, enableRightOf}
 use Rattle.parts.specs.Refusals.{numberOf, verdictNumberOf, isFine, soonerOf}
-use Rattle.parts.specs.Bytes.{AllBelow}
+use Rattle.parts.specs.Bytes.{AllBelow, wordEnd}
 use Rattle.parts.proofs.Laws.{branch, fine}
 use Rattle.parts.proofs.Tests.{either}
 use Rattle.pack_driver.proofs.Laws.{holds-length}
@@ -27,7 +27,7 @@ use Rattle.driver.specs.Split.{pagesMetOf}
 use Rattle.driver.specs.Request.{beyondAt, limitOf, judgeOf, allowedOf, kOf}
 use Rattle.driver.proofs.Facts.{good-request, reach}
 use Rattle.driver.specs.Step.{fresh, readyOf, countsRight, rangeOf, driverNextOf, bufferOf, driverStepOf}
-use Rattle.pack_driver.specs.Layout.{driverLength, wordEnd, packsDriverOf, packDriverInto, holdsDriverOf, unpackedDriverOf, smallOf, numbersOf}
+use Rattle.pack_driver.specs.Layout.{driverLength, packsDriverOf, packDriverInto, holdsDriverOf, unpackedDriverOf, smallOf, numbersOf}
 use Rattle.pack_driver.specs.Promises.{DriverFits}
 use Rattle.pack_driver.proofs.Kept.{small-all, packs-small, driver-packs-back, driver-unpacks-back}
 use Rattle.pack_driver.proofs.Range.{driver-refuses-others, stays-small}

@@ -2,37 +2,29 @@
 -- Assumes nothing.
 use Prim.Native.Nat.{ℕ, _<_}
 use mathlib.Core.Path.{_≡_, refl}
-use mathlib.Core.Bool.{Bool, true}
 use mathlib.Core.List.{List}
 use native.Mathlib.Omega.{arith}
 use lib.ListN.{length}
-use lib.Dec.{eqb}
-use borrow.Author.Tests.{eq-eqb, eqb-true, lt-ltb, ltb-true}
+use borrow.Author.Tests.{eq-eqb, lt-ltb}
 use Rattle.parts.specs.declared.Refusal.the-variants.{BadImage}
 use Rattle.parts.specs.declared.Verdict.{Verdict}
 use Rattle.parts.specs.declared.Verdict.the-variants.{Fine, Refused}
 use Rattle.parts.specs.Table.{factsOf}
-use Rattle.parts.specs.Refusals.{verdictNumberOf}
 use Rattle.parts.proofs.Laws.{branch, fine}
 use Rattle.chip.specs.Memory.{Mem}
 use Rattle.chip.specs.Delivery.{standbyOf}
 use Rattle.pack_chip.specs.Layout.{chipLength, packChipInto, unpackedChipOf}
 use Rattle.pack_chip.proofs.Kept.{chip-packs-back}
 use Rattle.sapwoodle.proofs.answers.Laws.{unheld-refused, standby-fits}
-use Rattle.image.specs.Layout.{partIn, lockIn}
-use Rattle.image.specs.Calls.{saveVerdictOf, saveBy, saveOut, loadVerdictOf}
+use Rattle.image.specs.Layout.{imageLengthOf, partIn, lockIn}
+use Rattle.image.specs.Calls.{saveVerdictOf, loadVerdictOf}
 use Rattle.sapwoodle.specs.Images.{looksOf, loadVerdictIn, savingBytes, loadingBytes}
 use Rattle.sapwoodle.specs.Promises.{SaveKeeps, LoadKeeps, SaveIsImages, LoadHolds}
-use Rattle.sapwoodle.proofs.images.Laws.{loads-nothing}
-
-save-keeps-by : (part : ℕ) (s : List ℕ) (m : Mem) (out : List ℕ) (v : Verdict) → (verdictNumberOf (saveBy (factsOf part) v .verdict) ≡ 0 → ⊥)
-    → (saveBy (factsOf part) v .length ≡ 0) × (saveOut part (unpackedChipOf s) m out v ≡ out)
-save-keeps-by part s m out Fine h = absurd (h refl)
-save-keeps-by part s m out (Refused r) h = (refl, refl)
+use Rattle.sapwoodle.proofs.images.Laws.{writes-nothing, loads-nothing, looked}
 
 pub save-keeps : SaveKeeps savingBytes
 save-keeps part s m out h =
-    save-keeps-by part s m out (saveVerdictOf part (unpackedChipOf s) (length (m .cells)) (length (m .ident)) (length out)) h
+    writes-nothing (imageLengthOf (factsOf part)) _ out (saveVerdictOf part (unpackedChipOf s) (length (m .cells)) (length (m .ident)) (length out)) h
 
 pub save-is-images : SaveIsImages savingBytes
 save-is-images part c m out f = rw (chip-packs-back c f .2) refl
@@ -49,18 +41,11 @@ short-refused l enable n d k h =
     let z : _≡_ {A = ℕ} 0 1 = cc in
     omega arith
 
-looked : (l s : List ℕ) (enable n d : ℕ) → looksOf (length s) (length l) ≡ true → loadVerdictOf l enable n d ≡ Fine → length s ≡ chipLength
-unfolding looksOf
-looked l s enable n d =
-    branch (λ (b : Bool). b ≡ true → loadVerdictOf l enable n d ≡ Fine → length s ≡ chipLength) (eqb (length s) chipLength)
-    (λ e _ _. eqb-true (length s) chipLength e)
-    (λ _ k h. absurd (short-refused l enable n d (ltb-true (length l) 6 k) h))
-
 load-long : (l : List ℕ) (enable : ℕ) (s : List ℕ) (m : Mem) → loadVerdictIn l enable s m ≡ Fine → length s ≡ chipLength
 unfolding loadVerdictIn
 load-long l enable s m =
     branch (λ (v : Verdict). v ≡ Fine → length s ≡ chipLength) (looksOf (length s) (length l))
-    (λ k h. looked l s enable (length (m .cells)) (length (m .ident)) k h)
+    (looked l s (loadVerdictOf l enable (length (m .cells)) (length (m .ident))) (short-refused l enable (length (m .cells)) (length (m .ident))))
     (λ _ h. absurd (unheld-refused (partIn l) enable m h))
 
 pub load-holds : LoadHolds loadingBytes

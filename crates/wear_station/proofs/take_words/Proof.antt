@@ -11,9 +11,6 @@ Inv-loop next end counts₀ w₀ i₀ counts w i = length counts ≡ length coun
 abbrev μ-loop : tie.MeasureT-loop
 μ-loop next end counts₀ w₀ i₀ counts w i = end - i
 
-nothing-yet-requires : tie.Need-nothing-yet-requires Inv-loop μ-loop
-nothing-yet-requires c κs = search needs
-
 loop-holds : tie.Need-loop-holds Inv-loop μ-loop
 loop-holds c = search needs
 
@@ -47,7 +44,6 @@ take-words-spec =
     (tie.spec
     Inv-loop
     μ-loop
-    nothing-yet-requires
     loop-holds
     word-requires
     same-length

@@ -7,10 +7,10 @@ use Rattle.station.proofs.cutting.replay.Statement.{statement}
 use Rattle.station.proofs.cutting.replay.Tie as tie
 
 abbrev Inv-loop : tie.InvT-loop
-Inv-loop part enable events held₀ array₀ id₀ data₀ h₀ i₀ held array id «data» h i = (i ≤ length events) × (length held ≡ length held₀) × (length array ≡ length array₀) × (length id ≡ length id₀) × (length «data» ≡ length data₀)
+Inv-loop part enable events held₀ array₀ id₀ counts₀ data₀ h₀ i₀ held array id counts «data» h i = (i ≤ length events) × (length held ≡ length held₀) × (length array ≡ length array₀) × (length id ≡ length id₀) × (length counts ≡ length counts₀) × (length «data» ≡ length data₀)
 
 abbrev μ-loop : tie.MeasureT-loop
-μ-loop part enable events held₀ array₀ id₀ data₀ h₀ i₀ held array id «data» h i = length events - i
+μ-loop part enable events held₀ array₀ id₀ counts₀ data₀ h₀ i₀ held array id counts «data» h i = length events - i
 
 loop-holds : tie.Need-loop-holds Inv-loop μ-loop
 loop-holds c = search needs
@@ -22,7 +22,7 @@ step-requires : tie.Need-step-requires Inv-loop μ-loop
 step-requires c κs = search needs
 
 add-i : tie.Need-add-i Inv-loop μ-loop
-add-i c = omega (arith, c .before .before .before .before .before .before .before .before .before .before .before .before .before .before .loop-test .taken, c .before .before .before .before .before .before .before .before .before .before .before .before .before .before .before .before .before .before .before .before .before .good)
+add-i c = omega (arith, c .before .before .before .before .before .before .before .before .before .before .before .before .before .before .before .before .before .loop-test .taken, c .before .before .before .before .before .before .before .before .before .before .before .before .before .before .before .before .before .before .before .before .before .before .before .before .before .good)
 
 loop-less : tie.Need-loop-less Inv-loop μ-loop
 loop-less c = search needs
@@ -41,6 +41,9 @@ same-length-3 c = search needs
 
 same-length-4 : tie.Need-same-length-4 Inv-loop μ-loop
 same-length-4 c = search needs
+
+same-length-5 : tie.Need-same-length-5 Inv-loop μ-loop
+same-length-5 c = search needs
 
 returns : tie.Need-returns Inv-loop μ-loop
 returns c = search needs
@@ -61,4 +64,5 @@ replay-spec =
     same-length-2
     same-length-3
     same-length-4
+    same-length-5
     returns)

@@ -1,0 +1,55 @@
+use mathlib.Core.Path.{_≡_}
+use Prim.Native.Nat.{_≤_, _-_}
+use lib.ListN.{length}
+use borrow.Author.Needs.{needs}
+use Rattle.capture_station.proofs.boards.put_counts.Statement.{statement}
+use Rattle.capture_station.proofs.boards.put_counts.Tie as tie
+
+abbrev Inv-loop : tie.InvT-loop
+Inv-loop boards₀ counts to₀ i₀ boards to i = (i ≤ length counts) × (length boards ≡ length boards₀)
+
+abbrev μ-loop : tie.MeasureT-loop
+μ-loop boards₀ counts to₀ i₀ boards to i = length counts - i
+
+loop-holds : tie.Need-loop-holds Inv-loop μ-loop
+loop-holds c = search needs
+
+mul-put-count : tie.Need-mul-put-count Inv-loop μ-loop
+mul-put-count c = search needs
+
+shared-slice-read-put-count : tie.Need-shared-slice-read-put-count Inv-loop μ-loop
+shared-slice-read-put-count c = search needs
+
+put-count-requires : tie.Need-put-count-requires Inv-loop μ-loop
+put-count-requires c κs = search needs
+
+add-i : tie.Need-add-i Inv-loop μ-loop
+add-i c = search needs
+
+loop-less : tie.Need-loop-less Inv-loop μ-loop
+loop-less c = search needs
+
+loop-again : tie.Need-loop-again Inv-loop μ-loop
+loop-again c = search needs
+
+same-length : tie.Need-same-length Inv-loop μ-loop
+same-length c = search needs
+
+returns : tie.Need-returns Inv-loop μ-loop
+returns c = search needs
+
+pub put-counts-spec : {M : Type 1} → statement M
+put-counts-spec =
+    tie.close
+    (tie.spec
+    Inv-loop
+    μ-loop
+    loop-holds
+    mul-put-count
+    shared-slice-read-put-count
+    put-count-requires
+    add-i
+    loop-less
+    loop-again
+    same-length
+    returns)
