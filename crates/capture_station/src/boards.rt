@@ -51,35 +51,8 @@ pub fn put(boards: &mut [u8], board: usize, held: &[u8], array: &[u8], id: &[u8]
     files::extend(boards, at(board, PAGE), id);
 }
 
-fn count_in(boards: &[u8], from: usize) -> u32 {
-    let a = parts::byte_at(boards, from);
-    let b = parts::byte_at(boards, at(from, 1));
-    let c = parts::byte_at(boards, at(from, 2));
-    let d = parts::byte_at(boards, at(from, 3));
-    parts::joined(a, b, c, d) as u32
-}
-
-fn take_counts(boards: &[u8], counts: &mut [u32]) {
-    let mut from = COUNTS;
-    let mut i = 0;
-    while i < counts.len() {
-        counts[i] = count_in(boards, from);
-        from = at(from, 4);
-        i += 1;
-    }
-}
-
-fn put_count(boards: &mut [u8], to: usize, n: u32) -> usize {
-    files::extend(boards, to, &parts::word(n as usize))
-}
-
 pub fn put_counts(boards: &mut [u8], counts: &[u32]) {
-    let mut to = COUNTS;
-    let mut i = 0;
-    while i < counts.len() {
-        to = put_count(boards, to, counts[i]);
-        i += 1;
-    }
+    files::counts::put(boards, COUNTS, counts);
 }
 
 // ---- a piece of a capture
@@ -185,7 +158,7 @@ fn count(job: Job, boards: &mut [u8], bus: bool, samples: &[u8]) {
     let mut id = [0u8; 64];
     let mut counts = [0u32; 8192];
     take(boards, OWN, &mut held, &mut array, &mut id);
-    take_counts(boards, &mut counts);
+    files::counts::take(boards, COUNTS, &mut counts);
     count_all(
         job,
         &mut held,
@@ -213,7 +186,7 @@ pub fn save(job: Job, boards: &[u8]) -> bool {
     let mut id = [0u8; 64];
     let mut counts = [0u32; 8192];
     take(boards, OWN, &mut held, &mut array, &mut id);
-    take_counts(boards, &mut counts);
+    files::counts::take(boards, COUNTS, &mut counts);
     save_held(
         job,
         &mut held,

@@ -1,5 +1,6 @@
 // Stored chips: an image or an Intel HEX file that is read, and an image written into a file that is there whole or not at all. A chip is
 // held as its bytes.
+pub mod counts;
 pub mod shape;
 pub mod tell;
 mod why;
@@ -8,7 +9,6 @@ ghost use mathlib.Core.Path.{_≡_};
 ghost use lib.ListN.{length};
 use hexfile::HexRead;
 use image::Saved;
-use libc::STDERR_FILENO;
 use libc::STDIN_FILENO;
 use parts::Loss;
 use parts::Refusal;
@@ -41,7 +41,7 @@ pub fn room() -> [u8; 1048577]
 }
 
 fn warn(what: &[u8]) {
-    io::write_all(STDERR_FILENO, what);
+    tell::say(what);
 }
 
 // What is wrong with a file that is read.

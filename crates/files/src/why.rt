@@ -1,5 +1,6 @@
 // Why a HEX file was refused: one line for people on standard error, with the file and the number of the line, which is read again here.
-use libc::STDERR_FILENO;
+use crate::tell::number;
+use crate::tell::say;
 use parts::Refusal;
 use parts::Verdict;
 
@@ -12,14 +13,6 @@ struct Lap {
 struct Span {
     from: usize,
     end: usize,
-}
-
-fn say(text: &[u8]) {
-    io::write_all(STDERR_FILENO, text);
-}
-
-fn number(n: usize) {
-    io::print_decimal(STDERR_FILENO, n as u64);
 }
 
 fn byte(x: u8) {

@@ -12,10 +12,6 @@ const HEAD: usize = 6;
 
 const PART: usize = 5;
 
-fn at(i: usize, n: usize) -> usize {
-    std::num::wrapping_add_usize(i, n)
-}
-
 // The bytes of a file with so many counts. The limit is for the proof alone: no part has so many groups.
 pub fn size_of(groups: usize) -> usize {
     if groups < 65536 {
@@ -30,23 +26,9 @@ pub fn part_in(bytes: &[u8]) -> u8 {
 
 // ---- reading
 
-fn count_in(bytes: &[u8], i: usize) -> u32 {
-    let a = parts::byte_at(bytes, i);
-    let b = parts::byte_at(bytes, at(i, 1));
-    let c = parts::byte_at(bytes, at(i, 2));
-    let d = parts::byte_at(bytes, at(i, 3));
-    parts::joined(a, b, c, d) as u32
-}
-
 // As many counts as there is room for.
 pub fn load(bytes: &[u8], counts: &mut [u32]) {
-    let mut from = HEAD;
-    let mut i = 0;
-    while i < counts.len() {
-        counts[i] = count_in(bytes, from);
-        from = at(from, 4);
-        i += 1;
-    }
+    files::counts::take(bytes, HEAD, counts);
 }
 
 // ---- what is no file of counts
@@ -129,25 +111,10 @@ pub fn right(input: bool, name: &[u8], bytes: &[u8]) -> bool {
 
 // ---- writing
 
-fn put_count(out: &mut [u8], i: usize, n: u32) {
-    let bytes = parts::word(n as usize);
-    parts::copy(out, i, &bytes);
-}
-
-fn put_all(counts: &[u32], out: &mut [u8]) {
-    let mut to = HEAD;
-    let mut i = 0;
-    while i < counts.len() {
-        put_count(out, to, counts[i]);
-        to = at(to, 4);
-        i += 1;
-    }
-}
-
 fn save_in(word: usize, part: u8, counts: &[u32], out: &mut [u8]) -> bool {
     let head = [b'E', b'P', b'C', 0, 1, part];
     parts::copy(out, 0, &head);
-    put_all(counts, out);
+    files::counts::put(out, HEAD, counts);
     let n = size_of(counts.len());
     if n <= out.len() {
         return files::store(b"--save", word, &out[0..n]);

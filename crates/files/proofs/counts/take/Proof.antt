@@ -2,14 +2,14 @@ use mathlib.Core.Path.{_≡_}
 use Prim.Native.Nat.{_-_}
 use lib.ListN.{length}
 use borrow.Author.Needs.{needs}
-use Rattle.capture_station.proofs.boards.take_counts.Statement.{statement}
-use Rattle.capture_station.proofs.boards.take_counts.Tie as tie
+use Rattle.files.proofs.counts.take.Statement.{statement}
+use Rattle.files.proofs.counts.take.Tie as tie
 
 abbrev Inv-loop : tie.InvT-loop
-Inv-loop boards counts₀ from₀ i₀ counts from i = length counts ≡ length counts₀
+Inv-loop bytes first counts₀ from₀ i₀ counts from i = length counts ≡ length counts₀
 
 abbrev μ-loop : tie.MeasureT-loop
-μ-loop boards counts₀ from₀ i₀ counts from i = length counts₀ - i
+μ-loop bytes first counts₀ from₀ i₀ counts from i = length counts₀ - i
 
 loop-holds : tie.Need-loop-holds Inv-loop μ-loop
 loop-holds c = search needs
@@ -41,8 +41,8 @@ same-length c = search needs
 returns : tie.Need-returns Inv-loop μ-loop
 returns c = search needs
 
-pub take-counts-spec : {M : Type 1} → statement M
-take-counts-spec =
+pub take-spec : {M : Type 1} → statement M
+take-spec =
     tie.close
     (tie.spec
     Inv-loop

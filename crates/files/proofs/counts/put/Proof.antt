@@ -1,15 +1,15 @@
 use mathlib.Core.Path.{_≡_}
-use Prim.Native.Nat.{_≤_, _-_}
+use Prim.Native.Nat.{_-_}
 use lib.ListN.{length}
 use borrow.Author.Needs.{needs}
-use Rattle.capture_station.proofs.boards.put_counts.Statement.{statement}
-use Rattle.capture_station.proofs.boards.put_counts.Tie as tie
+use Rattle.files.proofs.counts.put.Statement.{statement}
+use Rattle.files.proofs.counts.put.Tie as tie
 
 abbrev Inv-loop : tie.InvT-loop
-Inv-loop boards₀ counts to₀ i₀ boards to i = (i ≤ length counts) × (length boards ≡ length boards₀)
+Inv-loop out₀ first counts to₀ i₀ out to i = length out ≡ length out₀
 
 abbrev μ-loop : tie.MeasureT-loop
-μ-loop boards₀ counts to₀ i₀ boards to i = length counts - i
+μ-loop out₀ first counts to₀ i₀ out to i = length counts - i
 
 loop-holds : tie.Need-loop-holds Inv-loop μ-loop
 loop-holds c = search needs
@@ -22,6 +22,9 @@ shared-slice-read-put-count c = search needs
 
 put-count-requires : tie.Need-put-count-requires Inv-loop μ-loop
 put-count-requires c κs = search needs
+
+at-requires : tie.Need-at-requires Inv-loop μ-loop
+at-requires c κs = search needs
 
 add-i : tie.Need-add-i Inv-loop μ-loop
 add-i c = search needs
@@ -38,8 +41,8 @@ same-length c = search needs
 returns : tie.Need-returns Inv-loop μ-loop
 returns c = search needs
 
-pub put-counts-spec : {M : Type 1} → statement M
-put-counts-spec =
+pub put-spec : {M : Type 1} → statement M
+put-spec =
     tie.close
     (tie.spec
     Inv-loop
@@ -48,6 +51,7 @@ put-counts-spec =
     mul-put-count
     shared-slice-read-put-count
     put-count-requires
+    at-requires
     add-i
     loop-less
     loop-again
