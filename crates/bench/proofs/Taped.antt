@@ -22,6 +22,7 @@ use Rattle.bench.specs.Tape.{sendsOf, sentCodeOf, tapeBy, turnEvents, tu
 use Rattle.bench.specs.Held.{whole, goingOf}
 use Rattle.bench.proofs.Laws.{still}
 use Rattle.chip.specs.Model.{ours}
+use Rattle.wear.specs.declared.Most.{Most}
 use Rattle.wear.specs.Wear.{ourCounter, wornBy}
 
 -- ---- a list stored from a place on
@@ -189,9 +190,9 @@ pub laid-none : (l : List ℕ) → l ≡ laidOf l []
 unfolding laidOf
 laid-none l = ap (λ (k : List ℕ). k ++ l) (sym (take-nil (length l)))
 
-module _ (f : Facts) (en d k : ℕ) (r : Request) (c : Chip) (m : Mem) (b : List ℕ) (g : Begun) (hg : g ≡ beginOf r) where
+module _ (f : Facts) (en d k : ℕ) (r : Request) (c : Chip) (m : Mem) (b : List ℕ) (g : Begun) (o : Most) (hg : g ≡ beginOf r) where
   abbrev begun : System
-  begun = whole record { driver = g .driver; level = 1; chip = c; cycles = 0; clocks = 0 } b m
+  begun = whole record { driver = g .driver; level = 1; chip = c; cycles = 0; clocks = 0; worst = o } b m
 
   pub taped : (n : ℕ) (l l′ v v′ q q′ : List ℕ) → n ≡ length (tapeEventsOf ourDriver (ours f en) d k begun) → l′ ≡ laidOf l (tapeEventsOf ourDriver (ours f en) d k begun) → v′ ≡ laidOf v (tapeLevelsOf ourDriver (ours f en) d k begun) → q′ ≡ wornBy ourCounter (ours f en) f c q (tapeEventsOf ourDriver (ours f en) d k begun)
       → (n ≡ length (tapeEventsOf ourDriver (ours f en) d k (startOf r b c m))) × ((l′ ≡ laidOf l (tapeEventsOf ourDriver (ours f en) d k (startOf r b c m))) × ((v′ ≡ laidOf v (tapeLevelsOf ourDriver (ours f en) d k (startOf r b c m))) × (q′ ≡ wornBy ourCounter (ours f en) f c q (tapeEventsOf ourDriver (ours f en) d k (startOf r b c m)))))

@@ -11,10 +11,14 @@ use Rattle.parts.specs.Events.{eventWith}
 use Rattle.parts.proofs.Tests.{neither}
 use Rattle.state.specs.declared.Chip.{Chip}
 use Rattle.chip.specs.Model.{Model, ours}
-use Rattle.chip.specs.Runs.{afterOf}
+use Rattle.chip.specs.Runs.{afterOf, closesOf}
 use Rattle.chip.proofs.Turns.{low-open}
+use Rattle.wear.specs.declared.Most.{Most}
 use Rattle.wear.specs.Wear.{closedOf, wornOf, ourCounter, wornBy}
-use Rattle.wear.proofs.Stretches.{worn-join, worn-open}
+use Rattle.wear.specs.Report.{mostOf}
+use Rattle.wear.specs.Worst.{worseOf, raisedOf}
+use Rattle.wear.proofs.Grown.{worst-kept}
+use Rattle.wear.proofs.Stretches.{worn-join, worn-open, worn-close, grew-counter}
 use Rattle.driver.specs.declared.Driver.{Driver}
 use Rattle.driver.specs.declared.Answer.{Answer}
 use Rattle.driver.specs.declared.Answer.the-variants.{Send, Done, Refused}
@@ -25,6 +29,12 @@ use Rattle.bench.specs.Tape.{sendsOf, sentCodeOf, tapeBy, turnEvents, ta
 use Rattle.bench.specs.Held.{goingOf}
 use Rattle.bench.proofs.Laws.{Small, small, still}
 use Rattle.bench.proofs.Taped.{rest-events}
+
+-- ---- the worst, where an end raised counts
+
+pub end-worst : (f : Facts) (c : Chip) (k k′ : List ℕ) (h r w : Most) → h ≡ mostOf k → k′ ≡ closedOf f c k → r ≡ raisedOf k k′ → w ≡ worseOf h r → w ≡ mostOf k′
+unfolding closesOf
+end-worst f c k k′ h r w hh hk hr hw = hw ∙ rw (hh, hr) (worst-kept k k′ (grew-counter f c k 4 k′ (hk ∙ sym (worn-close f c k 4 refl))))
 
 -- ---- one turn
 

@@ -11,6 +11,7 @@ use Rattle.state.specs.Range.{inRangeOf}
 use Rattle.chip.specs.Memory.{Mem}
 use Rattle.chip.specs.Model.{Model}
 use Rattle.chip_laws.specs.Range.{Typed}
+use Rattle.wear.specs.declared.Most.{Most}
 use Rattle.driver.specs.declared.Driver.{Driver}
 use Rattle.driver.specs.declared.Answer.{Answer}
 use Rattle.driver.specs.declared.Answer.the-variants.{Send, Done, Refused}
@@ -33,12 +34,13 @@ chipTakesOf M h m d e =
       chip = M .next (h .chip) e;
       cycles = h .cycles + M .begun (h .chip) e;
       clocks = h .clocks + clockOf e;
+      worst = h .worst;
     }
 
--- the chip's cycle ends
-abbrev pub atEndOf : Model → Held → Held
-atEndOf M h =
-    record { driver = h .driver; level = h .level; chip = M .next (h .chip) ends; cycles = h .cycles; clocks = h .clocks }
+-- the chip's cycle ends, and leaves counts with this worst
+abbrev pub atEndOf : Model → Held → Most → Held
+atEndOf M h w =
+    record { driver = h .driver; level = h .level; chip = M .next (h .chip) ends; cycles = h .cycles; clocks = h .clocks; worst = w }
 
 -- false: a turn changes nothing any more
 unfoldable pub goingOf : ℕ → System → Bool

@@ -7,12 +7,16 @@ ghost use lib.Seq.{sets};
 ghost use lib.Dec.{eqb, ltb};
 ghost use Rattle.parts.specs.Table.{factsOf};
 ghost use Rattle.parts.specs.Events.{eventOf};
+ghost use Rattle.parts.specs.Refusals.{soonerOf};
 ghost use Rattle.chip.specs.Memory.{mem, storeOf};
 ghost use Rattle.chip.specs.Model.{ours};
 ghost use Rattle.driver.specs.declared.Answer.the-variants.{Done};
 ghost use Rattle.driver.specs.Step.{driverNextOf};
 ghost use Rattle.driver.specs.Machine.{ourDriver};
 ghost use Rattle.wear.specs.Wear.{closedOf, ourCounter, wornBy};
+ghost use Rattle.wear.specs.Report.{mostOf};
+ghost use Rattle.wear.specs.Worst.{worstVerdictOf};
+ghost use Rattle.wear.specs.Calls.{countsVerdictOf};
 ghost use Rattle.bench.specs.Together.{
   clockOf,
   startOf,
@@ -27,7 +31,7 @@ ghost use Rattle.bench.specs.Together.{
 };
 ghost use Rattle.bench.specs.Tape.{sendsOf, sentCodeOf, tapeBy, turnEvents, tapeEventsOf, tapeLevelsOf, laidOf};
 ghost use Rattle.bench.specs.Held.{whole, chipTakesOf, atEndOf, madeOf, Fit};
-ghost use Rattle.bench.specs.Worn.{benchWornOf};
+ghost use Rattle.bench.specs.Kept.{benchKeptOf};
 ghost use Rattle.bench.specs.Calls.{otherLengthOf, shortOf, lateOf, benchVerdictOf, reportBy, refusedBy, benchOf};
 use driver::Answer;
 use driver::Driver;
@@ -38,6 +42,7 @@ use parts::Loss;
 use parts::Refusal;
 use parts::Verdict;
 use state::Chip;
+use wear::Most;
 
 // How a run ended: Fine is done, refused with 1 to 8 before anything changed, with 9 to 11 by the driver.
 pub struct Report {
@@ -56,13 +61,20 @@ pub struct Recorded {
     pub sent: usize,
 }
 
-// Driver and chip between two askings; `level` is what the driver is told next.
+// A run that counts wear, and the worst of the counts that it left; refused before anything changed, the worst that it was given.
+pub struct Kept {
+    pub report: Report,
+    pub worst: Most,
+}
+
+// Driver and chip between two askings; `level` is what the driver is told next. `worst` is that of the lent counts.
 struct Held {
     driver: Driver,
     level: u8,
     chip: Chip,
     cycles: usize,
     clocks: usize,
+    worst: Most,
 }
 
 struct Turned {
@@ -76,6 +88,11 @@ struct Gone {
     held: Held,
     // The last.
     answer: Answer,
+    sent: usize,
+}
+
+struct Driven {
+    kept: Kept,
     sent: usize,
 }
 
@@ -113,12 +130,14 @@ fn send(
     let before = held.chip;
     let s = chip::step(part, enable, Loss::Old, b"", before, array, id, code);
     let chip = s.chip;
+    let worst = held.worst;
     Held {
         driver,
         level: s.level,
         chip,
         cycles: held.cycles + s.cycles as usize,
         clocks: held.clocks + clock(code),
+        worst,
     }
 }
 
@@ -132,18 +151,21 @@ fn end(
     id: &mut [u8],
     counts: &mut [u32],
 ) -> Held
-    requires { ⌜ Fit part enable (held .chip) (length (now array)) (length (now id)) ⌝ }
-    ensures answer { λ r. ⌜ r ≡ cond due (atEndOf (ours (factsOf part) enable) held) held ⌝ }
+    requires fit { ⌜ Fit part enable (held .chip) (length (now array)) (length (now id)) ⌝ }
+    requires worst { ⌜ held .worst ≡ mostOf (now counts) ⌝ }
+    ensures answer { λ r. ⌜ r ≡ cond due (atEndOf (ours (factsOf part) enable) held (r .worst)) held ⌝ }
     ensures stored { λ _. ⌜ mem (now (array .exit)) (now (id .exit))
         ≡ cond due (storeOf (factsOf part) (held .chip) (mem (now (array .entry)) (now (id .entry))) (eventOf 4))
         (mem (now (array .entry)) (now (id .entry))) ⌝ }
     ensures counts { λ _. ⌜ now (counts .exit) ≡ cond due (closedOf (factsOf part) (held .chip) (now (counts .entry))) (now (counts .entry)) ⌝ }
+    ensures worst { λ r. ⌜ r .worst ≡ mostOf (now (counts .exit)) ⌝ }
 {
     if !due {
         return held;
     }
     let before = held.chip;
-    wear::mark(part, before, counts);
+    let raised = wear::mark(part, before, counts);
+    let worst = wear::worst::worse(held.worst, raised);
     let s = chip::step(part, enable, Loss::Old, b"", before, array, id, ENDS);
     let chip = s.chip;
     let driver = held.driver;
@@ -153,6 +175,7 @@ fn end(
         chip,
         cycles: held.cycles,
         clocks: held.clocks,
+        worst,
     }
 }
 
@@ -171,6 +194,7 @@ fn ask(
     ensures together { λ r. ⌜ whole (r .held) (now (buffer .exit)) (mem (now (array .exit)) (now (id .exit)))
         ≡ askedOf ourDriver (ours (factsOf part) enable) (whole held (now (buffer .entry)) (mem (now (array .entry)) (now (id .entry)))) ⌝ }
     ensures found { λ r. ⌜ (r .ended ≡ ended) × (r .answer ≡ driverNextOf (held .driver) (held .level) (now (buffer .entry)) .answer) ⌝ }
+    ensures worst { λ r. ⌜ r .held .worst ≡ held .worst ⌝ }
 {
     let asked = driver::next(held.driver, held.level, buffer);
     let answer = asked.answer;
@@ -254,6 +278,7 @@ fn turn(
     requires fit { ⌜ Fit part enable (held .chip) (length (now array)) (length (now id)) ⌝ }
     requires few { ⌜ (held .cycles < 6000000) × (held .clocks < 6000000) ⌝ }
     requires first { ⌜ 0 < d ⌝ }
+    requires worst { ⌜ held .worst ≡ mostOf (now counts) ⌝ }
     ensures together { λ r. ⌜ whole (r .held) (now (buffer .exit)) (mem (now (array .exit)) (now (id .exit)))
         ≡ turnOf ourDriver (ours (factsOf part) enable) d (whole held (now (buffer .entry)) (mem (now (array .entry)) (now (id .entry)))) ⌝ }
     ensures found { λ r. ⌜ (r .ended ≡ endDueOf d (whole held (now (buffer .entry)) (mem (now (array .entry)) (now (id .entry)))))
@@ -261,6 +286,7 @@ fn turn(
     ensures counts { λ _. ⌜ now (counts .exit)
         ≡ wornBy ourCounter (ours (factsOf part) enable) (factsOf part) (held .chip) (now (counts .entry))
         (turnEvents ourDriver d (whole held (now (buffer .entry)) (mem (now (array .entry)) (now (id .entry))))) ⌝ }
+    ensures worst { λ r. ⌜ r .held .worst ≡ mostOf (now (counts .exit)) ⌝ }
 {
     let driver = held.driver;
     let phase = driver.phase;
@@ -361,6 +387,7 @@ fn go(
     requires fit { ⌜ Fit part enable (first .chip) (length (now array)) (length (now id)) ⌝ }
     requires none { ⌜ (first .cycles ≡ 0) × (first .clocks ≡ 0) ⌝ }
     requires first { ⌜ 0 < d ⌝ }
+    requires worst { ⌜ first .worst ≡ mostOf (now counts) ⌝ }
     ensures together { λ r. ⌜ whole (r .held) (now (buffer .exit)) (mem (now (array .exit)) (now (id .exit)))
         ≡ turnsOf ourDriver (ours (factsOf part) enable) d enough (whole first (now (buffer .entry)) (mem (now (array .entry)) (now (id .entry)))) ⌝ }
     ensures last { λ r. ⌜ r .answer
@@ -377,6 +404,7 @@ fn go(
     ensures counts { λ _. ⌜ now (counts .exit)
         ≡ wornBy ourCounter (ours (factsOf part) enable) (factsOf part) (first .chip) (now (counts .entry))
         (tapeEventsOf ourDriver (ours (factsOf part) enable) d enough (whole first (now (buffer .entry)) (mem (now (array .entry)) (now (id .entry))))) ⌝ }
+    ensures worst { λ r. ⌜ r .held .worst ≡ mostOf (now (counts .exit)) ⌝ }
 {
     let mut held = first;
     let mut answer = Answer::Done(0, 0);
@@ -440,12 +468,14 @@ fn drive(
     id: &mut [u8],
     bytes: &mut [u8],
     counts: &mut [u32],
+    worst: Most,
     events: &mut [u8],
     levels: &mut [u8],
-) -> Recorded
+) -> Driven
     requires fit { ⌜ Fit (request .part) enable chip (length (now array)) (length (now id)) ⌝ }
     requires first { ⌜ 0 < d ⌝ }
-    ensures answer { λ r. ⌜ r .report
+    requires worst { ⌜ worst ≡ mostOf (now counts) ⌝ }
+    ensures answer { λ r. ⌜ r .kept .report
         ≡ reportBy (turnsOf ourDriver (ours (factsOf (request .part)) enable) d enough
         (startOf request (now (bytes .entry)) chip (mem (now (array .entry)) (now (id .entry)))))
         (lastOf ourDriver (ours (factsOf (request .part)) enable) d enough (Done 0 0)
@@ -471,6 +501,7 @@ fn drive(
         ≡ wornBy ourCounter (ours (factsOf (request .part)) enable) (factsOf (request .part)) chip (now (counts .entry))
         (tapeEventsOf ourDriver (ours (factsOf (request .part)) enable) d enough
         (startOf request (now (bytes .entry)) chip (mem (now (array .entry)) (now (id .entry))))) ⌝ }
+    ensures worst { λ r. ⌜ r .kept .worst ≡ mostOf (now (counts .exit)) ⌝ }
 {
     let begun = driver::begin(request);
     let driver = begun.driver;
@@ -480,6 +511,7 @@ fn drive(
         chip,
         cycles: 0,
         clocks: 0,
+        worst,
     };
     let gone = go(
         request.part,
@@ -496,8 +528,13 @@ fn drive(
     let last = gone.held;
     let answer = gone.answer;
     let report = reported(last, answer);
-    Recorded {
+    let left = last.worst;
+    let kept = Kept {
         report,
+        worst: left,
+    };
+    Driven {
+        kept,
         sent: gone.sent,
     }
 }
@@ -558,6 +595,28 @@ fn judge(
     parts::sooner(asked, parts::sooner(held, own))
 }
 
+// With counts: they and their worst too. Here alone the counts are looked over.
+fn judge_worn(
+    request: Request,
+    enable: u8,
+    d: usize,
+    chip: Chip,
+    n: usize,
+    i: usize,
+    b: usize,
+    counts: &[u32],
+    worst: Most,
+) -> Verdict
+    ensures { λ r. ⌜ r
+        ≡ soonerOf (worstVerdictOf (now (counts .entry)) worst)
+        (soonerOf (countsVerdictOf (factsOf (request .part)) (length (now (counts .entry)))) (benchVerdictOf request enable d chip n i b)) ⌝ }
+{
+    let borne = wear::worst::verdict(counts, worst);
+    let ready = wear::counts_verdict(request.part, counts.len());
+    let judged = judge(request, enable, d, chip, n, i, b);
+    parts::sooner(borne, parts::sooner(ready, judged))
+}
+
 // ---- runs
 
 fn refused(why: Refusal, chip: Chip) -> Recorded
@@ -612,7 +671,8 @@ pub fn record(
             let bytes = &mut buffer[..n];
             let mut none = [0u32; 1];
             let counts = &mut none[..0];
-            drive(
+            let worst = Most { group: 0, count: 0 };
+            let driven = drive(
                 request,
                 enable,
                 d,
@@ -621,9 +681,16 @@ pub fn record(
                 id,
                 bytes,
                 counts,
+                worst,
                 events,
                 levels,
-            )
+            );
+            let kept = driven.kept;
+            let report = kept.report;
+            Recorded {
+                report,
+                sent: driven.sent,
+            }
         }
         Verdict::Refused(r) => refused(r, chip),
     }
@@ -660,7 +727,8 @@ pub fn run(
     recorded.report
 }
 
-// The same run, and the counts go on by the cycles that end in it. Refused too where they are not one for each group of the part.
+// The same run, and the counts go on by the cycles that end in it; their worst goes in and comes back. Refused too where the counts are not
+// one for each group of the part, or where they do not bear the worst out.
 pub fn run_worn(
     request: Request,
     enable: u8,
@@ -670,17 +738,20 @@ pub fn run_worn(
     id: &mut [u8],
     buffer: &mut [u8],
     counts: &mut [u32],
-) -> Report
-    ensures answer { λ r. ⌜ r
-        ≡ benchWornOf request enable d chip (mem (now (array .entry)) (now (id .entry))) (now (buffer .entry)) (now (counts .entry)) .left .report ⌝ }
+    worst: Most,
+) -> Kept
+    ensures answer { λ r. ⌜ r .report
+        ≡ benchKeptOf request enable d chip (mem (now (array .entry)) (now (id .entry))) (now (buffer .entry)) (now (counts .entry)) worst .worn .left .report ⌝ }
     ensures stored { λ _. ⌜ mem (now (array .exit)) (now (id .exit))
-        ≡ benchWornOf request enable d chip (mem (now (array .entry)) (now (id .entry))) (now (buffer .entry)) (now (counts .entry)) .left .mem ⌝ }
+        ≡ benchKeptOf request enable d chip (mem (now (array .entry)) (now (id .entry))) (now (buffer .entry)) (now (counts .entry)) worst .worn .left .mem ⌝ }
     ensures bytes { λ _. ⌜ now (buffer .exit)
-        ≡ benchWornOf request enable d chip (mem (now (array .entry)) (now (id .entry))) (now (buffer .entry)) (now (counts .entry)) .left .buffer ⌝ }
+        ≡ benchKeptOf request enable d chip (mem (now (array .entry)) (now (id .entry))) (now (buffer .entry)) (now (counts .entry)) worst .worn .left .buffer ⌝ }
     ensures counts { λ _. ⌜ now (counts .exit)
-        ≡ benchWornOf request enable d chip (mem (now (array .entry)) (now (id .entry))) (now (buffer .entry)) (now (counts .entry)) .counts ⌝ }
+        ≡ benchKeptOf request enable d chip (mem (now (array .entry)) (now (id .entry))) (now (buffer .entry)) (now (counts .entry)) worst .worn .counts ⌝ }
+    ensures worst { λ r. ⌜ r .worst
+        ≡ benchKeptOf request enable d chip (mem (now (array .entry)) (now (id .entry))) (now (buffer .entry)) (now (counts .entry)) worst .worst ⌝ }
 {
-    let judged = judge(
+    let verdict = judge_worn(
         request,
         enable,
         d,
@@ -688,16 +759,16 @@ pub fn run_worn(
         array.len(),
         id.len(),
         buffer.len(),
+        counts,
+        worst,
     );
-    let ready = wear::counts_verdict(request.part, counts.len());
-    let verdict = parts::sooner(ready, judged);
     match verdict {
         Verdict::Fine => {
             let n = request.length;
             let bytes = &mut buffer[..n];
             let mut events = [0u8; 1];
             let mut levels = [0u8; 1];
-            let recorded = drive(
+            let driven = drive(
                 request,
                 enable,
                 d,
@@ -706,14 +777,16 @@ pub fn run_worn(
                 id,
                 bytes,
                 counts,
+                worst,
                 &mut events,
                 &mut levels,
             );
-            recorded.report
+            driven.kept
         }
         Verdict::Refused(r) => {
-            let kept = refused(r, chip);
-            kept.report
+            let gone = refused(r, chip);
+            let report = gone.report;
+            Kept { report, worst }
         }
     }
 }

@@ -31,3 +31,4 @@ pub mod Idle
 pub mod Trials
 pub mod Accepted
 pub mod Worn
+pub mod Kept

@@ -11,3 +11,4 @@ pub mod Idle
 pub mod Trials
 pub mod Accepted
 pub mod Worn
+pub mod Kept

@@ -1,7 +1,7 @@
 // Runs the driver against the model, as the lines of the input say, and prints what each run reports: the refusal's number (0: done),
 // its page or index, polls, bytes, cycles, clocks. A line is a letter with its numbers: d a part as delivered, s a part in standby, locked or not, e an
 // event for a part, b what the buffer is filled with, p how many bytes of it are printed, r a run (`run`), o a run of one byte on the
-// part as delivered.
+// part as delivered, k a run with counts of wear and the worst of them (`run_worn`).
 use driver::Place;
 use driver::Request;
 use libc::STDIN_FILENO;
@@ -11,6 +11,7 @@ use parts::Loss;
 use parts::Verdict;
 use state::Chip;
 use text::say;
+use wear::Most;
 
 // ---- what is printed
 
@@ -143,6 +144,70 @@ fn run(
     keep(v[11] == 1, chip, held);
 }
 
+// ---- runs with counts
+
+// More than any part has groups.
+const MOST: usize = 8200;
+
+fn narrow(n: usize) -> u32 {
+    if n < 4294967295 {
+        return n as u32;
+    }
+    4294967295
+}
+
+// Then the counts lent, and a stored worst; with 1 behind it what the walk finds.
+fn given(v: [usize; 16], counts: &[u32]) -> Most {
+    if v[15] == 1 {
+        return wear::worst::most_of(cases::counts::shown(counts, v[12]));
+    }
+    Most {
+        group: v[13],
+        count: narrow(v[14]),
+    }
+}
+
+// The worst that is answered, and a number for all counts.
+fn tell_worst(worst: Most, counts: &[u32]) {
+    say(b"worst");
+    tell(worst.group);
+    tell(worst.count as usize);
+    tell(cases::counts::mixed(counts));
+    say(b"\n");
+}
+
+// The counts stand behind a slash.
+fn run_worn(
+    label: &[u8],
+    v: [usize; 16],
+    held: &mut [u8],
+    array: &mut [u8],
+    id: &mut [u8],
+    buffer: &mut [u8],
+) {
+    let mut counts = [0u32; MOST];
+    cases::counts::read(&mut counts, cases::behind(label, b'/'));
+    let worst = given(v, &counts);
+    let k = bench::run_worn(
+        request(v),
+        0,
+        v[7],
+        pack_chip::unpack(held),
+        fitted::first(array, v[8]),
+        fitted::first(id, v[9]),
+        fitted::first(buffer, v[10]),
+        cases::counts::first(&mut counts, v[12]),
+        worst,
+    );
+    let r = k.report;
+    let verdict = r.verdict;
+    let chip = r.chip;
+    tell_verdict(cases::front(label, b'/'), verdict);
+    tell_counts(r.polls, r.bytes, r.cycles, r.clocks);
+    tell_worst(k.worst, &counts);
+    keep(v[11] == 1, chip, held);
+}
+
 // ---- the lines
 
 // What a line does to the chip alone.
@@ -166,11 +231,21 @@ fn buffer_line(letter: u8, label: &[u8], v: [usize; 16], buffer: &mut [u8]) {
     }
 }
 
-fn runs(letter: u8) -> bool {
-    if letter == b'r' {
-        return true;
+fn run_line(
+    letter: u8,
+    label: &[u8],
+    v: [usize; 16],
+    held: &mut [u8],
+    array: &mut [u8],
+    id: &mut [u8],
+    buffer: &mut [u8],
+) {
+    match letter {
+        b'r' => run(label, v, held, array, id, buffer),
+        b'o' => run(label, v, held, array, id, buffer),
+        b'k' => run_worn(label, v, held, array, id, buffer),
+        _ => {}
     }
-    letter == b'o'
 }
 
 fn one(line: &[u8], held: &mut [u8], array: &mut [u8], id: &mut [u8], buffer: &mut [u8]) {
@@ -179,9 +254,7 @@ fn one(line: &[u8], held: &mut [u8], array: &mut [u8], id: &mut [u8], buffer: &m
     let label = cases::label(line);
     chip_line(letter, v, held, array, id);
     buffer_line(letter, label, v, buffer);
-    if runs(letter) {
-        run(label, v, held, array, id, buffer);
-    }
+    run_line(letter, label, v, held, array, id, buffer);
 }
 
 // A line that ends at i is done; where the next one starts.
@@ -211,7 +284,7 @@ fn each(text: &[u8], held: &mut [u8], array: &mut [u8], id: &mut [u8], buffer: &
 }
 
 fn main() {
-    let mut input = io::buffer();
+    let mut input = [0u8; 16384];
     let n = io::read_full(STDIN_FILENO, &mut input);
     let mut held = [0u8; 137];
     let mut array = [0u8; 32768];

@@ -17,6 +17,7 @@ use parts::Verdict;
 use show::Figures;
 use show::Spot;
 use show::Sums;
+use wear::Most;
 use words::Job;
 use words::answer;
 
@@ -826,6 +827,7 @@ fn prepared(
     job: Job,
     verdict: Verdict,
     worn: bool,
+    worst: Most,
     held: &mut [u8],
     array: &mut [u8],
     id: &mut [u8],
@@ -834,7 +836,7 @@ fn prepared(
     let ready = files::prepared(verdict, job, held, array, id);
     boards::put(boards, boards::OWN, held, array, id);
     boards::put(boards, boards::OTHER, held, array, id);
-    Ready::Judged(ready, worn)
+    Ready::Judged(ready, worn, worst)
 }
 
 fn begin(
@@ -849,7 +851,9 @@ fn begin(
     boards::put_counts(boards, counts);
     match first {
         Ready::Told => Ready::Told,
-        Ready::Judged(verdict, worn) => prepared(job, verdict, worn, held, array, id, boards),
+        Ready::Judged(verdict, worn, worst) => {
+            prepared(job, verdict, worn, worst, held, array, id, boards)
+        }
     }
 }
 
@@ -880,7 +884,7 @@ fn run_on(job: Job, boards: &mut [u8]) -> bool {
     let ready = lay(job, boards);
     match ready {
         Ready::Told => false,
-        Ready::Judged(verdict, worn) => {
+        Ready::Judged(verdict, worn, _) => {
             let kept = Job {
                 wear: job.wear | worn,
                 ..job

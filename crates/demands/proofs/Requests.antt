@@ -8,6 +8,11 @@ use Rattle.wear_promises.proofs.Beside.{run-is-chips as wear-run-is-chips, wear
 use Rattle.wear_promises.proofs.Told.{most-is-most, report-numbers, report-pinned, join-adds, join-any-order, heaps-merge}
 use Rattle.wear_promises.proofs.Pinned.{wear-pinned}
 use Rattle.wear_promises.proofs.Histories.{histories-worn}
+use Rattle.wear_promises.proofs.Kept.{walk-finds, one-worst, finds-it, worst-is-walk, series-keeps-it, raised-keeps-it, growth-keeps-it, goes-on, mark-goes-on, traces-keep-it, refuses-unborne, as-before, kept-pinned}
+use Rattle.wear_promises.proofs.WrongKeepers.{wrong-keepers}
+use Rattle.image_promises.proofs.Worst.{load-finds-it, saved-worst, there-keeps-it, back-keeps-it, load-as-before, wrong-worst}
+use Rattle.bench_promises.proofs.Kept.{bench-worst-is-walk, bench-as-before, bench-refuses-unborne}
+use Rattle.sapwoodle.proofs.wears.Kept.{wear-bytes-keep, bench-wear-walks, bench-wear-keeps}
 use Rattle.wear_promises.proofs.WrongCounters.{wrong-counters}
 use Rattle.image_promises.proofs.Places.{worn-places, worn-lengths}
 use Rattle.image_promises.proofs.Numbers.{save-worn-numbers, load-worn-numbers}
@@ -22,7 +27,7 @@ use Rattle.image_promises.proofs.Swapped.{swap-keeps-history}
 use Rattle.image_promises.proofs.WrongSaves.{wrong-worn}
 use Rattle.wear.specs.Calls.{wearOf}
 use Rattle.image_worn.specs.Calls.{savingWorn, loadingWorn}
-use Rattle.sapwoodle.proofs.worns.Kept.{worn-bytes-kept}
+use Rattle.sapwoodle.proofs.worns.Kept.{worn-bytes-kept, load-worn-finds}
 use Rattle.bench_promises.proofs.Worn.{bench-wear-is-history, worn-is-bench}
 use Rattle.chip_laws.proofs.Roll.{page-rule}
 use Rattle.chip_laws.proofs.Runs.{run-is-steps}
@@ -184,5 +189,27 @@ requests =
             ours = worn-ours;
             pinned = worn-pinned;
             wrong = wrong-worn;
+          };
+      eighth =
+          record {
+            walk = walk-finds;
+            one = one-worst;
+            begins = finds-it;
+            kept = worst-is-walk;
+            series = series-keeps-it;
+            bench = bench-worst-is-walk;
+            raised = raised-keeps-it;
+            growth = growth-keeps-it;
+            goes-on = (goes-on, mark-goes-on);
+            traces = traces-keep-it;
+            load = load-finds-it;
+            saved = saved-worst;
+            converted = (there-keeps-it, back-keeps-it);
+            refused = refuses-unborne;
+            bench-refused = bench-refuses-unborne;
+            before = (as-before, bench-as-before, load-as-before);
+            bytes = (wear-bytes-keep, bench-wear-walks, bench-wear-keeps, load-worn-finds);
+            pinned = kept-pinned;
+            wrong = (wrong-keepers, wrong-worst);
           };
     }

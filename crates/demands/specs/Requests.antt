@@ -35,24 +35,31 @@ use Rattle.capture_promises.specs.Tallied.{TallyCounts, CountNumbers, Counter, 
 use Rattle.capture_promises.specs.Wrong.{WrongReaders, WrongTallies}
 use Rattle.capture_promises.specs.WrongRuns.{WrongRuns}
 use Rattle.capture_promises.specs.Worked.{WorkedCaptures}
-use Rattle.wear.specs.Calls.{wearOf, reportOf, joinOf}
+use Rattle.wear.specs.Calls.{wearOf, keptOf, foundOf, reportOf, joinOf}
 use Rattle.wear_promises.specs.Counts.{WearIsHistory, TotalIsHistory, TracesAddUp, RunIsChips as WearRunIsChips, WearNumbers, CountsNeverFall, AtMostGroupsOfOnePage, WearRefusedChangesNothing, WearPinned}
 use Rattle.wear_promises.specs.Told.{MostIsMost, ReportNumbers, ReportPinned, JoinAdds, JoinAnyOrder, HeapsMerge}
 use Rattle.wear_promises.specs.Histories.{wornHold, wornHistories}
 use Rattle.wear_promises.specs.WrongCounters.{WrongCounters}
+use Rattle.wear_promises.specs.Kept.{WalkFindsIt, OnlyOne, WorstIsWalk, AsBefore, RefusesUnborne, SeriesKeepsIt, RaisedKeepsIt, GrowthKeepsIt, GoesOn, MarkGoesOn, TracesKeepIt, FindsIt, KeptPinned}
+use Rattle.wear_promises.specs.WrongKeepers.{WrongKeepers}
 use Rattle.image.specs.Calls.{loading}
-use Rattle.image_worn.specs.Calls.{savingWorn, loadingWorn, toWornOf, toPlainOf}
+use Rattle.image_worn.specs.Calls.{savingWorn, loadingWorn, loadingKept, toWornOf, toPlainOf}
 use Rattle.image_promises.specs.Layout.{LayoutWritten, LayoutRead, ConvertsThere, ConvertsBack, WornPlaces, WornLengths}
 use Rattle.image_promises.specs.Promises.{GivesBackWorn, SavesSameWorn, PlainLoadsZero, OldReaderRefuses, AcceptsOnlyWorn, AcceptsAllWorn, ThereAndBack, BackAndThere, LosesNothing, ConvertsSame, RefusedKeeps as WornRefusedKeeps}
 use Rattle.image_promises.specs.Numbers.{SaveWornNumbers, LoadWornNumbers, ToWornNumbers, ToPlainNumbers, OneWornNumber}
 use Rattle.image_promises.specs.Pinned.{WornOurs, WornPinned}
 use Rattle.image_promises.specs.Swapped.{SwapKeepsHistory}
 use Rattle.image_promises.specs.Wrong.{WrongWorn}
+use Rattle.image_promises.specs.Worst.{LoadAsBefore, LoadFindsIt, SavedWorst, ConvertKeepsIt, WrongWorst}
 use Rattle.bench.specs.Worn.{benchWornOf}
+use Rattle.bench.specs.Kept.{benchKeptOf}
 use Rattle.bench_promises.specs.Worn.{BenchWearIsHistory, WornIsBench}
+use Rattle.bench_promises.specs.Kept.{BenchWorstIsWalk, BenchAsBefore, BenchRefusesUnborne}
 use mathlib.Core.Path.{_≡_}
 use mathlib.Core.Bool.{true}
-use Rattle.sapwoodle.specs.Promises.{NextIsDrivers, BenchIsBenchs, CaptureIsChips, CaptureRefuses4, StepIsChips, RunIsChips, StepOld, RunOld, StepRefuses3, RunRefuses3, WornBytesKept}
+use Rattle.sapwoodle.specs.Promises.{NextIsDrivers, BenchIsBenchs, CaptureIsChips, CaptureRefuses4, StepIsChips, RunIsChips, StepOld, RunOld, StepRefuses3, RunRefuses3, WornBytesKept, WearBytesKeep, BenchWearWalks, BenchWearKeeps, LoadWornFinds}
+use Rattle.sapwoodle.specs.Wears.{wearing, benchWearing}
+use Rattle.sapwoodle.specs.Worns.{loadingWornBytes}
 use Rattle.sapwoodle.specs.Chips.{stepping, running}
 use Rattle.sapwoodle.specs.Drivers.{asking}
 use Rattle.sapwoodle.specs.Runs.{benching}
@@ -188,7 +195,8 @@ pub record Request5 : Type 0 where
   -- cuts that change nothing, spoil the whole page or the latched bytes alone, store them, or leave the lock as it was break these
   pub wrong : WrongCuts
 
--- §6, "Wear over a year of traces.": of `wearOf`, `reportOf`, `joinOf` and `benchWornOf`, which `code` of specs/Demands.antt says that the functions are
+-- §6, "Wear over a year of traces.": of `wearOf`, `reportOf` and `joinOf`, which `code` of specs/Demands.antt says that `wear::go_on`, `report` and `join` are,
+-- and of `benchWornOf`; given the worst that the walk finds, `wear::run` and `bench::run_worn` are these too (§8, `before`)
 pub record Request6 : Type 0 where
   -- "for each group of the array how many completed or cut cycles touched it", "Counts are 32-bit and stay at their top once there": over any series of
   -- calls each count goes on by what the history has, events and levels alone, at most the top; and nothing is left open
@@ -221,7 +229,8 @@ pub record Request6 : Type 0 where
   -- these; so does a total that is the number of cycles
   pub wrong : WrongCounters
 
--- §7, "Wear in the image.": of `savingWorn`, `loadingWorn`, `toWornOf` and `toPlainOf`, which `code` of specs/Demands.antt says that the functions are
+-- §7, "Wear in the image.": of `savingWorn`, `loadingWorn`, `toWornOf` and `toPlainOf`, which `code` of specs/Demands.antt says that the functions are (a load also
+-- answers the worst: §8)
 pub record Request7 : Type 0 where
   -- "Boxes that are swapped between sites lose their history.": saved at one and loaded at another, a box's counts are those of both histories
   pub swapped : SwapKeepsHistory wearOf savingWorn loadingWorn
@@ -262,6 +271,39 @@ pub record Request7 : Type 0 where
   -- everything break these
   pub wrong : WrongWorn
 
+-- §8, "Keep the worst group at hand.": of `keptOf`, `foundOf`, `benchKeptOf` and `loadingKept`, which `code` of specs/Demands.antt says that the functions are
+pub record Request8 : Type 0 where
+  -- "the most worn group": there is just one, the lowest on a tie, said without a walk; the walk finds it, and so does who begins
+  pub walk : WalkFindsIt
+  pub one : OnlyOne
+  pub begins : FindsIt foundOf
+  -- "Store it, number and count, beside the counts; every write, cut .. keeps it equal to what the walk would find": after a call, after any series of
+  -- them, and of driver and chip together, refused calls too
+  pub kept : WorstIsWalk keptOf
+  pub series : SeriesKeepsIt keptOf
+  pub bench : BenchWorstIsWalk benchKeptOf
+  -- "and we walk 8,192 counts": who is given no worst answers the most worn of the groups that it raised, and its holder compares
+  pub raised : RaisedKeepsIt
+  pub growth : GrowthKeepsIt
+  pub goes-on : GoesOn wearOf × MarkGoesOn
+  pub traces : TracesKeepIt wearOf
+  -- "load and conversion"
+  pub load : LoadFindsIt loadingKept
+  pub saved : SavedWorst savingWorn loadingKept
+  pub converted : ConvertKeepsIt toWornOf loadingKept × ConvertKeepsIt toPlainOf loadingKept
+  -- "Refusals: 4 also for a stored worst that the counts don't bear out.": in its place, and nothing changes
+  pub refused : RefusesUnborne keptOf
+  pub bench-refused : BenchRefusesUnborne benchKeptOf
+  -- chip, memory, levels, cycles, counts and the other refusals are as they were
+  pub before : AsBefore keptOf × BenchAsBefore benchKeptOf × LoadAsBefore loadingKept
+  -- from C too
+  pub bytes : WearBytesKeep wearing × BenchWearWalks benchWearing × BenchWearKeeps benchWearing × LoadWornFinds loadingWornBytes
+  -- these leave nothing open
+  pub pinned : KeptPinned
+  -- a worst that stays at zero, is given back, is the group raised last, the highest on a tie, or keeps its group while the count grows; one that is never judged,
+  -- or not below or behind its group; calls that refuse everything; and loads that answer zero or what was there before break these
+  pub wrong : WrongKeepers × WrongWorst
+
 pub record Requests : Type 0 where
   pub first : Request1
   pub second : Request2
@@ -270,3 +312,4 @@ pub record Requests : Type 0 where
   pub fifth : Request5
   pub sixth : Request6
   pub seventh : Request7
+  pub eighth : Request8

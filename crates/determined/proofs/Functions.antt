@@ -98,6 +98,12 @@ use Rattle.determined.specs.Functions.{
   MarkDetermined,
   CountsVerdictDetermined,
   WearRunDetermined,
+  WearGoOnDetermined,
+  WorstOfDetermined,
+  WorseDetermined,
+  MostOfDetermined,
+  BorneOutDetermined,
+  WorstVerdictDetermined,
   WearReportDetermined,
   WearJoinDetermined,
   BenchRunWornDetermined,
@@ -120,6 +126,7 @@ use Rattle.determined.specs.Functions.{
   SapwoodleToPlainDetermined,
   SapwoodleGroupsDetermined,
   SapwoodleWearRunDetermined,
+  SapwoodleWorstDetermined,
   SapwoodleWearReportDetermined,
   SapwoodleWearJoinDetermined,
   SapwoodleWearBenchRunDetermined,
@@ -127,7 +134,7 @@ use Rattle.determined.specs.Functions.{
   DriverUnpackDetermined,
 }
 use Rattle.determined.proofs.Answers.{agree, same, plainly, of-machine}
-use Rattle.determined.proofs.Machines.{deliver-is, step-is, run-is, save-is, load-is, hex-read-is, hex-write-is, capture-run-is, capture-events-is, count-is, trace-is, begin-is, next-is-our-driver, bench-record-is-our-bench, bench-run-is-our-bench, pass-is, mark-is, wear-run-is, wear-report-is, wear-join-is, bench-run-worn-is, save-worn-is, load-worn-is, to-worn-is, to-plain-is, sapwoodle-save-worn-is, sapwoodle-load-worn-is, sapwoodle-to-worn-is, sapwoodle-to-plain-is, sapwoodle-wear-run-is, sapwoodle-wear-report-is, sapwoodle-wear-join-is, sapwoodle-wear-bench-run-is, sapwoodle-deliver-is, sapwoodle-step-is, sapwoodle-run-is, sapwoodle-save-is, sapwoodle-load-is, sapwoodle-hex-read-is, sapwoodle-hex-write-is, sapwoodle-capture-run-is, sapwoodle-capture-events-is, sapwoodle-capture-tally-is, sapwoodle-driver-begin-is, sapwoodle-driver-next-is, sapwoodle-bench-run-is, sapwoodle-trace-is}
+use Rattle.determined.proofs.Machines.{deliver-is, step-is, run-is, save-is, load-is, hex-read-is, hex-write-is, capture-run-is, capture-events-is, count-is, trace-is, begin-is, next-is-our-driver, bench-record-is-our-bench, bench-run-is-our-bench, pass-is, mark-is, wear-run-is, wear-go-on-is, worst-of-is, wear-report-is, wear-join-is, bench-run-worn-is, save-worn-is, load-worn-is, to-worn-is, to-plain-is, sapwoodle-save-worn-is, sapwoodle-load-worn-is, sapwoodle-to-worn-is, sapwoodle-to-plain-is, sapwoodle-wear-run-is, sapwoodle-worst-is, sapwoodle-wear-report-is, sapwoodle-wear-join-is, sapwoodle-wear-bench-run-is, sapwoodle-deliver-is, sapwoodle-step-is, sapwoodle-run-is, sapwoodle-save-is, sapwoodle-load-is, sapwoodle-hex-read-is, sapwoodle-hex-write-is, sapwoodle-capture-run-is, sapwoodle-capture-events-is, sapwoodle-capture-tally-is, sapwoodle-driver-begin-is, sapwoodle-driver-next-is, sapwoodle-bench-run-is, sapwoodle-trace-is}
 
 pub facts-of-determined : FactsOfDetermined
 facts-of-determined = record { taken = λ κs a. tt; equal = λ κs a x y p q. same (agree (p .0) (q .0)) refl }
@@ -439,6 +446,24 @@ counts-verdict-determined = plainly (λ κs a u v. refl)
 pub wear-run-determined : WearRunDetermined
 wear-run-determined = of-machine (λ κs a. tt) wear-run-is
 
+pub wear-go-on-determined : WearGoOnDetermined
+wear-go-on-determined = of-machine (λ κs a. tt) wear-go-on-is
+
+pub worst-of-determined : WorstOfDetermined
+worst-of-determined = of-machine (λ κs a. tt) worst-of-is
+
+pub worse-determined : WorseDetermined
+worse-determined = plainly (λ κs a u v. refl)
+
+pub most-of-determined : MostOfDetermined
+most-of-determined = plainly (λ κs a u v. refl)
+
+pub borne-out-determined : BorneOutDetermined
+borne-out-determined = plainly (λ κs a u v. refl)
+
+pub worst-verdict-determined : WorstVerdictDetermined
+worst-verdict-determined = plainly (λ κs a u v. refl)
+
 pub wear-report-determined : WearReportDetermined
 wear-report-determined = of-machine (λ κs a. tt) wear-report-is
 
@@ -453,6 +478,9 @@ sapwoodle-groups-determined = plainly (λ κs a u v. refl)
 
 pub sapwoodle-wear-run-determined : SapwoodleWearRunDetermined
 sapwoodle-wear-run-determined = of-machine (λ κs a. tt) sapwoodle-wear-run-is
+
+pub sapwoodle-worst-determined : SapwoodleWorstDetermined
+sapwoodle-worst-determined = of-machine (λ κs a. tt) sapwoodle-worst-is
 
 pub sapwoodle-wear-report-determined : SapwoodleWearReportDetermined
 sapwoodle-wear-report-determined = of-machine (λ κs a. tt) sapwoodle-wear-report-is
@@ -534,6 +562,9 @@ every-answer =
       bench-record = bench-record-determined;
       bench-run = bench-run-determined;
       wear-run = wear-run-determined;
+      wear-go-on = wear-go-on-determined;
+      wear-mark = mark-determined;
+      worst-of = worst-of-determined;
       wear-report = wear-report-determined;
       wear-join = wear-join-determined;
       bench-run-worn = bench-run-worn-determined;
@@ -556,6 +587,7 @@ every-answer =
       sapwoodle-bench-run = sapwoodle-bench-run-determined;
       sapwoodle-groups = sapwoodle-groups-determined;
       sapwoodle-wear-run = sapwoodle-wear-run-determined;
+      sapwoodle-worst = sapwoodle-worst-determined;
       sapwoodle-wear-report = sapwoodle-wear-report-determined;
       sapwoodle-wear-join = sapwoodle-wear-join-determined;
       sapwoodle-wear-bench-run = sapwoodle-wear-bench-run-determined;

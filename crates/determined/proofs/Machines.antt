@@ -1,8 +1,9 @@
 -- Each contract allows the machine's answer alone. `p` is what the contract says of an answer, one part for each clause, in the clauses'
 -- order; what is left is a row of the parameters.
 -- Assumes nothing.
-use mathlib.Core.Path.{refl}
-use Rattle.determined.specs.Machines.{EveryMachine, DeliverIs, StepIs, RunIs, SaveIs, LoadIs, HexReadIs, HexWriteIs, CaptureRunIs, CaptureEventsIs, CountIs, TraceIs, BeginIs, NextIsOurDriver, BenchRecordIsOurBench, BenchRunIsOurBench, PassIs, MarkIs, WearRunIs, WearReportIs, WearJoinIs, BenchRunWornIs, SaveWornIs, LoadWornIs, ToWornIs, ToPlainIs, SapwoodleSaveWornIs, SapwoodleLoadWornIs, SapwoodleToWornIs, SapwoodleToPlainIs, SapwoodleWearRunIs, SapwoodleWearReportIs, SapwoodleWearJoinIs, SapwoodleWearBenchRunIs, SapwoodleDeliverIs, SapwoodleStepIs, SapwoodleRunIs, SapwoodleSaveIs, SapwoodleLoadIs, SapwoodleHexReadIs, SapwoodleHexWriteIs, SapwoodleCaptureRunIs, SapwoodleCaptureEventsIs, SapwoodleCaptureTallyIs, SapwoodleDriverBeginIs, SapwoodleDriverNextIs, SapwoodleBenchRunIs, SapwoodleTraceIs}
+use mathlib.Core.Path.{refl, _∙_, ap}
+use Rattle.wear.specs.Worst.{raisedOf}
+use Rattle.determined.specs.Machines.{EveryMachine, DeliverIs, StepIs, RunIs, SaveIs, LoadIs, HexReadIs, HexWriteIs, CaptureRunIs, CaptureEventsIs, CountIs, TraceIs, BeginIs, NextIsOurDriver, BenchRecordIsOurBench, BenchRunIsOurBench, PassIs, MarkIs, WearRunIs, WearGoOnIs, WorstOfIs, WearReportIs, WearJoinIs, BenchRunWornIs, SaveWornIs, LoadWornIs, ToWornIs, ToPlainIs, SapwoodleSaveWornIs, SapwoodleLoadWornIs, SapwoodleToWornIs, SapwoodleToPlainIs, SapwoodleWearRunIs, SapwoodleWorstIs, SapwoodleWearReportIs, SapwoodleWearJoinIs, SapwoodleWearBenchRunIs, SapwoodleDeliverIs, SapwoodleStepIs, SapwoodleRunIs, SapwoodleSaveIs, SapwoodleLoadIs, SapwoodleHexReadIs, SapwoodleHexWriteIs, SapwoodleCaptureRunIs, SapwoodleCaptureEventsIs, SapwoodleCaptureTallyIs, SapwoodleDriverBeginIs, SapwoodleDriverNextIs, SapwoodleBenchRunIs, SapwoodleTraceIs}
 use Rattle.determined.proofs.Answers.{same}
 
 pub deliver-is : DeliverIs
@@ -96,10 +97,16 @@ pub pass-is : PassIs
 pass-is = λ κs a x p. same (p .0) (λ i. (tt, (tt, (tt, (tt, (tt, (tt, (p .1 .0 i .cells, (p .1 .0 i .ident, (tt, (p .1 .1 i, tt)))))))))))
 
 pub mark-is : MarkIs
-mark-is = λ κs a x p. same refl (λ i. (tt, (tt, (p i, tt))))
+mark-is = λ κs a x p. same (p .1 ∙ ap (raisedOf (a .1 .1 .0 .now)) (p .0)) (λ i. (tt, (tt, (p .0 i, tt))))
 
 pub wear-run-is : WearRunIs
-wear-run-is = λ κs a x p. same (p .0) (λ i. (tt, (tt, (tt, (tt, (tt, (p .1 .0 i .cells, (p .1 .0 i .ident, (p .1 .1 .1 i, (tt, (p .1 .1 .0 i, tt)))))))))))
+wear-run-is = λ κs a x p. same (λ i. record { ran = p .0 i; most = p .1 .1 .1 .1 i }) (λ i. (tt, (tt, (tt, (tt, (tt, (p .1 .0 i .cells, (p .1 .0 i .ident, (p .1 .1 .1 .0 i, (tt, (tt, (p .1 .1 .0 i, tt))))))))))))
+
+pub wear-go-on-is : WearGoOnIs
+wear-go-on-is = λ κs a x p. same (λ i. record { ran = p .0 i; most = (p .1 .1 .1 .1 ∙ ap (raisedOf (a .1 .1 .1 .1 .1 .1 .1 .0 .now)) (p .1 .1 .1 .0)) i }) (λ i. (tt, (tt, (tt, (tt, (tt, (p .1 .0 i .cells, (p .1 .0 i .ident, (p .1 .1 .1 .0 i, (tt, (p .1 .1 .0 i, tt)))))))))))
+
+pub worst-of-is : WorstOfIs
+worst-of-is = λ κs a x p. same p refl
 
 pub wear-report-is : WearReportIs
 wear-report-is = λ κs a x p. same p refl
@@ -108,10 +115,13 @@ pub wear-join-is : WearJoinIs
 wear-join-is = λ κs a x p. same (p .0) (λ i. (tt, (p .1 i, (tt, tt))))
 
 pub bench-run-worn-is : BenchRunWornIs
-bench-run-worn-is = λ κs a x p. same (p .0) (λ i. (tt, (tt, (tt, (tt, (p .1 .0 i .cells, (p .1 .0 i .ident, (p .1 .1 .0 i, (p .1 .1 .1 i, tt)))))))))
+bench-run-worn-is = λ κs a x p. same (λ i. record { report = p .0 i; worst = p .1 .1 .1 .1 i }) (λ i. (tt, (tt, (tt, (tt, (p .1 .0 i .cells, (p .1 .0 i .ident, (p .1 .1 .0 i, (p .1 .1 .1 .0 i, (tt, tt))))))))))
 
 pub sapwoodle-wear-run-is : SapwoodleWearRunIs
-sapwoodle-wear-run-is = λ κs a x p. same (p .0) (λ i. (tt, (tt, (tt, (tt, (p .1 .0 i, (p .1 .1 .0 i .cells, (p .1 .1 .0 i .ident, (p .1 .1 .1 .0 i, (tt, (p .1 .1 .1 .1 .0 i, (p .1 .1 .1 .1 .1 .0 i, (p .1 .1 .1 .1 .1 .1 i, tt)))))))))))))
+sapwoodle-wear-run-is = λ κs a x p. same (p .0) (λ i. (tt, (tt, (tt, (tt, (p .1 .0 i, (p .1 .1 .0 i .cells, (p .1 .1 .0 i .ident, (p .1 .1 .1 .0 i, (p .1 .1 .1 .1 .1 .1 .1 .0 i, (p .1 .1 .1 .1 .1 .1 .1 .1 i, (tt, (p .1 .1 .1 .1 .0 i, (p .1 .1 .1 .1 .1 .0 i, (p .1 .1 .1 .1 .1 .1 .0 i, tt)))))))))))))))
+
+pub sapwoodle-worst-is : SapwoodleWorstIs
+sapwoodle-worst-is = λ κs a x p. same (p .0) (λ i. (tt, (tt, (p .1 .0 i, (p .1 .1 i, tt)))))
 
 pub sapwoodle-wear-report-is : SapwoodleWearReportIs
 sapwoodle-wear-report-is = λ κs a x p. same (p .0) (λ i. (tt, (tt, (p .1 .0 i, (p .1 .1 .0 i, (p .1 .1 .1 i, tt))))))
@@ -120,13 +130,13 @@ pub sapwoodle-wear-join-is : SapwoodleWearJoinIs
 sapwoodle-wear-join-is = λ κs a x p. same (p .0) (λ i. (tt, (p .1 i, (tt, tt))))
 
 pub sapwoodle-wear-bench-run-is : SapwoodleWearBenchRunIs
-sapwoodle-wear-bench-run-is = λ κs a x p. same (p .0) (λ i. (tt, (tt, (tt, (tt, (tt, (tt, (tt, (tt, (p .1 .0 i, (p .1 .1 .0 i .cells, (p .1 .1 .0 i .ident, (p .1 .1 .1 .0 i, (p .1 .1 .1 .1 .0 i, (p .1 .1 .1 .1 .1 .0 i, (p .1 .1 .1 .1 .1 .1 .0 i, (p .1 .1 .1 .1 .1 .1 .1 .0 i, (p .1 .1 .1 .1 .1 .1 .1 .1 .0 i, (p .1 .1 .1 .1 .1 .1 .1 .1 .1 i, tt)))))))))))))))))))
+sapwoodle-wear-bench-run-is = λ κs a x p. same (p .0) (λ i. (tt, (tt, (tt, (tt, (tt, (tt, (tt, (tt, (p .1 .0 i, (p .1 .1 .0 i .cells, (p .1 .1 .0 i .ident, (p .1 .1 .1 .0 i, (p .1 .1 .1 .1 .0 i, (p .1 .1 .1 .1 .1 .1 .1 .1 .1 .1 .0 i, (p .1 .1 .1 .1 .1 .1 .1 .1 .1 .1 .1 i, (p .1 .1 .1 .1 .1 .0 i, (p .1 .1 .1 .1 .1 .1 .0 i, (p .1 .1 .1 .1 .1 .1 .1 .0 i, (p .1 .1 .1 .1 .1 .1 .1 .1 .0 i, (p .1 .1 .1 .1 .1 .1 .1 .1 .1 .0 i, tt)))))))))))))))))))))
 
 pub save-worn-is : SaveWornIs
 save-worn-is = λ κs a x p. same (p .0) (λ i. (tt, (tt, (tt, (tt, (tt, (p .1 i, tt)))))))
 
 pub load-worn-is : LoadWornIs
-load-worn-is = λ κs a x p. same (p .0) (λ i. (tt, (tt, (p .1 .0 i, (p .1 .1 .0 i, (p .1 .1 .1 i, tt))))))
+load-worn-is = λ κs a x p. same (λ i. record { loaded = p .0 i; worst = p .1 .1 .1 .1 i }) (λ i. (tt, (tt, (p .1 .0 i, (p .1 .1 .0 i, (p .1 .1 .1 .0 i, tt))))))
 
 pub to-worn-is : ToWornIs
 to-worn-is = λ κs a x p. same (p .0) (λ i. (tt, (p .1 i, tt)))
@@ -138,7 +148,7 @@ pub sapwoodle-save-worn-is : SapwoodleSaveWornIs
 sapwoodle-save-worn-is = λ κs a x p. same (p .0) (λ i. (tt, (tt, (tt, (tt, (tt, (p .1 .0 i, (p .1 .1 i, tt))))))))
 
 pub sapwoodle-load-worn-is : SapwoodleLoadWornIs
-sapwoodle-load-worn-is = λ κs a x p. same (p .0) (λ i. (tt, (tt, (p .1 .0 i, (p .1 .1 .0 i, (p .1 .1 .1 .0 i, (p .1 .1 .1 .1 .0 i, (p .1 .1 .1 .1 .1 i, tt))))))))
+sapwoodle-load-worn-is = λ κs a x p. same (p .0) (λ i. (tt, (tt, (p .1 .0 i, (p .1 .1 .0 i, (p .1 .1 .1 .0 i, (p .1 .1 .1 .1 .0 i, (p .1 .1 .1 .1 .1 .0 i, (p .1 .1 .1 .1 .1 .1 .0 i, (p .1 .1 .1 .1 .1 .1 .1 i, tt))))))))))
 
 pub sapwoodle-to-worn-is : SapwoodleToWornIs
 sapwoodle-to-worn-is = λ κs a x p. same (p .0) (λ i. (tt, (p .1 .0 i, (p .1 .1 i, tt))))
@@ -165,6 +175,9 @@ every-machine =
       bench-record = bench-record-is-our-bench;
       bench-run = bench-run-is-our-bench;
       wear-run = wear-run-is;
+      wear-go-on = wear-go-on-is;
+      wear-mark = mark-is;
+      worst-of = worst-of-is;
       wear-report = wear-report-is;
       wear-join = wear-join-is;
       bench-run-worn = bench-run-worn-is;
@@ -186,6 +199,7 @@ every-machine =
       sapwoodle-driver-next = sapwoodle-driver-next-is;
       sapwoodle-bench-run = sapwoodle-bench-run-is;
       sapwoodle-wear-run = sapwoodle-wear-run-is;
+      sapwoodle-worst = sapwoodle-worst-is;
       sapwoodle-wear-report = sapwoodle-wear-report-is;
       sapwoodle-wear-join = sapwoodle-wear-join-is;
       sapwoodle-wear-bench-run = sapwoodle-wear-bench-run-is;

@@ -51,6 +51,12 @@ use Rattle.wear.proofs.groups as groups
 use Rattle.wear.proofs.mark as mark
 use Rattle.wear.proofs.counts_verdict as counts-verdict
 use Rattle.wear.proofs.run as wear-run
+use Rattle.wear.proofs.go_on as wear-go-on
+use Rattle.wear.proofs.worst_of as worst-of
+use Rattle.wear.proofs.worst.worse as worse
+use Rattle.wear.proofs.worst.most_of as most-of
+use Rattle.wear.proofs.worst.borne_out as borne-out
+use Rattle.wear.proofs.worst.verdict as worst-verdict
 use Rattle.wear.proofs.report as wear-report
 use Rattle.wear.proofs.join as wear-join
 use Rattle.page.proofs.look_refusal as look-refusal
@@ -114,6 +120,7 @@ use Rattle.sapwoodle.proofs.drivers.sapwoodle_driver_next as sapwoodle-driver-n
 use Rattle.sapwoodle.proofs.runs.sapwoodle_bench_run as sapwoodle-bench-run
 use Rattle.sapwoodle.proofs.wears.sapwoodle_groups as sapwoodle-groups
 use Rattle.sapwoodle.proofs.wears.sapwoodle_wear_run as sapwoodle-wear-run
+use Rattle.sapwoodle.proofs.wears.sapwoodle_worst as sapwoodle-worst
 use Rattle.sapwoodle.proofs.wears.sapwoodle_wear_report as sapwoodle-wear-report
 use Rattle.sapwoodle.proofs.wears.sapwoodle_wear_join as sapwoodle-wear-join
 use Rattle.sapwoodle.proofs.wears.sapwoodle_wear_bench_run as sapwoodle-wear-bench-run
@@ -286,6 +293,24 @@ CountsVerdictDetermined = Determined counts-verdict.ended counts-verdict.Reads.A
 
 abbrev pub WearRunDetermined : Type 0
 WearRunDetermined = Determined wear-run.ended wear-run.Reads.Asked wear-run.Reads.Learnt
+
+abbrev pub WearGoOnDetermined : Type 0
+WearGoOnDetermined = Determined wear-go-on.ended wear-go-on.Reads.Asked wear-go-on.Reads.Learnt
+
+abbrev pub WorstOfDetermined : Type 0
+WorstOfDetermined = Determined worst-of.ended worst-of.Reads.Asked worst-of.Reads.Learnt
+
+abbrev pub WorseDetermined : Type 0
+WorseDetermined = Determined worse.ended worse.Reads.Asked worse.Reads.Learnt
+
+abbrev pub MostOfDetermined : Type 0
+MostOfDetermined = Determined most-of.ended most-of.Reads.Asked most-of.Reads.Learnt
+
+abbrev pub BorneOutDetermined : Type 0
+BorneOutDetermined = Determined borne-out.ended borne-out.Reads.Asked borne-out.Reads.Learnt
+
+abbrev pub WorstVerdictDetermined : Type 0
+WorstVerdictDetermined = Determined worst-verdict.ended worst-verdict.Reads.Asked worst-verdict.Reads.Learnt
 
 abbrev pub WearReportDetermined : Type 0
 WearReportDetermined = Determined wear-report.ended wear-report.Reads.Asked wear-report.Reads.Learnt
@@ -502,6 +527,9 @@ SapwoodleGroupsDetermined = Determined sapwoodle-groups.ended sapwoodle-groups.R
 abbrev pub SapwoodleWearRunDetermined : Type 0
 SapwoodleWearRunDetermined = Determined sapwoodle-wear-run.ended sapwoodle-wear-run.Reads.Asked sapwoodle-wear-run.Reads.Learnt
 
+abbrev pub SapwoodleWorstDetermined : Type 0
+SapwoodleWorstDetermined = Determined sapwoodle-worst.ended sapwoodle-worst.Reads.Asked sapwoodle-worst.Reads.Learnt
+
 abbrev pub SapwoodleWearReportDetermined : Type 0
 SapwoodleWearReportDetermined = Determined sapwoodle-wear-report.ended sapwoodle-wear-report.Reads.Asked sapwoodle-wear-report.Reads.Learnt
 
@@ -546,6 +574,9 @@ pub record EveryAnswer : Type 0 where
   pub bench-record : BenchRecordDetermined
   pub bench-run : BenchRunDetermined
   pub wear-run : WearRunDetermined
+  pub wear-go-on : WearGoOnDetermined
+  pub wear-mark : MarkDetermined
+  pub worst-of : WorstOfDetermined
   pub wear-report : WearReportDetermined
   pub wear-join : WearJoinDetermined
   pub bench-run-worn : BenchRunWornDetermined
@@ -568,6 +599,7 @@ pub record EveryAnswer : Type 0 where
   pub sapwoodle-bench-run : SapwoodleBenchRunDetermined
   pub sapwoodle-groups : SapwoodleGroupsDetermined
   pub sapwoodle-wear-run : SapwoodleWearRunDetermined
+  pub sapwoodle-worst : SapwoodleWorstDetermined
   pub sapwoodle-wear-report : SapwoodleWearReportDetermined
   pub sapwoodle-wear-join : SapwoodleWearJoinDetermined
   pub sapwoodle-wear-bench-run : SapwoodleWearBenchRunDetermined

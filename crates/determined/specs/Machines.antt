@@ -11,7 +11,7 @@ use Rattle.chip.specs.Memory.{mem, chip}
 use Rattle.chip.specs.Model.{cutBy}
 use Rattle.chip.specs.Calls.{deliverOf, stepOf, runOf, passOf}
 use Rattle.image.specs.Calls.{saving, loading}
-use Rattle.image_worn.specs.Calls.{savingWorn, loadingWorn, toWornOf, toPlainOf}
+use Rattle.image_worn.specs.Calls.{savingWorn, loadingKept, toWornOf, toPlainOf}
 use Rattle.hexfile.specs.Calls.{readingOf, writingOf}
 use Rattle.capture.specs.Calls.{seeingOf, listingOf}
 use Rattle.capture_promises.specs.Machines.{countingOf}
@@ -28,17 +28,21 @@ use Rattle.sapwoodle.specs.Hexes.{hexReading, hexWriting}
 use Rattle.sapwoodle.specs.Captures.{busOf, capturing, listing, tallying}
 use Rattle.sapwoodle.specs.Drivers.{requestOf, beginning, asking}
 use Rattle.sapwoodle.specs.Runs.{benching}
-use Rattle.sapwoodle.specs.Wears.{wearing, reporting, joining, benchWearing}
+use Rattle.sapwoodle.specs.Wears.{wearing, finding, reporting, joining, benchWearing}
 use Rattle.sapwoodle.specs.Worns.{savingWornBytes, loadingWornBytes, toWornBytes, toPlainBytes}
 use Rattle.wear.specs.Wear.{closedOf}
-use Rattle.wear.specs.Calls.{wearOf, reportOf, joinOf}
-use Rattle.bench.specs.Worn.{benchWornOf}
+use Rattle.wear.specs.Report.{most}
+use Rattle.wear.specs.Worst.{raisedOf}
+use Rattle.wear.specs.Calls.{wearOf, keptOf, foundOf, reportOf, joinOf}
+use Rattle.bench.specs.Kept.{benchKeptOf}
 use Rattle.chip.proofs.deliver as deliver
 use Rattle.chip.proofs.step as step
 use Rattle.chip.proofs.run as chip-run
 use Rattle.chip.proofs.pass as chip-pass
 use Rattle.wear.proofs.mark as mark
 use Rattle.wear.proofs.run as wear-run
+use Rattle.wear.proofs.go_on as wear-go-on
+use Rattle.wear.proofs.worst_of as worst-of
 use Rattle.wear.proofs.report as wear-report
 use Rattle.wear.proofs.join as wear-join
 use Rattle.image.proofs.save as save
@@ -72,6 +76,7 @@ use Rattle.sapwoodle.proofs.drivers.sapwoodle_driver_begin as sapwoodle-driver-
 use Rattle.sapwoodle.proofs.drivers.sapwoodle_driver_next as sapwoodle-driver-next
 use Rattle.sapwoodle.proofs.runs.sapwoodle_bench_run as sapwoodle-bench-run
 use Rattle.sapwoodle.proofs.wears.sapwoodle_wear_run as sapwoodle-wear-run
+use Rattle.sapwoodle.proofs.wears.sapwoodle_worst as sapwoodle-worst
 use Rattle.sapwoodle.proofs.wears.sapwoodle_wear_report as sapwoodle-wear-report
 use Rattle.sapwoodle.proofs.wears.sapwoodle_wear_join as sapwoodle-wear-join
 use Rattle.sapwoodle.proofs.wears.sapwoodle_wear_bench_run as sapwoodle-wear-bench-run
@@ -122,14 +127,33 @@ PassIs =
 -- ---- wear
 
 abbrev pub MarkIs : Type 0
-MarkIs = Is mark.ended mark.Reads.Learnt (λ κs a. record { result = tt; left = (tt, (tt, (closedOf (factsOf (a .0)) (a .1 .0) (a .1 .1 .0 .now), tt))) })
+MarkIs =
+    Is mark.ended mark.Reads.Learnt
+    (λ κs a.
+    let k = closedOf (factsOf (a .0)) (a .1 .0) (a .1 .1 .0 .now) in
+    record { result = raisedOf (a .1 .1 .0 .now) k; left = (tt, (tt, (k, tt))) })
+
+-- without a worst: the most worn of the groups that it raised
+abbrev pub WearGoOnIs : Type 0
+WearGoOnIs =
+    Is wear-go-on.ended wear-go-on.Reads.Learnt
+    (λ κs a.
+    let m = wearOf (a .0) (a .1 .0) (cutBy (a .1 .1 .0) (a .1 .1 .1 .0 .now)) (a .1 .1 .1 .1 .0) (mem (a .1 .1 .1 .1 .1 .0 .now) (a .1 .1 .1 .1 .1 .1 .0 .now)) (a .1 .1 .1 .1 .1 .1 .1 .0 .now) (a .1 .1 .1 .1 .1 .1 .1 .1 .0 .now) (a .1 .1 .1 .1 .1 .1 .1 .1 .1 .0 .now) in
+    record { result = record { ran = m .run .answer; most = raisedOf (a .1 .1 .1 .1 .1 .1 .1 .0 .now) (m .counts) }; left = (tt, (tt, (tt, (tt, (tt, (m .run .mem .cells, (m .run .mem .ident, (m .counts, (tt, (m .run .answers, tt)))))))))) })
 
 abbrev pub WearRunIs : Type 0
 WearRunIs =
     Is wear-run.ended wear-run.Reads.Learnt
     (λ κs a.
-    let m = wearOf (a .0) (a .1 .0) (cutBy (a .1 .1 .0) (a .1 .1 .1 .0 .now)) (a .1 .1 .1 .1 .0) (mem (a .1 .1 .1 .1 .1 .0 .now) (a .1 .1 .1 .1 .1 .1 .0 .now)) (a .1 .1 .1 .1 .1 .1 .1 .0 .now) (a .1 .1 .1 .1 .1 .1 .1 .1 .0 .now) (a .1 .1 .1 .1 .1 .1 .1 .1 .1 .0 .now) in
-    record { result = m .run .answer; left = (tt, (tt, (tt, (tt, (tt, (m .run .mem .cells, (m .run .mem .ident, (m .counts, (tt, (m .run .answers, tt)))))))))) })
+    let m = keptOf (a .0) (a .1 .0) (cutBy (a .1 .1 .0) (a .1 .1 .1 .0 .now)) (a .1 .1 .1 .1 .0) (mem (a .1 .1 .1 .1 .1 .0 .now) (a .1 .1 .1 .1 .1 .1 .0 .now)) (a .1 .1 .1 .1 .1 .1 .1 .0 .now) (a .1 .1 .1 .1 .1 .1 .1 .1 .0) (a .1 .1 .1 .1 .1 .1 .1 .1 .1 .0 .now) (a .1 .1 .1 .1 .1 .1 .1 .1 .1 .1 .0 .now) in
+    record { result = record { ran = m .wear .run .answer; most = m .worst }; left = (tt, (tt, (tt, (tt, (tt, (m .wear .run .mem .cells, (m .wear .run .mem .ident, (m .wear .counts, (tt, (tt, (m .wear .run .answers, tt))))))))))) })
+
+abbrev pub WorstOfIs : Type 0
+WorstOfIs =
+    Is worst-of.ended worst-of.Reads.Learnt
+    (λ κs a.
+    let m = foundOf (a .0) (a .1 .0 .now) in
+    record { result = m; left = (tt, (tt, tt)) })
 
 abbrev pub WearReportIs : Type 0
 WearReportIs =
@@ -172,8 +196,8 @@ abbrev pub LoadWornIs : Type 0
 LoadWornIs =
     Is load-worn.ended load-worn.Reads.Learnt
     (λ κs a.
-    let m = loadingWorn (a .0 .now) (a .1 .0) (mem (a .1 .1 .0 .now) (a .1 .1 .1 .0 .now)) (a .1 .1 .1 .1 .0 .now) in
-    record { result = m .answer; left = (tt, (tt, (m .stored .cells, (m .stored .ident, (m .counts, tt))))) })
+    let m = loadingKept (a .0 .now) (a .1 .0) (mem (a .1 .1 .0 .now) (a .1 .1 .1 .0 .now)) (a .1 .1 .1 .1 .0 .now) in
+    record { result = record { loaded = m .load .answer; worst = m .worst }; left = (tt, (tt, (m .load .stored .cells, (m .load .stored .ident, (m .load .counts, tt))))) })
 
 abbrev pub ToWornIs : Type 0
 ToWornIs =
@@ -256,8 +280,8 @@ abbrev pub BenchRunWornIs : Type 0
 BenchRunWornIs =
     Is bench-run-worn.ended bench-run-worn.Reads.Learnt
     (λ κs a.
-    let m = benchWornOf (a .0) (a .1 .0) (a .1 .1 .0) (a .1 .1 .1 .0) (mem (a .1 .1 .1 .1 .0 .now) (a .1 .1 .1 .1 .1 .0 .now)) (a .1 .1 .1 .1 .1 .1 .0 .now) (a .1 .1 .1 .1 .1 .1 .1 .0 .now) in
-    record { result = m .left .report; left = (tt, (tt, (tt, (tt, (m .left .mem .cells, (m .left .mem .ident, (m .left .buffer, (m .counts, tt)))))))) })
+    let m = benchKeptOf (a .0) (a .1 .0) (a .1 .1 .0) (a .1 .1 .1 .0) (mem (a .1 .1 .1 .1 .0 .now) (a .1 .1 .1 .1 .1 .0 .now)) (a .1 .1 .1 .1 .1 .1 .0 .now) (a .1 .1 .1 .1 .1 .1 .1 .0 .now) (a .1 .1 .1 .1 .1 .1 .1 .1 .0) in
+    record { result = record { report = m .worn .left .report; worst = m .worst }; left = (tt, (tt, (tt, (tt, (m .worn .left .mem .cells, (m .worn .left .mem .ident, (m .worn .left .buffer, (m .worn .counts, (tt, tt))))))))) })
 
 -- the tape is laid into the two lent buffers
 abbrev pub BenchRecordIsOurBench : Type 0
@@ -375,8 +399,15 @@ abbrev pub SapwoodleWearRunIs : Type 0
 SapwoodleWearRunIs =
     Is sapwoodle-wear-run.ended sapwoodle-wear-run.Reads.Learnt
     (λ κs a.
-    let m = wearing (a .0) (a .1 .0) (a .1 .1 .0 .now) (a .1 .1 .1 .0) (a .1 .1 .1 .1 .0 .now) (mem (a .1 .1 .1 .1 .1 .0 .now) (a .1 .1 .1 .1 .1 .1 .0 .now)) (a .1 .1 .1 .1 .1 .1 .1 .0 .now) (a .1 .1 .1 .1 .1 .1 .1 .1 .0 .now) (a .1 .1 .1 .1 .1 .1 .1 .1 .1 .0 .now) in
-    record { result = m .run .number; left = (tt, (tt, (tt, (tt, (m .run .state, (m .run .stored .cells, (m .run .stored .ident, (m .counts, (tt, (m .run .answers, (m .run .cycles, (m .run .place, tt)))))))))))) })
+    let m = wearing (a .0) (a .1 .0) (a .1 .1 .0 .now) (a .1 .1 .1 .0) (a .1 .1 .1 .1 .0 .now) (mem (a .1 .1 .1 .1 .1 .0 .now) (a .1 .1 .1 .1 .1 .1 .0 .now)) (a .1 .1 .1 .1 .1 .1 .1 .0 .now) (most (a .1 .1 .1 .1 .1 .1 .1 .1 .0 .now) (a .1 .1 .1 .1 .1 .1 .1 .1 .1 .0 .now)) (a .1 .1 .1 .1 .1 .1 .1 .1 .1 .1 .0 .now) (a .1 .1 .1 .1 .1 .1 .1 .1 .1 .1 .1 .0 .now) in
+    record { result = m .run .number; left = (tt, (tt, (tt, (tt, (m .run .state, (m .run .stored .cells, (m .run .stored .ident, (m .counts, (m .worst .group, (m .worst .count, (tt, (m .run .answers, (m .run .cycles, (m .run .place, tt)))))))))))))) })
+
+abbrev pub SapwoodleWorstIs : Type 0
+SapwoodleWorstIs =
+    Is sapwoodle-worst.ended sapwoodle-worst.Reads.Learnt
+    (λ κs a.
+    let m = finding (a .0) (a .1 .0 .now) in
+    record { result = m .number; left = (tt, (tt, (m .group, (m .count, tt)))) })
 
 abbrev pub SapwoodleWearReportIs : Type 0
 SapwoodleWearReportIs =
@@ -396,8 +427,8 @@ abbrev pub SapwoodleWearBenchRunIs : Type 0
 SapwoodleWearBenchRunIs =
     Is sapwoodle-wear-bench-run.ended sapwoodle-wear-bench-run.Reads.Learnt
     (λ κs a.
-    let m = benchWearing (requestOf (a .0) (a .1 .0) (a .1 .1 .0) (a .1 .1 .1 .0) (a .1 .1 .1 .1 .0) (a .1 .1 .1 .1 .1 .0)) (a .1 .1 .1 .1 .1 .1 .0) (a .1 .1 .1 .1 .1 .1 .1 .0) (a .1 .1 .1 .1 .1 .1 .1 .1 .0 .now) (mem (a .1 .1 .1 .1 .1 .1 .1 .1 .1 .0 .now) (a .1 .1 .1 .1 .1 .1 .1 .1 .1 .1 .0 .now)) (a .1 .1 .1 .1 .1 .1 .1 .1 .1 .1 .1 .0 .now) (a .1 .1 .1 .1 .1 .1 .1 .1 .1 .1 .1 .1 .0 .now) in
-    record { result = m .bench .number; left = (tt, (tt, (tt, (tt, (tt, (tt, (tt, (tt, (m .bench .state, (m .bench .stored .cells, (m .bench .stored .ident, (m .bench .buffer, (m .counts, (m .bench .place, (m .bench .polls, (m .bench .bytes, (m .bench .cycles, (m .bench .clocks, tt)))))))))))))))))) })
+    let m = benchWearing (requestOf (a .0) (a .1 .0) (a .1 .1 .0) (a .1 .1 .1 .0) (a .1 .1 .1 .1 .0) (a .1 .1 .1 .1 .1 .0)) (a .1 .1 .1 .1 .1 .1 .0) (a .1 .1 .1 .1 .1 .1 .1 .0) (a .1 .1 .1 .1 .1 .1 .1 .1 .0 .now) (mem (a .1 .1 .1 .1 .1 .1 .1 .1 .1 .0 .now) (a .1 .1 .1 .1 .1 .1 .1 .1 .1 .1 .0 .now)) (a .1 .1 .1 .1 .1 .1 .1 .1 .1 .1 .1 .0 .now) (a .1 .1 .1 .1 .1 .1 .1 .1 .1 .1 .1 .1 .0 .now) (most (a .1 .1 .1 .1 .1 .1 .1 .1 .1 .1 .1 .1 .1 .0 .now) (a .1 .1 .1 .1 .1 .1 .1 .1 .1 .1 .1 .1 .1 .1 .0 .now)) in
+    record { result = m .bench .number; left = (tt, (tt, (tt, (tt, (tt, (tt, (tt, (tt, (m .bench .state, (m .bench .stored .cells, (m .bench .stored .ident, (m .bench .buffer, (m .counts, (m .worst .group, (m .worst .count, (m .bench .place, (m .bench .polls, (m .bench .bytes, (m .bench .cycles, (m .bench .clocks, tt)))))))))))))))))))) })
 
 abbrev pub SapwoodleSaveWornIs : Type 0
 SapwoodleSaveWornIs =
@@ -410,8 +441,8 @@ abbrev pub SapwoodleLoadWornIs : Type 0
 SapwoodleLoadWornIs =
     Is sapwoodle-load-worn.ended sapwoodle-load-worn.Reads.Learnt
     (λ κs a.
-    let m = loadingWornBytes (a .0 .now) (a .1 .0) (a .1 .1 .0 .now) (mem (a .1 .1 .1 .0 .now) (a .1 .1 .1 .1 .0 .now)) (a .1 .1 .1 .1 .1 .0 .now) in
-    record { result = m .load .number; left = (tt, (tt, (m .load .state, (m .load .stored .cells, (m .load .stored .ident, (m .counts, (m .load .part, tt))))))) })
+    let m = loadingWornBytes (a .0 .now) (a .1 .0) (a .1 .1 .0 .now) (mem (a .1 .1 .1 .0 .now) (a .1 .1 .1 .1 .0 .now)) (a .1 .1 .1 .1 .1 .0 .now) (most (a .1 .1 .1 .1 .1 .1 .1 .0 .now) (a .1 .1 .1 .1 .1 .1 .1 .1 .0 .now)) in
+    record { result = m .load .number; left = (tt, (tt, (m .load .state, (m .load .stored .cells, (m .load .stored .ident, (m .counts, (m .load .part, (m .worst .group, (m .worst .count, tt))))))))) })
 
 abbrev pub SapwoodleToWornIs : Type 0
 SapwoodleToWornIs =
@@ -453,6 +484,9 @@ pub record EveryMachine : Type 0 where
   pub bench-record : BenchRecordIsOurBench
   pub bench-run : BenchRunIsOurBench
   pub wear-run : WearRunIs
+  pub wear-go-on : WearGoOnIs
+  pub wear-mark : MarkIs
+  pub worst-of : WorstOfIs
   pub wear-report : WearReportIs
   pub wear-join : WearJoinIs
   pub bench-run-worn : BenchRunWornIs
@@ -474,6 +508,7 @@ pub record EveryMachine : Type 0 where
   pub sapwoodle-driver-next : SapwoodleDriverNextIs
   pub sapwoodle-bench-run : SapwoodleBenchRunIs
   pub sapwoodle-wear-run : SapwoodleWearRunIs
+  pub sapwoodle-worst : SapwoodleWorstIs
   pub sapwoodle-wear-report : SapwoodleWearReportIs
   pub sapwoodle-wear-join : SapwoodleWearJoinIs
   pub sapwoodle-wear-bench-run : SapwoodleWearBenchRunIs

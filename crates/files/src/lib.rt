@@ -13,13 +13,15 @@ use libc::STDIN_FILENO;
 use parts::Loss;
 use parts::Refusal;
 use parts::Verdict;
+use wear::Most;
 use words::Job;
 use words::Number;
 
-// What became of a chip before its run: it was judged, and whether its file has the counts of its wear; or standard error has the reason.
+// What became of a chip before its run: it was judged, whether its file has the counts of its wear, and the worst of the counts; or standard
+// error has the reason.
 pub enum Ready {
     Told,
-    Judged(Verdict, bool),
+    Judged(Verdict, bool, Most),
 }
 
 // What became of a HEX file; of one that was read and refused, standard error has the reason too.
@@ -175,6 +177,11 @@ pub fn hex_fetched(
 
 // ---- reading an image
 
+// The worst of counts that are all 0.
+fn unworn() -> Most {
+    Most { group: 0, count: 0 }
+}
+
 // Whether the bytes say that counts stand behind the chip.
 pub fn is_worn(bytes: &[u8]) -> bool {
     parts::byte_at(bytes, 4) == 2
@@ -184,7 +191,7 @@ pub fn is_worn(bytes: &[u8]) -> bool {
 fn refused(ready: Ready) -> bool {
     match ready {
         Ready::Told => false,
-        Ready::Judged(verdict, _) => parts::verdict_number(verdict) != 0,
+        Ready::Judged(verdict, _, _) => parts::verdict_number(verdict) != 0,
     }
 }
 
@@ -193,13 +200,14 @@ fn is_image(part: u8, bytes: &[u8]) -> bool {
     let mut array = [0u8; 32768];
     let mut id = [0u8; 64];
     let mut counts = [0u32; 8192];
-    let loaded = image_worn::load_worn(
+    let l = image_worn::load_worn(
         bytes,
         0,
         fitted::array(part, &mut array),
         fitted::id(part, &mut id),
         fitted::counts(part, &mut counts),
     );
+    let loaded = l.loaded;
     let verdict = loaded.verdict;
     parts::verdict_number(verdict) == 0
 }
@@ -210,7 +218,7 @@ fn other(part: u8, bytes: &[u8]) -> Ready {
         warn(b"sapwoodle: the image is of another part than the one named\n");
         return Ready::Told;
     }
-    Ready::Judged(Verdict::Refused(Refusal::BadImage), false)
+    Ready::Judged(Verdict::Refused(Refusal::BadImage), false, unworn())
 }
 
 fn load(
@@ -222,13 +230,15 @@ fn load(
     id: &mut [u8],
     counts: &mut [u32],
 ) -> Ready {
-    let loaded = image_worn::load_worn(bytes, enable, array, id, counts);
+    let l = image_worn::load_worn(bytes, enable, array, id, counts);
+    let loaded = l.loaded;
     if loaded.part != part {
         return other(loaded.part, bytes);
     }
     let verdict = loaded.verdict;
+    let worst = l.worst;
     pack_chip::pack(loaded.chip, held);
-    Ready::Judged(verdict, is_worn(bytes))
+    Ready::Judged(verdict, is_worn(bytes), worst)
 }
 
 fn chip_in(
@@ -247,7 +257,7 @@ fn chip_in(
         }
         let read = hex_chip(word, part, bytes, held, array, id);
         let verdict = read.verdict;
-        return Ready::Judged(verdict, false);
+        return Ready::Judged(verdict, false, unworn());
     }
     let ready = load(part, enable, bytes, held, array, id, counts);
     if refused(ready) {
@@ -311,7 +321,7 @@ pub fn at_first(
     counts: &mut [u32],
 ) -> Ready {
     if job.image == 0 {
-        return Ready::Judged(delivered(job.part, held, array, id), false);
+        return Ready::Judged(delivered(job.part, held, array, id), false, unworn());
     }
     fetched(job.image, job.part, job.own, held, array, id, counts)
 }
@@ -466,9 +476,14 @@ fn save_worn(word: usize, part: u8, held: &[u8], array: &[u8], id: &[u8], counts
     save_in(word, saved, &out)
 }
 
+// Whether counts are saved.
+pub fn keeps(job: Job) -> bool {
+    job.wear & (0 < job.save)
+}
+
 // The same, of the version that the job keeps.
 pub fn save_kept(job: Job, held: &[u8], array: &[u8], id: &[u8], counts: &[u32]) -> bool {
-    if job.wear & (0 < job.save) {
+    if keeps(job) {
         return save_worn(job.save, job.part, held, array, id, counts);
     }
     save(job.save, job.part, held, array, id)

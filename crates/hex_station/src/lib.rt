@@ -5,6 +5,7 @@ use libc::STDERR_FILENO;
 use parts::Refusal;
 use parts::Verdict;
 use state::Chip;
+use wear::Most;
 use words::Job;
 use words::answer;
 
@@ -86,7 +87,7 @@ fn id_delivered(part: u8, id: &[u8]) -> bool {
 }
 
 // What a HEX file does not hold of the chip.
-fn warn_lost(part: u8, chip: Chip, id: &[u8], counts: &[u32]) {
+fn warn_lost(part: u8, chip: Chip, id: &[u8], worst: Most) {
     let line = chip.line;
     let core = line.core;
     if !id_delivered(part, id) {
@@ -97,8 +98,7 @@ fn warn_lost(part: u8, chip: Chip, id: &[u8], counts: &[u32]) {
     if core.locked {
         warn(b"sapwoodle: the lock is not as delivered, and a HEX file does not hold it\n");
     }
-    let worn = wear::report(part, counts);
-    if 0 < worn.total {
+    if 0 < worst.count {
         warn(b"sapwoodle: the image has counts of wear, and a HEX file does not hold them\n");
     }
 }
@@ -130,11 +130,12 @@ fn refuse(word: usize, bytes: &[u8]) -> bool {
 
 // An image has one part; every part has the enable 0.
 fn load(word: usize, bytes: &[u8], array: &mut [u8], id: &mut [u8], counts: &mut [u32]) -> bool {
-    let loaded = image_worn::load_worn(bytes, 0, array, id, counts);
+    let l = image_worn::load_worn(bytes, 0, array, id, counts);
+    let loaded = l.loaded;
     let verdict = loaded.verdict;
     match verdict {
         Verdict::Fine => {
-            warn_lost(loaded.part, loaded.chip, id, counts);
+            warn_lost(loaded.part, loaded.chip, id, l.worst);
             tell_text(loaded.part, array)
         }
         Verdict::Refused(_) => refuse(word, bytes),

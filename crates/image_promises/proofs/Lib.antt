@@ -17,3 +17,4 @@ pub mod Witness
 pub mod Wrong
 pub mod WrongSaves
 pub mod Swapped
+pub mod Worst

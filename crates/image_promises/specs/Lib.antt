@@ -5,3 +5,4 @@ pub mod Numbers
 pub mod Pinned
 pub mod Wrong
 pub mod Swapped
+pub mod Worst

@@ -27,10 +27,11 @@ fn refuse(word: usize, bytes: &[u8], r: Refusal) -> bool {
 
 // Every part has the enable 0.
 fn load(word: usize, bytes: &[u8], array: &mut [u8], id: &mut [u8], counts: &mut [u32]) -> bool {
-    let loaded = image_worn::load_worn(bytes, 0, array, id, counts);
+    let l = image_worn::load_worn(bytes, 0, array, id, counts);
+    let loaded = l.loaded;
     let verdict = loaded.verdict;
     match verdict {
-        Verdict::Fine => show::info(bytes, counts),
+        Verdict::Fine => show::info(bytes, l.worst, counts),
         Verdict::Refused(r) => refuse(word, bytes, r),
     }
 }

@@ -1,13 +1,12 @@
 // What is told of an image and of counts. Each function is told whether what stands before it was written, and says so of its own.
 use parts::Verdict;
+use wear::Most;
 use words::answer;
 use words::answer::address;
 use words::answer::number;
 use words::answer::say;
 use words::report::first_of;
-
-// Where a count stays.
-const FULL: u32 = 4294967295;
+use words::report::or_more;
 
 // ---- counts
 
@@ -15,14 +14,6 @@ pub fn big(ok: bool, n: u64) -> bool {
     let mut text = [0u8; 20];
     let k = io::decimal(n, &mut text);
     say(ok, &text[..k])
-}
-
-// A count that stays at its top says how many there were at least.
-pub fn or_more(ok: bool, most: u32) -> bool {
-    if most == FULL {
-        return say(ok, b" or more");
-    }
-    ok
 }
 
 // The limit is for the proof alone.
@@ -69,17 +60,17 @@ fn head(version: u8, image: &[u8]) -> bool {
 }
 
 // The group with most; none where none is worn.
-fn most(ok: bool, size: usize, group: usize, count: u32) -> bool {
-    if count == 0 {
+fn most(ok: bool, size: usize, worst: Most) -> bool {
+    if worst.count == 0 {
         return ok;
     }
-    let named = number(say(ok, b", most group "), group);
-    let there = address(say(named, b" ("), first_of(group, size));
-    let told = big(say(there, b") "), count as u64);
-    or_more(told, count)
+    let named = number(say(ok, b", most group "), worst.group);
+    let there = address(say(named, b" ("), first_of(worst.group, size));
+    let told = big(say(there, b") "), worst.count as u64);
+    or_more(told, worst.count)
 }
 
-fn tally(ok: bool, part: u8, counts: &[u32]) -> bool {
+fn tally(ok: bool, part: u8, worst: Most, counts: &[u32]) -> bool {
     let f = parts::facts_of(part);
     let r = wear::report(part, counts);
     let verdict = r.verdict;
@@ -87,19 +78,19 @@ fn tally(ok: bool, part: u8, counts: &[u32]) -> bool {
         Verdict::Fine => {
             let one = number(say(ok, b"worn groups "), worn(counts));
             let two = big(say(one, b", total "), r.total);
-            let three = most(or_more(two, r.count), f.group, r.group, r.count);
+            let three = most(or_more(two, worst.count), f.group, worst);
             say(three, b"\n")
         }
         Verdict::Refused(_) => false,
     }
 }
 
-// An image in one line, with its counts beside it.
-pub fn info(image: &[u8], counts: &[u32]) -> bool {
+// An image in one line, with its counts and their worst beside it.
+pub fn info(image: &[u8], worst: Most, counts: &[u32]) -> bool {
     let version = parts::byte_at(image, 4);
     let told = head(version, image);
     if version == 1 {
         return say(told, b"no counts\n");
     }
-    tally(told, image::part_in(image), counts)
+    tally(told, image::part_in(image), worst, counts)
 }

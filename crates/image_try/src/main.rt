@@ -12,6 +12,7 @@ use state::Chip;
 use text::narrow;
 use text::say;
 use text::say_number;
+use wear::Most;
 
 // The numbers of a line, by their places.
 const PART: usize = 0;
@@ -142,6 +143,11 @@ fn tell_save(v: [usize; 16], typed: &[u8]) {
 
 // ---- loading
 
+fn tell_worst(worst: Most) {
+    tell(b"; worst ", worst.group);
+    tell(b" with ", worst.count as usize);
+}
+
 fn load(
     old: bool,
     enable: u8,
@@ -151,9 +157,15 @@ fn load(
     own: &mut [u32],
 ) -> Loaded {
     if old {
-        return image::load(image, enable, array, id);
+        let read = image::load(image, enable, array, id);
+        tell_loaded(read);
+        return read;
     }
-    image_worn::load_worn(image, enable, array, id, own)
+    let worn = image_worn::load_worn(image, enable, array, id, own);
+    let loaded = worn.loaded;
+    tell_loaded(loaded);
+    tell_worst(worn.worst);
+    loaded
 }
 
 // What was loaded is saved again with its counts.
@@ -166,7 +178,6 @@ fn tell_again(
     own: &mut [u32],
 ) {
     let loaded = load(old, enable, image, array, id, own);
-    tell_loaded(loaded);
     say(b"; again ");
     tell_save_of(loaded.part, loaded.chip, array, id, own, LARGE);
 }

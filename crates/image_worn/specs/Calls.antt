@@ -15,6 +15,9 @@ use Rattle.chip.specs.Memory.{Mem}
 use Rattle.image.specs.declared.Loaded.{Loaded}
 use Rattle.image.specs.Layout.{imageLengthOf, partIn, storedIn, formedOf}
 use Rattle.image.specs.Calls.{AfterSave, savedBy, outBy, saveVerdictOf, loadBy}
+use Rattle.wear.specs.declared.Most.{Most}
+use Rattle.wear.specs.Report.{most}
+use Rattle.wear.specs.Worst.{worstBy}
 use Rattle.wear.specs.Calls.{countsVerdictOf, countsBy}
 use Rattle.image_worn.specs.Layout.{wornImageOf, wornLengthOf, wornFormedOf, plainIn, countsIn, wornFrom, plainFrom, allZeroOf}
 
@@ -65,6 +68,17 @@ loadWornBy l m counts v = record { answer = loadBy l v; stored = wornMem l m v; 
 -- of the image, the enable, the two buffers and the counts
 abbrev pub loadingWorn : List ℕ → ℕ → Mem → List ℕ → AfterLoadWorn
 loadingWorn l enable m counts = loadWornBy l m counts (loadWornVerdictOf l enable (length (m .cells)) (length (m .ident)) (length counts))
+
+-- with the worst of the counts that were loaded (document 02, §8: "every write, cut, load and conversion keeps it")
+pub record LoadKept : Type 0 where
+  pub load : AfterLoadWorn
+  pub worst : Most
+
+abbrev pub keptAt : AfterLoadWorn → LoadKept
+keptAt x = record { load = x; worst = worstBy (most 0 0) (x .counts) (x .answer .verdict) }
+
+abbrev pub loadingKept : List ℕ → ℕ → Mem → List ℕ → LoadKept
+loadingKept l enable m counts = keptAt (loadingWorn l enable m counts)
 
 -- ---- from version 1 to version 2: 12 for an image that does not hold its part byte; else refusals 1, 6, 12
 

@@ -10,12 +10,19 @@ ghost use Rattle.parts.specs.Table.{factsOf, groupsOf};
 ghost use Rattle.chip.specs.Memory.{mem};
 ghost use Rattle.image.specs.Layout.{imageLengthOf, storedIn};
 ghost use Rattle.image_worn.specs.Layout.{wornLengthOf, versionIn, plainIn, wordsIn, countsIn, asVersion, wornFrom, plainFrom};
-ghost use Rattle.image_worn.specs.Calls.{saveWornVerdictOf, eitherFormedOf, judgedWornOf, loadWornVerdictOf, toWornVerdictOf, toPlainVerdictOf, savingWorn, loadingWorn, toWornOf, toPlainOf};
+ghost use Rattle.image_worn.specs.Calls.{saveWornVerdictOf, eitherFormedOf, judgedWornOf, loadWornVerdictOf, toWornVerdictOf, toPlainVerdictOf, savingWorn, loadingKept, toWornOf, toPlainOf};
 use image::Loaded;
 use image::Saved;
 use parts::Refusal;
 use parts::Verdict;
 use state::Chip;
+use wear::Most;
+
+// What loading answers, and the worst of the counts that were loaded; group 0 with 0 where the call is refused.
+pub struct LoadedWorn {
+    pub loaded: Loaded,
+    pub worst: Most,
+}
 
 const PLAIN: u8 = 1;
 
@@ -202,22 +209,24 @@ fn load_counts(part: u8, image: &[u8], counts: &mut [u32])
     }
 }
 
-// A chip in standby as after reset, and its counts, from an image of either version and an enable for it.
+// A chip in standby as after reset, its counts and the worst of them, from an image of either version and an enable for it.
 pub fn load_worn(
     image: &[u8],
     enable: u8,
     array: &mut [u8],
     id: &mut [u8],
     counts: &mut [u32],
-) -> Loaded
-    ensures answer { λ r. ⌜ r
-        ≡ loadingWorn (now (image .entry)) enable (mem (now (array .entry)) (now (id .entry))) (now (counts .entry)) .answer ⌝ }
+) -> LoadedWorn
+    ensures answer { λ r. ⌜ r .loaded
+        ≡ loadingKept (now (image .entry)) enable (mem (now (array .entry)) (now (id .entry))) (now (counts .entry)) .load .answer ⌝ }
     ensures cells { λ _. ⌜ now (array .exit)
-        ≡ loadingWorn (now (image .entry)) enable (mem (now (array .entry)) (now (id .entry))) (now (counts .entry)) .stored .cells ⌝ }
+        ≡ loadingKept (now (image .entry)) enable (mem (now (array .entry)) (now (id .entry))) (now (counts .entry)) .load .stored .cells ⌝ }
     ensures ident { λ _. ⌜ now (id .exit)
-        ≡ loadingWorn (now (image .entry)) enable (mem (now (array .entry)) (now (id .entry))) (now (counts .entry)) .stored .ident ⌝ }
+        ≡ loadingKept (now (image .entry)) enable (mem (now (array .entry)) (now (id .entry))) (now (counts .entry)) .load .stored .ident ⌝ }
     ensures counts { λ _. ⌜ now (counts .exit)
-        ≡ loadingWorn (now (image .entry)) enable (mem (now (array .entry)) (now (id .entry))) (now (counts .entry)) .counts ⌝ }
+        ≡ loadingKept (now (image .entry)) enable (mem (now (array .entry)) (now (id .entry))) (now (counts .entry)) .load .counts ⌝ }
+    ensures worst { λ r. ⌜ r .worst
+        ≡ loadingKept (now (image .entry)) enable (mem (now (array .entry)) (now (id .entry))) (now (counts .entry)) .worst ⌝ }
 {
     let verdict = load_verdict(image, enable, array.len(), id.len(), counts.len());
     let part = image::part_in(image);
@@ -226,17 +235,27 @@ pub fn load_worn(
             let lock = image::lock_in(image);
             fill(part, image, array, id);
             load_counts(part, image, counts);
-            Loaded {
+            let loaded = Loaded {
                 verdict: Verdict::Fine,
                 part: part,
                 chip: chip::standby(part, lock),
+            };
+            LoadedWorn {
+                loaded: loaded,
+                worst: wear::worst::most_of(counts),
             }
         }
-        Verdict::Refused(r) => Loaded {
-            verdict: Verdict::Refused(r),
-            part: part,
-            chip: chip::standby(part, false),
-        },
+        Verdict::Refused(r) => {
+            let loaded = Loaded {
+                verdict: Verdict::Refused(r),
+                part: part,
+                chip: chip::standby(part, false),
+            };
+            LoadedWorn {
+                loaded: loaded,
+                worst: Most { group: 0, count: 0 },
+            }
+        }
     }
 }
 

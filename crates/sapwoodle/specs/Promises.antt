@@ -25,10 +25,13 @@ use Rattle.capture.specs.Tallies.{tally}
 use Rattle.image.specs.Layout.{partIn, lockIn}
 use Rattle.image.specs.Calls.{saving}
 use Rattle.image_worn.specs.Calls.{savingWorn}
+use Rattle.wear.specs.declared.Most.{Most}
+use Rattle.wear.specs.Report.{mostOf}
 use Rattle.driver.specs.declared.Request.{Request}
 use Rattle.driver.specs.declared.Answer.the-variants.{Refused}
 use Rattle.driver.specs.Step.{beginOf, driverNextOf, bufferOf}
 use Rattle.bench.specs.Calls.{benchVerdict, benchOf}
+use Rattle.bench.specs.Kept.{benchKeptVerdict}
 use Rattle.pack_chip.specs.Layout.{packedChipOf, holdsChipOf, unpackedChipOf}
 use Rattle.pack_chip.specs.Promises.{ChipFits}
 use Rattle.pack_driver.specs.Layout.{driverLength, holdsDriverOf, unpackedDriverOf}
@@ -38,6 +41,7 @@ use Rattle.sapwoodle.specs.Hexes.{BytesAfterHexRead, BytesAfterHexWrite,
 use Rattle.sapwoodle.specs.Captures.{BytesAfterCapture, BytesAfterEvents, BytesAfterTally, capturedBytes, capturing, listing, tallying}
 use Rattle.sapwoodle.specs.Drivers.{requestOf, BytesAfterBegin, beginning, toldOf, BytesAfterNext, asking}
 use Rattle.sapwoodle.specs.Runs.{BytesAfterBench, benching}
+use Rattle.sapwoodle.specs.Wears.{BytesAfterWear, BytesAfterWearBench}
 use Rattle.sapwoodle.specs.Worns.{BytesAfterLoadWorn, savedBytes, savingWornBytes, loadingWornBytes, toWornBytes, toPlainBytes}
 
 -- ======== the chip
@@ -262,9 +266,9 @@ LoadHolds load =
 abbrev pub SavingWornBytes : Type 0
 SavingWornBytes = ℕ → List ℕ → Mem → List ℕ → List ℕ → BytesAfterSave
 
--- of the image, the enable, the state's bytes, what is stored and the counts
+-- of the image, the enable, the state's bytes, what is stored, the counts and the worst that was held
 abbrev pub LoadingWornBytes : Type 0
-LoadingWornBytes = List ℕ → ℕ → List ℕ → Mem → List ℕ → BytesAfterLoadWorn
+LoadingWornBytes = List ℕ → ℕ → List ℕ → Mem → List ℕ → Most → BytesAfterLoadWorn
 
 -- of the image and the output buffer
 abbrev pub ConvertingBytes : Type 0
@@ -279,9 +283,9 @@ SaveWornKeeps save =
 
 abbrev pub LoadWornKeeps : LoadingWornBytes → Type 0
 LoadWornKeeps load =
-    (l : List ℕ) (enable : ℕ) (s : List ℕ) (m : Mem) (counts : List ℕ) → (load l enable s m counts .load .number ≡ 0 → ⊥)
-    → (load l enable s m counts .load .state ≡ s) × (load l enable s m counts .load .stored ≡ m)
-    × (load l enable s m counts .counts ≡ counts) × (load l enable s m counts .load .part ≡ partIn l)
+    (l : List ℕ) (enable : ℕ) (s : List ℕ) (m : Mem) (counts : List ℕ) (worst : Most) → (load l enable s m counts worst .load .number ≡ 0 → ⊥)
+    → (load l enable s m counts worst .load .state ≡ s) × (load l enable s m counts worst .load .stored ≡ m)
+    × (load l enable s m counts worst .counts ≡ counts) × (load l enable s m counts worst .worst ≡ worst) × (load l enable s m counts worst .load .part ≡ partIn l)
 
 abbrev pub ConvertKeeps : ConvertingBytes → Type 0
 ConvertKeeps convert =
@@ -303,9 +307,59 @@ SaveWornIsImages save =
 -- and the bytes hold the chip that was loaded
 abbrev pub LoadWornHolds : LoadingWornBytes → Type 0
 LoadWornHolds load =
-    (l : List ℕ) (enable : ℕ) (s : List ℕ) (m : Mem) (counts : List ℕ) → load l enable s m counts .load .number ≡ 0
-    → (holdsChipOf (load l enable s m counts .load .state) ≡ true)
-    × (unpackedChipOf (load l enable s m counts .load .state) ≡ standbyOf (factsOf (partIn l)) (lockIn l))
+    (l : List ℕ) (enable : ℕ) (s : List ℕ) (m : Mem) (counts : List ℕ) (worst : Most) → load l enable s m counts worst .load .number ≡ 0
+    → (holdsChipOf (load l enable s m counts worst .load .state) ≡ true)
+    × (unpackedChipOf (load l enable s m counts worst .load .state) ≡ standbyOf (factsOf (partIn l)) (lockIn l))
+
+-- what it answers as the worst is what the walk finds (document 02, §8)
+abbrev pub LoadWornFinds : LoadingWornBytes → Type 0
+LoadWornFinds load =
+    (l : List ℕ) (enable : ℕ) (s : List ℕ) (m : Mem) (counts : List ℕ) (worst : Most) → load l enable s m counts worst .load .number ≡ 0
+    → load l enable s m counts worst .worst ≡ mostOf (load l enable s m counts worst .counts)
+
+-- ======== runs that count wear, with the stored worst (document 02, §6 and §8)
+
+-- of the part, the enable, the page lent for a loss of power and its flag, the state's bytes, what is stored, the counts and the worst of them, the events
+-- and the answer buffer
+abbrev pub Wearing : Type 0
+Wearing = ℕ → ℕ → List ℕ → ℕ → List ℕ → Mem → List ℕ → Most → List ℕ → List ℕ → BytesAfterWear
+
+pub record WearBytesKeep (wear : Wearing) : Type 0 where
+  -- "a call refused for bad input changes no byte", no count and not the worst
+  pub refused : (part enable : ℕ) (page : List ℕ) (lock : ℕ) (s : List ℕ) (m : Mem) (counts : List ℕ) (worst : Most) (es a : List ℕ)
+      → (wear part enable page lock s m counts worst es a .run .number ≡ 0 → ⊥)
+      → (wear part enable page lock s m counts worst es a .run .state ≡ s)
+      × (wear part enable page lock s m counts worst es a .run .stored ≡ m)
+      × (wear part enable page lock s m counts worst es a .run .answers ≡ a)
+      × (wear part enable page lock s m counts worst es a .run .cycles ≡ 0)
+      × (wear part enable page lock s m counts worst es a .counts ≡ counts)
+      × (wear part enable page lock s m counts worst es a .worst ≡ worst)
+  -- any other leaves the worst that the walk finds
+  pub walk : (part enable : ℕ) (page : List ℕ) (lock : ℕ) (s : List ℕ) (m : Mem) (counts : List ℕ) (worst : Most) (es a : List ℕ)
+      → wear part enable page lock s m counts worst es a .run .number ≡ 0
+      → wear part enable page lock s m counts worst es a .worst ≡ mostOf (wear part enable page lock s m counts worst es a .counts)
+
+-- of the request, the chip's own enable, d, the state's bytes, what is stored, the buffer, the counts and the worst of them
+abbrev pub BenchWearing : Type 0
+BenchWearing = Request → ℕ → ℕ → List ℕ → Mem → List ℕ → List ℕ → Most → BytesAfterWearBench
+
+-- from the worst that the walk finds on, refused or not, by us or by the driver
+abbrev pub BenchWearWalks : BenchWearing → Type 0
+BenchWearWalks bench =
+    (r : Request) (enable d : ℕ) (s : List ℕ) (m : Mem) (b counts : List ℕ) (worst : Most) → worst ≡ mostOf counts
+    → bench r enable d s m b counts worst .worst ≡ mostOf (bench r enable d s m b counts worst .counts)
+
+-- "a call refused for bad input changes no byte", no count and not the worst
+abbrev pub BenchWearKeeps : BenchWearing → Type 0
+BenchWearKeeps bench =
+    (r : Request) (enable d : ℕ) (s : List ℕ) (m : Mem) (b counts : List ℕ) (worst : Most) (x : Refusal) → AllBelow 256 s
+    → benchKeptVerdict r enable d (unpackedChipOf s) m b counts worst ≡ Judged x
+    → (bench r enable d s m b counts worst .bench .number ≡ numberOf x)
+    × (bench r enable d s m b counts worst .worst ≡ worst)
+    × (bench r enable d s m b counts worst .counts ≡ counts)
+    × (bench r enable d s m b counts worst .bench .state ≡ s)
+    × (bench r enable d s m b counts worst .bench .stored ≡ m)
+    × (bench r enable d s m b counts worst .bench .buffer ≡ b)
 
 -- ======== the driver
 

@@ -2,13 +2,15 @@
 ghost use mathlib.Core.Path.{_≡_};
 ghost use Rattle.parts.specs.Table.{factsOf};
 ghost use Rattle.chip.specs.Memory.{mem};
+ghost use Rattle.wear.specs.Report.{most};
 ghost use Rattle.wear.specs.Calls.{groupCountOf};
 ghost use Rattle.sapwoodle.specs.Drivers.{requestOf};
-ghost use Rattle.sapwoodle.specs.Wears.{wearing, reporting, joining, benchWearing};
+ghost use Rattle.sapwoodle.specs.Wears.{wearing, finding, reporting, joining, benchWearing};
 use crate::answers;
 use crate::chips;
 use crate::drivers;
 use crate::runs;
+use wear::Most;
 
 // How many counts a part has; 0 where there is no such part.
 #[no_mangle]
@@ -18,7 +20,7 @@ pub extern "C" fn sapwoodle_groups(part: u8) -> usize
     wear::groups(part)
 }
 
-// `sapwoodle_run`, and the counts go on by the cycles that end or are cut.
+// `sapwoodle_run`, and the counts go on by the cycles that end or are cut; the worst of them, `group` and `count`, goes in and comes back.
 #[no_mangle]
 pub extern "C" fn sapwoodle_wear_run(
     part: u8,
@@ -29,36 +31,48 @@ pub extern "C" fn sapwoodle_wear_run(
     array: &mut [u8],
     id: &mut [u8],
     counts: &mut [u32],
+    group: &mut usize,
+    count: &mut u32,
     events: &[u8],
     answers: &mut [u8],
     cycles: &mut usize,
     at: &mut usize,
 ) -> u8
     ensures answer { λ r. ⌜ r
-        ≡ wearing part enable (now (page .entry)) lock (now (state .entry)) (mem (now (array .entry)) (now (id .entry))) (now (counts .entry)) (now (events .entry))
-        (now (answers .entry)) .run .number ⌝ }
+        ≡ wearing part enable (now (page .entry)) lock (now (state .entry)) (mem (now (array .entry)) (now (id .entry))) (now (counts .entry))
+        (most (now (group .entry)) (now (count .entry))) (now (events .entry)) (now (answers .entry)) .run .number ⌝ }
     ensures state { λ _. ⌜ now (state .exit)
-        ≡ wearing part enable (now (page .entry)) lock (now (state .entry)) (mem (now (array .entry)) (now (id .entry))) (now (counts .entry)) (now (events .entry))
-        (now (answers .entry)) .run .state ⌝ }
+        ≡ wearing part enable (now (page .entry)) lock (now (state .entry)) (mem (now (array .entry)) (now (id .entry))) (now (counts .entry))
+        (most (now (group .entry)) (now (count .entry))) (now (events .entry)) (now (answers .entry)) .run .state ⌝ }
     ensures stored { λ _. ⌜ mem (now (array .exit)) (now (id .exit))
-        ≡ wearing part enable (now (page .entry)) lock (now (state .entry)) (mem (now (array .entry)) (now (id .entry))) (now (counts .entry)) (now (events .entry))
-        (now (answers .entry)) .run .stored ⌝ }
+        ≡ wearing part enable (now (page .entry)) lock (now (state .entry)) (mem (now (array .entry)) (now (id .entry))) (now (counts .entry))
+        (most (now (group .entry)) (now (count .entry))) (now (events .entry)) (now (answers .entry)) .run .stored ⌝ }
     ensures counts { λ _. ⌜ now (counts .exit)
-        ≡ wearing part enable (now (page .entry)) lock (now (state .entry)) (mem (now (array .entry)) (now (id .entry))) (now (counts .entry)) (now (events .entry))
-        (now (answers .entry)) .counts ⌝ }
+        ≡ wearing part enable (now (page .entry)) lock (now (state .entry)) (mem (now (array .entry)) (now (id .entry))) (now (counts .entry))
+        (most (now (group .entry)) (now (count .entry))) (now (events .entry)) (now (answers .entry)) .counts ⌝ }
     ensures levels { λ _. ⌜ now (answers .exit)
-        ≡ wearing part enable (now (page .entry)) lock (now (state .entry)) (mem (now (array .entry)) (now (id .entry))) (now (counts .entry)) (now (events .entry))
-        (now (answers .entry)) .run .answers ⌝ }
+        ≡ wearing part enable (now (page .entry)) lock (now (state .entry)) (mem (now (array .entry)) (now (id .entry))) (now (counts .entry))
+        (most (now (group .entry)) (now (count .entry))) (now (events .entry)) (now (answers .entry)) .run .answers ⌝ }
     ensures cycles { λ _. ⌜ now (cycles .exit)
-        ≡ wearing part enable (now (page .entry)) lock (now (state .entry)) (mem (now (array .entry)) (now (id .entry))) (now (counts .entry)) (now (events .entry))
-        (now (answers .entry)) .run .cycles ⌝ }
+        ≡ wearing part enable (now (page .entry)) lock (now (state .entry)) (mem (now (array .entry)) (now (id .entry))) (now (counts .entry))
+        (most (now (group .entry)) (now (count .entry))) (now (events .entry)) (now (answers .entry)) .run .cycles ⌝ }
     ensures place { λ _. ⌜ now (at .exit)
-        ≡ wearing part enable (now (page .entry)) lock (now (state .entry)) (mem (now (array .entry)) (now (id .entry))) (now (counts .entry)) (now (events .entry))
-        (now (answers .entry)) .run .place ⌝ }
+        ≡ wearing part enable (now (page .entry)) lock (now (state .entry)) (mem (now (array .entry)) (now (id .entry))) (now (counts .entry))
+        (most (now (group .entry)) (now (count .entry))) (now (events .entry)) (now (answers .entry)) .run .place ⌝ }
+    ensures group { λ _. ⌜ now (group .exit)
+        ≡ wearing part enable (now (page .entry)) lock (now (state .entry)) (mem (now (array .entry)) (now (id .entry))) (now (counts .entry))
+        (most (now (group .entry)) (now (count .entry))) (now (events .entry)) (now (answers .entry)) .worst .group ⌝ }
+    ensures count { λ _. ⌜ now (count .exit)
+        ≡ wearing part enable (now (page .entry)) lock (now (state .entry)) (mem (now (array .entry)) (now (id .entry))) (now (counts .entry))
+        (most (now (group .entry)) (now (count .entry))) (now (events .entry)) (now (answers .entry)) .worst .count ⌝ }
 {
     let chip = pack_chip::unpack(state);
     let loss = chips::loss_from(page.len(), lock);
-    let r = wear::run(
+    let held = Most {
+        group: *group,
+        count: *count,
+    };
+    let w = wear::run(
         part,
         enable,
         loss,
@@ -67,14 +81,39 @@ pub extern "C" fn sapwoodle_wear_run(
         array,
         id,
         counts,
+        held,
         events,
         answers,
     );
+    let r = w.ran;
+    let worst = w.most;
     let verdict = r.verdict;
     let next = r.chip;
+    *group = worst.group;
+    *count = worst.count;
     *cycles = r.cycles;
     *at = parts::verdict_place(verdict);
     answers::settle(verdict, next, state)
+}
+
+// The worst of the counts, found by a walk: for who begins.
+#[no_mangle]
+pub extern "C" fn sapwoodle_worst(
+    part: u8,
+    counts: &[u32],
+    group: &mut usize,
+    count: &mut u32,
+) -> u8
+    ensures answer { λ r. ⌜ r ≡ finding part (now (counts .entry)) .number ⌝ }
+    ensures group { λ _. ⌜ now (group .exit) ≡ finding part (now (counts .entry)) .group ⌝ }
+    ensures count { λ _. ⌜ now (count .exit) ≡ finding part (now (counts .entry)) .count ⌝ }
+{
+    let f = wear::worst_of(part, counts);
+    let verdict = f.verdict;
+    let worst = f.worst;
+    *group = worst.group;
+    *count = worst.count;
+    parts::verdict_number(verdict)
 }
 
 // The sum of the counts, and the group with most.
@@ -109,7 +148,7 @@ pub extern "C" fn sapwoodle_wear_join(part: u8, counts: &mut [u32], more: &[u32]
     parts::verdict_number(verdict)
 }
 
-// `sapwoodle_bench_run`, and the counts go on by the cycles that end in it.
+// `sapwoodle_bench_run`, and the counts go on by the cycles that end in it; the worst of them goes in and comes back.
 #[no_mangle]
 pub extern "C" fn sapwoodle_wear_bench_run(
     part: u8,
@@ -125,6 +164,8 @@ pub extern "C" fn sapwoodle_wear_bench_run(
     id: &mut [u8],
     buffer: &mut [u8],
     counts: &mut [u32],
+    group: &mut usize,
+    count: &mut u32,
     place: &mut usize,
     polls: &mut usize,
     bytes: &mut usize,
@@ -133,40 +174,54 @@ pub extern "C" fn sapwoodle_wear_bench_run(
 ) -> u8
     ensures answer { λ r. ⌜ r
         ≡ benchWearing (requestOf part enable what at length budget) own d (now (state .entry)) (mem (now (array .entry)) (now (id .entry))) (now (buffer .entry))
-        (now (counts .entry)) .bench .number ⌝ }
+        (now (counts .entry)) (most (now (group .entry)) (now (count .entry))) .bench .number ⌝ }
     ensures state { λ _. ⌜ now (state .exit)
         ≡ benchWearing (requestOf part enable what at length budget) own d (now (state .entry)) (mem (now (array .entry)) (now (id .entry))) (now (buffer .entry))
-        (now (counts .entry)) .bench .state ⌝ }
+        (now (counts .entry)) (most (now (group .entry)) (now (count .entry))) .bench .state ⌝ }
     ensures stored { λ _. ⌜ mem (now (array .exit)) (now (id .exit))
         ≡ benchWearing (requestOf part enable what at length budget) own d (now (state .entry)) (mem (now (array .entry)) (now (id .entry))) (now (buffer .entry))
-        (now (counts .entry)) .bench .stored ⌝ }
+        (now (counts .entry)) (most (now (group .entry)) (now (count .entry))) .bench .stored ⌝ }
     ensures buffer { λ _. ⌜ now (buffer .exit)
         ≡ benchWearing (requestOf part enable what at length budget) own d (now (state .entry)) (mem (now (array .entry)) (now (id .entry))) (now (buffer .entry))
-        (now (counts .entry)) .bench .buffer ⌝ }
+        (now (counts .entry)) (most (now (group .entry)) (now (count .entry))) .bench .buffer ⌝ }
     ensures counts { λ _. ⌜ now (counts .exit)
         ≡ benchWearing (requestOf part enable what at length budget) own d (now (state .entry)) (mem (now (array .entry)) (now (id .entry))) (now (buffer .entry))
-        (now (counts .entry)) .counts ⌝ }
+        (now (counts .entry)) (most (now (group .entry)) (now (count .entry))) .counts ⌝ }
     ensures place { λ _. ⌜ now (place .exit)
         ≡ benchWearing (requestOf part enable what at length budget) own d (now (state .entry)) (mem (now (array .entry)) (now (id .entry))) (now (buffer .entry))
-        (now (counts .entry)) .bench .place ⌝ }
+        (now (counts .entry)) (most (now (group .entry)) (now (count .entry))) .bench .place ⌝ }
     ensures polls { λ _. ⌜ now (polls .exit)
         ≡ benchWearing (requestOf part enable what at length budget) own d (now (state .entry)) (mem (now (array .entry)) (now (id .entry))) (now (buffer .entry))
-        (now (counts .entry)) .bench .polls ⌝ }
+        (now (counts .entry)) (most (now (group .entry)) (now (count .entry))) .bench .polls ⌝ }
     ensures bytes { λ _. ⌜ now (bytes .exit)
         ≡ benchWearing (requestOf part enable what at length budget) own d (now (state .entry)) (mem (now (array .entry)) (now (id .entry))) (now (buffer .entry))
-        (now (counts .entry)) .bench .bytes ⌝ }
+        (now (counts .entry)) (most (now (group .entry)) (now (count .entry))) .bench .bytes ⌝ }
     ensures cycles { λ _. ⌜ now (cycles .exit)
         ≡ benchWearing (requestOf part enable what at length budget) own d (now (state .entry)) (mem (now (array .entry)) (now (id .entry))) (now (buffer .entry))
-        (now (counts .entry)) .bench .cycles ⌝ }
+        (now (counts .entry)) (most (now (group .entry)) (now (count .entry))) .bench .cycles ⌝ }
     ensures clocks { λ _. ⌜ now (clocks .exit)
         ≡ benchWearing (requestOf part enable what at length budget) own d (now (state .entry)) (mem (now (array .entry)) (now (id .entry))) (now (buffer .entry))
-        (now (counts .entry)) .bench .clocks ⌝ }
+        (now (counts .entry)) (most (now (group .entry)) (now (count .entry))) .bench .clocks ⌝ }
+    ensures group { λ _. ⌜ now (group .exit)
+        ≡ benchWearing (requestOf part enable what at length budget) own d (now (state .entry)) (mem (now (array .entry)) (now (id .entry))) (now (buffer .entry))
+        (now (counts .entry)) (most (now (group .entry)) (now (count .entry))) .worst .group ⌝ }
+    ensures count { λ _. ⌜ now (count .exit)
+        ≡ benchWearing (requestOf part enable what at length budget) own d (now (state .entry)) (mem (now (array .entry)) (now (id .entry))) (now (buffer .entry))
+        (now (counts .entry)) (most (now (group .entry)) (now (count .entry))) .worst .count ⌝ }
 {
     let asked = drivers::request(part, enable, what, at, length, budget);
     let chip = pack_chip::unpack(state);
-    let r = bench::run_worn(asked, own, d, chip, array, id, buffer, counts);
+    let held = Most {
+        group: *group,
+        count: *count,
+    };
+    let k = bench::run_worn(asked, own, d, chip, array, id, buffer, counts, held);
+    let r = k.report;
+    let worst = k.worst;
     let verdict = r.verdict;
     let next = r.chip;
+    *group = worst.group;
+    *count = worst.count;
     *place = parts::verdict_place(verdict);
     *polls = r.polls;
     *bytes = r.bytes;

@@ -1,10 +1,12 @@
 // Images with counts of wear: saved, loaded, made of an image without counts and made into one.
 ghost use mathlib.Core.Path.{_≡_};
 ghost use Rattle.chip.specs.Memory.{mem};
-ghost use Rattle.sapwoodle.specs.Worns.{unheldWornOf, savingWornBytes, loadingWornBytes, toWornBytes, toPlainBytes};
+ghost use Rattle.wear.specs.Report.{most};
+ghost use Rattle.sapwoodle.specs.Worns.{unheldWornOf, foundOr, savingWornBytes, loadingWornBytes, toWornBytes, toPlainBytes};
 use crate::answers;
 use crate::images;
 use parts::Verdict;
+use wear::Most;
 
 // The chip and the counts beside it into a lent buffer; `written` gets the length of their image.
 #[no_mangle]
@@ -40,7 +42,17 @@ fn unheld(part: u8, enable: u8, array: &[u8], id: &[u8], n: usize) -> Verdict
     parts::sooner(counted, lent)
 }
 
-// A chip and its counts from an image of either version and an enable for it; `part` gets its part byte.
+// The worst that a load found; where it is refused, the one that was held.
+fn found_or(found: Most, held: Most, verdict: Verdict) -> Most
+    ensures { λ r. ⌜ r ≡ foundOr found held verdict ⌝ }
+{
+    match verdict {
+        Verdict::Fine => found,
+        Verdict::Refused(_) => held,
+    }
+}
+
+// A chip, its counts and the worst of them from an image of either version and an enable for it; `part` gets its part byte.
 #[no_mangle]
 pub extern "C" fn sapwoodle_load_worn(
     image: &[u8],
@@ -50,19 +62,33 @@ pub extern "C" fn sapwoodle_load_worn(
     id: &mut [u8],
     counts: &mut [u32],
     part: &mut u8,
+    group: &mut usize,
+    count: &mut u32,
 ) -> u8
     ensures answer { λ r. ⌜ r
-        ≡ loadingWornBytes (now (image .entry)) enable (now (state .entry)) (mem (now (array .entry)) (now (id .entry))) (now (counts .entry)) .load .number ⌝ }
+        ≡ loadingWornBytes (now (image .entry)) enable (now (state .entry)) (mem (now (array .entry)) (now (id .entry))) (now (counts .entry))
+        (most (now (group .entry)) (now (count .entry))) .load .number ⌝ }
     ensures state { λ _. ⌜ now (state .exit)
-        ≡ loadingWornBytes (now (image .entry)) enable (now (state .entry)) (mem (now (array .entry)) (now (id .entry))) (now (counts .entry)) .load .state ⌝ }
+        ≡ loadingWornBytes (now (image .entry)) enable (now (state .entry)) (mem (now (array .entry)) (now (id .entry))) (now (counts .entry))
+        (most (now (group .entry)) (now (count .entry))) .load .state ⌝ }
     ensures cells { λ _. ⌜ now (array .exit)
-        ≡ loadingWornBytes (now (image .entry)) enable (now (state .entry)) (mem (now (array .entry)) (now (id .entry))) (now (counts .entry)) .load .stored .cells ⌝ }
+        ≡ loadingWornBytes (now (image .entry)) enable (now (state .entry)) (mem (now (array .entry)) (now (id .entry))) (now (counts .entry))
+        (most (now (group .entry)) (now (count .entry))) .load .stored .cells ⌝ }
     ensures ident { λ _. ⌜ now (id .exit)
-        ≡ loadingWornBytes (now (image .entry)) enable (now (state .entry)) (mem (now (array .entry)) (now (id .entry))) (now (counts .entry)) .load .stored .ident ⌝ }
+        ≡ loadingWornBytes (now (image .entry)) enable (now (state .entry)) (mem (now (array .entry)) (now (id .entry))) (now (counts .entry))
+        (most (now (group .entry)) (now (count .entry))) .load .stored .ident ⌝ }
     ensures counts { λ _. ⌜ now (counts .exit)
-        ≡ loadingWornBytes (now (image .entry)) enable (now (state .entry)) (mem (now (array .entry)) (now (id .entry))) (now (counts .entry)) .counts ⌝ }
+        ≡ loadingWornBytes (now (image .entry)) enable (now (state .entry)) (mem (now (array .entry)) (now (id .entry))) (now (counts .entry))
+        (most (now (group .entry)) (now (count .entry))) .counts ⌝ }
     ensures part { λ _. ⌜ now (part .exit)
-        ≡ loadingWornBytes (now (image .entry)) enable (now (state .entry)) (mem (now (array .entry)) (now (id .entry))) (now (counts .entry)) .load .part ⌝ }
+        ≡ loadingWornBytes (now (image .entry)) enable (now (state .entry)) (mem (now (array .entry)) (now (id .entry))) (now (counts .entry))
+        (most (now (group .entry)) (now (count .entry))) .load .part ⌝ }
+    ensures group { λ _. ⌜ now (group .exit)
+        ≡ loadingWornBytes (now (image .entry)) enable (now (state .entry)) (mem (now (array .entry)) (now (id .entry))) (now (counts .entry))
+        (most (now (group .entry)) (now (count .entry))) .worst .group ⌝ }
+    ensures count { λ _. ⌜ now (count .exit)
+        ≡ loadingWornBytes (now (image .entry)) enable (now (state .entry)) (mem (now (array .entry)) (now (id .entry))) (now (counts .entry))
+        (most (now (group .entry)) (now (count .entry))) .worst .count ⌝ }
 {
     let own = image::part_in(image);
     *part = own;
@@ -72,8 +98,16 @@ pub extern "C" fn sapwoodle_load_worn(
         return parts::verdict_number(verdict);
     }
     let l = image_worn::load_worn(image, enable, array, id, counts);
-    let verdict = l.verdict;
-    let chip = l.chip;
+    let loaded = l.loaded;
+    let verdict = loaded.verdict;
+    let chip = loaded.chip;
+    let held = Most {
+        group: *group,
+        count: *count,
+    };
+    let worst = found_or(l.worst, held, verdict);
+    *group = worst.group;
+    *count = worst.count;
     answers::settle(verdict, chip, state)
 }
 

@@ -12,21 +12,24 @@ use power_station::cut::Under;
 use power_station::ground;
 use power_station::request;
 use state::Chip;
+use wear::Most;
 use words::Job;
 use words::answer;
 use words::answer::number;
 use words::answer::say;
 use words::report;
 
-// The driver after some events of a tape; `level` is what it is told next.
+// The driver after some events of a tape; `level` is what it is told next. `worst` is the worst of the counts.
 struct Halted {
     driver: Driver,
     level: u8,
     cycles: usize,
     clocks: usize,
+    worst: Most,
 }
 
-// What the cut found: the cycle that the chip was in, and what the driver had told by then: what it answers next, and its figures.
+// What the cut found: the cycle that the chip was in, and what the driver had told by then: what it answers next, and its figures; and the worst
+// of the counts.
 struct Standing {
     under: Under,
     next: Answer,
@@ -34,6 +37,7 @@ struct Standing {
     polls: usize,
     cycles: usize,
     clocks: usize,
+    worst: Most,
 }
 
 const ENDS: u8 = 4;
@@ -57,15 +61,35 @@ fn asked(h: Halted, code: u8, t: Taken, data: &mut [u8]) -> Halted {
         level: t.level,
         cycles: cut::counted(h.cycles, t.begins),
         clocks: cut::counted(h.clocks, code < 2),
+        ..h
     }
 }
 
+// The cycle that ends or is cut now counts.
+fn mark(part: u8, held: &[u8], counts: &mut [u32], worst: Most) -> Most {
+    wear::worst::worse(worst, wear::mark(part, pack_chip::unpack(held), counts))
+}
+
 // A cycle counts when it ends.
-fn count(part: u8, code: u8, held: &[u8], counts: &mut [u32]) {
+fn count(part: u8, code: u8, held: &[u8], counts: &mut [u32], worst: Most) -> Most {
     if code != ENDS {
-        return;
+        return worst;
     }
-    wear::mark(part, pack_chip::unpack(held), counts);
+    mark(part, held, counts, worst)
+}
+
+fn taken(
+    part: u8,
+    enable: u8,
+    h: Halted,
+    code: u8,
+    held: &mut [u8],
+    array: &mut [u8],
+    id: &mut [u8],
+    data: &mut [u8],
+) -> Halted {
+    let t = power_station::take(part, enable, code, held, array, id);
+    asked(h, code, t, data)
 }
 
 fn step(
@@ -79,9 +103,9 @@ fn step(
     counts: &mut [u32],
     data: &mut [u8],
 ) -> Halted {
-    count(part, code, held, counts);
-    let t = power_station::take(part, enable, code, held, array, id);
-    asked(h, code, t, data)
+    let worst = count(part, code, held, counts, h.worst);
+    let next = Halted { worst, ..h };
+    taken(part, enable, next, code, held, array, id, data)
 }
 
 fn replay(
@@ -104,7 +128,7 @@ fn replay(
     h
 }
 
-fn begun(job: Job) -> Halted {
+fn begun(job: Job, worst: Most) -> Halted {
     let b = driver::begin(request(job));
     let driver = b.driver;
     Halted {
@@ -112,6 +136,7 @@ fn begun(job: Job) -> Halted {
         level: 1,
         cycles: 0,
         clocks: 0,
+        worst,
     }
 }
 
@@ -122,6 +147,7 @@ fn figures(part: u8, h: Halted, held: &[u8], data: &mut [u8]) -> Standing {
     let next = asked.answer;
     let driver = h.driver;
     let counts = driver.counts;
+    let worst = h.worst;
     Standing {
         under,
         next,
@@ -129,6 +155,7 @@ fn figures(part: u8, h: Halted, held: &[u8], data: &mut [u8]) -> Standing {
         polls: counts.polls,
         cycles: h.cycles,
         clocks: h.clocks,
+        worst,
     }
 }
 
@@ -140,10 +167,11 @@ fn replayed(
     array: &mut [u8],
     id: &mut [u8],
     counts: &mut [u32],
+    worst: Most,
     data: &mut [u8],
 ) -> Standing {
     let k = job.cut;
-    let first = begun(job);
+    let first = begun(job, worst);
     if k <= events.len() {
         let h = replay(
             job.part,
@@ -341,9 +369,11 @@ fn lose(
     array: &mut [u8],
     id: &mut [u8],
     counts: &mut [u32],
-) {
-    wear::mark(job.part, pack_chip::unpack(held), counts);
+    before: Most,
+) -> Most {
+    let worst = mark(job.part, held, counts, before);
     pack_chip::pack(lost(job, page, pack_chip::unpack(held), array, id), held);
+    worst
 }
 
 fn cut_chip(
@@ -354,11 +384,12 @@ fn cut_chip(
     array: &mut [u8],
     id: &mut [u8],
     counts: &mut [u32],
+    before: Most,
     data: &mut [u8],
 ) -> Standing {
-    let found = replayed(job, events, held, array, id, counts, data);
-    lose(job, page, held, array, id, counts);
-    found
+    let found = replayed(job, events, held, array, id, counts, before, data);
+    let worst = lose(job, page, held, array, id, counts, found.worst);
+    Standing { worst, ..found }
 }
 
 // `was` has what stood before the run.
@@ -377,7 +408,8 @@ fn tell(
     let told = tell_driver(named, job, found);
     let taped = tell_tape(told, job, events, levels);
     let listed = tell_memory(taped, job, false, was, array);
-    tell_memory(listed, job, true, was_id, id)
+    let all = tell_memory(listed, job, true, was_id, id);
+    crate::tell_worst(all, job, found.worst)
 }
 
 // The files stand before the report is told.
@@ -403,13 +435,14 @@ fn cut_run(
     array: &mut [u8],
     id: &mut [u8],
     counts: &mut [u32],
+    worst: Most,
     was: &[u8],
     was_id: &[u8],
     data: &mut [u8],
     events: &mut [u8],
     levels: &mut [u8],
 ) -> bool {
-    let found = cut_chip(job, page, events, held, array, id, counts, data);
+    let found = cut_chip(job, page, events, held, array, id, counts, worst, data);
     if stored(job, held, array, id, counts, events, levels) {
         return tell(job, found, array, id, was, was_id, events, levels);
     }
@@ -457,6 +490,7 @@ fn run_on(
     array: &mut [u8],
     id: &mut [u8],
     counts: &mut [u32],
+    worst: Most,
     was: &mut [u8],
     was_id: &mut [u8],
     data: &mut [u8],
@@ -486,6 +520,7 @@ fn run_on(
             array,
             id,
             counts,
+            worst,
             was,
             was_id,
             data,
@@ -503,6 +538,7 @@ pub fn run(
     array: &mut [u8],
     id: &mut [u8],
     counts: &mut [u32],
+    worst: Most,
     data: &mut [u8],
 ) -> bool {
     let mut was = [0u8; 32768];
@@ -514,6 +550,7 @@ pub fn run(
         array,
         id,
         counts,
+        worst,
         fitted::array(job.part, &mut was),
         fitted::id(job.part, &mut was_id),
         data,

@@ -4,17 +4,27 @@ mod cutting;
 mod show;
 mod wires;
 
+use bench::Kept;
 use files::Ready;
 use parts::Loss;
+use parts::Refusal;
 use parts::Verdict;
 use power_station::Ended;
 use power_station::TAPE;
 use power_station::ground;
 use power_station::recorded;
 use power_station::request;
+use wear::Most;
 use words::Job;
 use words::answer;
+use words::answer::say;
 use words::report;
+
+// The worst of the counts behind a run; and whether they bear the one out that stood before it.
+struct Counted {
+    right: bool,
+    worst: Most,
+}
 
 // ---- the run
 
@@ -95,15 +105,34 @@ fn tell_report(job: Job, e: Ended) -> bool {
     )
 }
 
-// Of a read that is done.
-fn tell_bytes(ok: bool, job: Job, verdict: Verdict, data: &[u8]) -> bool {
+// The last line, where counts are saved: the most worn group, if there is one.
+fn tell_worst(ok: bool, job: Job, worst: Most) -> bool {
+    let f = parts::facts_of(job.part);
+    if files::keeps(job) & (0 < worst.count) {
+        return say(report::most(ok, f.group, worst.group, worst.count), b"\n");
+    }
+    ok
+}
+
+// Of a run that is done: the bytes of a read, and the worst.
+fn tell_rest(ok: bool, job: Job, verdict: Verdict, data: &[u8], worst: Most) -> bool {
     match verdict {
-        Verdict::Fine => dump(ok, job, data),
+        Verdict::Fine => tell_worst(dump(ok, job, data), job, worst),
         Verdict::Refused(_) => ok,
     }
 }
 
-// The counts go on by the cycles that end in the run.
+// The worst is found as a file is loaded, so the counts bear it out, and this is never told.
+fn tell_wrong_worst() -> bool {
+    let r = parts::number(Refusal::BadState);
+    let told = answer::number(say(true, b"refused "), text::wide(r));
+    say(
+        told,
+        b": the stored worst group is not what the counts say\n",
+    )
+}
+
+// The counts go on by the cycles that end in the run, and their worst with them.
 fn run_worn(
     job: Job,
     held: &[u8],
@@ -111,7 +140,8 @@ fn run_worn(
     id: &mut [u8],
     data: &mut [u8],
     counts: &mut [u32],
-) {
+    worst: Most,
+) -> Kept {
     bench::run_worn(
         request(job),
         job.own,
@@ -121,27 +151,49 @@ fn run_worn(
         id,
         data,
         counts,
-    );
+        worst,
+    )
 }
 
-// Where counts are kept, the run goes over copies first: a tape may be too short to count by.
-fn count(job: Job, held: &[u8], array: &[u8], id: &[u8], data: &[u8], counts: &mut [u32]) {
-    if !job.wear {
-        return;
+// 4 can be said of nothing else here: the chip and the bytes are as the run asks for them.
+fn behind_run(kept: Kept) -> Counted {
+    let report = kept.report;
+    let verdict = report.verdict;
+    let worst = kept.worst;
+    let wrong = parts::verdict_number(verdict) == parts::number(Refusal::BadState);
+    Counted {
+        right: !wrong,
+        worst,
+    }
+}
+
+// Where counts are saved, the run goes over copies first: a tape may be too short to count by.
+fn count(
+    job: Job,
+    held: &[u8],
+    array: &[u8],
+    id: &[u8],
+    data: &[u8],
+    counts: &mut [u32],
+    worst: Most,
+) -> Counted {
+    if !files::keeps(job) {
+        return Counted { right: true, worst };
     }
     let mut other = [0u8; 32768];
     let mut other_id = [0u8; 64];
     let mut bytes = [0u8; 32769];
     power_station::copy(array, id, &mut other, &mut other_id);
     files::extend(&mut bytes, 0, data);
-    run_worn(
+    behind_run(run_worn(
         job,
         held,
         fitted::array(job.part, &mut other),
         fitted::id(job.part, &mut other_id),
         fitted::first(&mut bytes, data.len()),
         counts,
-    );
+        worst,
+    ))
 }
 
 // The files stand before the report is told.
@@ -151,6 +203,7 @@ fn run(
     array: &mut [u8],
     id: &mut [u8],
     counts: &[u32],
+    worst: Most,
     data: &mut [u8],
 ) -> bool {
     let mut events = power_station::tape();
@@ -165,7 +218,7 @@ fn run(
     }
     let told = tell_report(job, e);
     let taped = tell_tape(told, job.events, e.sent, &mut events, &mut levels);
-    tell_bytes(taped, job, verdict, data)
+    tell_rest(taped, job, verdict, data, worst)
 }
 
 fn run_or_cut(
@@ -175,13 +228,17 @@ fn run_or_cut(
     array: &mut [u8],
     id: &mut [u8],
     counts: &mut [u32],
+    worst: Most,
     data: &mut [u8],
 ) -> bool {
     if job.cuts {
-        return cutting::run(job, page, held, array, id, counts, data);
+        return cutting::run(job, page, held, array, id, counts, worst, data);
     }
-    count(job, held, array, id, data, counts);
-    run(job, held, array, id, counts, data)
+    let c = count(job, held, array, id, data, counts, worst);
+    if c.right {
+        return run(job, held, array, id, counts, c.worst, data);
+    }
+    tell_wrong_worst()
 }
 
 fn run_prepared(
@@ -192,11 +249,12 @@ fn run_prepared(
     array: &mut [u8],
     id: &mut [u8],
     counts: &mut [u32],
+    worst: Most,
     data: &mut [u8],
 ) -> bool {
     let ready = files::prepared(verdict, job, held, array, id);
     match ready {
-        Verdict::Fine => run_or_cut(job, page, held, array, id, counts, data),
+        Verdict::Fine => run_or_cut(job, page, held, array, id, counts, worst, data),
         Verdict::Refused(r) => report::refused(ground(job), r),
     }
 }
@@ -213,12 +271,12 @@ fn begin(
     let first = files::at_first(job, held, array, id, counts);
     match first {
         Ready::Told => false,
-        Ready::Judged(verdict, worn) => {
+        Ready::Judged(verdict, worn, worst) => {
             let kept = Job {
                 wear: job.wear | worn,
                 ..job
             };
-            run_prepared(verdict, kept, page, held, array, id, counts, data)
+            run_prepared(verdict, kept, page, held, array, id, counts, worst, data)
         }
     }
 }

@@ -1,6 +1,6 @@
 // What could not be tried on boards, run on the model and printed: a Stop at each clock of a page write, Write Control rising at
-// each place of it, the lock command, a chip that stays busy, a line that loses an acknowledge, power lost in a cycle, for any part of the
-// table.
+// each place of it, the lock command, a chip that stays busy, a line that loses an acknowledge, power lost in a cycle, the most worn group
+// behind some writes, for any part of the table.
 use driver::Answer;
 use driver::Driver;
 use driver::Place;
@@ -16,7 +16,9 @@ use text::say_address;
 use text::say_byte;
 use text::say_number;
 use text::say_right;
+use wear::Most;
 use words::answer;
+use words::report;
 
 // A transfer: Start, some clocks of these bytes, Stop, and the cycle's end. Past the bytes the line is released.
 struct Script {
@@ -56,6 +58,12 @@ struct Lossy {
     over: bool,
 }
 
+// A chip behind some writes, and the worst of its counts.
+struct Worn {
+    chip: Chip,
+    worst: Most,
+}
+
 const START: u8 = 2;
 
 const STOP: u8 = 3;
@@ -92,7 +100,16 @@ const LOST: u8 = 5;
 
 const POWER: u8 = 6;
 
-// The rows of the last table, by number: the array's, then the identification page's.
+const WORST: u8 = 7;
+
+// The two groups that are written to, and how often.
+const LOW: usize = 1;
+
+const TALL: usize = 3;
+
+const WRITES: usize = 6;
+
+// The rows of the table of lost power, by number: the array's, then the identification page's.
 const ONE: usize = 0;
 
 const PAGE_END: usize = 1;
@@ -726,6 +743,40 @@ fn power_line(page: usize, k: usize, begun: bool, locked: bool) {
     say(b"      ");
 }
 
+// ---- 7: the most worn group
+
+// Write by write: one group, the other up to a tie and past it, and the first up to a tie again.
+fn written_to(i: usize) -> usize {
+    match i {
+        2 => LOW,
+        3 => LOW,
+        4 => LOW,
+        _ => TALL,
+    }
+}
+
+fn wide(n: u32) -> usize {
+    n as usize
+}
+
+fn count_at(counts: &[u32], group: usize) -> usize {
+    if group < counts.len() {
+        return wide(counts[group]);
+    }
+    0
+}
+
+fn worst_line(at: usize, low: usize, tall: usize, worst: Most) -> bool {
+    say_address(at);
+    say_right(low, 15);
+    say_right(tall, 9);
+    say(b"  most group ");
+    say_number(worst.group);
+    say(b": ");
+    say_number(wide(worst.count));
+    say(b"\n")
+}
+
 // ---- rows: each starts from delivery
 
 fn write_of(a: usize, page: usize, enable: u8, table: u8, k: usize) -> Script {
@@ -814,7 +865,7 @@ fn lock_row(part: u8, enable: u8, k: usize, array: &mut [u8], id: &mut [u8]) -> 
     later_line(written, l.later, parts::byte_at(id, 0))
 }
 
-// What a row of the last table sends.
+// What a row of the table of lost power sends.
 fn sent_of(f: Facts, enable: u8, k: usize) -> Script {
     let a = parts::address_bytes(f);
     match k {
@@ -900,16 +951,20 @@ fn power_row(part: u8, enable: u8, k: usize, array: &mut [u8], id: &mut [u8]) ->
     tell_risen(part, k, array, id)
 }
 
-// The write meets two pages.
-fn over_pages(part: u8, enable: u8, last: usize) -> Request {
+fn write_at(part: u8, enable: u8, at: usize, length: usize) -> Request {
     Request {
         part,
         enable,
-        place: Place::Array(ArrayAddress(last)),
+        place: Place::Array(ArrayAddress(at)),
         reads: false,
-        length: 2,
+        length,
         budget: BUDGET,
     }
+}
+
+// The write meets two pages.
+fn over_pages(part: u8, enable: u8, last: usize) -> Request {
+    write_at(part, enable, last, 2)
 }
 
 fn busy_row(part: u8, enable: u8, d: usize, array: &mut [u8], id: &mut [u8]) -> bool {
@@ -933,12 +988,101 @@ fn lost_row(part: u8, enable: u8, j: usize, array: &mut [u8], id: &mut [u8]) -> 
     tell_stored(parts::byte_at(array, last), parts::byte_at(array, f.page))
 }
 
+// The first address of the group that write number i goes to.
+fn place_of(part: u8, i: usize) -> usize {
+    let f = parts::facts_of(part);
+    report::first_of(written_to(i), f.group)
+}
+
+// Write number i.
+fn wear_on(
+    part: u8,
+    enable: u8,
+    i: usize,
+    w: Worn,
+    array: &mut [u8],
+    id: &mut [u8],
+    counts: &mut [u32],
+) -> Worn {
+    let mut data = [FIRST];
+    let kept = bench::run_worn(
+        write_at(part, enable, place_of(part, i), 1),
+        enable,
+        1,
+        w.chip,
+        array,
+        id,
+        &mut data,
+        counts,
+        w.worst,
+    );
+    let report = kept.report;
+    let chip = report.chip;
+    let worst = kept.worst;
+    Worn { chip, worst }
+}
+
+// The first n writes.
+fn wear_all(
+    part: u8,
+    enable: u8,
+    n: usize,
+    first: Worn,
+    array: &mut [u8],
+    id: &mut [u8],
+    counts: &mut [u32],
+) -> Worn {
+    let mut w = first;
+    let mut i = 0;
+    while i < n {
+        w = wear_on(part, enable, i, w, array, id, counts);
+        i += 1;
+    }
+    w
+}
+
+fn play_worst(
+    part: u8,
+    enable: u8,
+    k: usize,
+    array: &mut [u8],
+    id: &mut [u8],
+    counts: &mut [u32],
+) -> bool {
+    let d = chip::deliver(part, array, id);
+    let chip = d.chip;
+    let first = Worn {
+        chip,
+        worst: Most { group: 0, count: 0 },
+    };
+    let w = wear_all(part, enable, more(k), first, array, id, counts);
+    worst_line(
+        place_of(part, k),
+        count_at(counts, LOW),
+        count_at(counts, TALL),
+        w.worst,
+    )
+}
+
+fn worst_row(part: u8, enable: u8, k: usize, array: &mut [u8], id: &mut [u8]) -> bool {
+    let mut counts = [0u32; 8192];
+    play_worst(
+        part,
+        enable,
+        k,
+        array,
+        id,
+        fitted::counts(part, &mut counts),
+    )
+}
+
 fn lent_row(part: u8, enable: u8, table: u8, k: usize, array: &mut [u8], id: &mut [u8]) -> bool {
     match table {
         LOCKS => lock_row(part, enable, k, array, id),
         BUSY => busy_row(part, enable, more(k), array, id),
         LOST => lost_row(part, enable, k, array, id),
         POWER => power_row(part, enable, k, array, id),
+        WORST => worst_row(part, enable, k, array, id),
         _ => write_row(part, enable, table, k, array, id),
     }
 }
@@ -1055,6 +1199,14 @@ fn powers(part: u8, enable: u8, ident: bool) -> bool {
     rows(part, enable, POWER, 3)
 }
 
+fn worsts(part: u8, enable: u8) -> bool {
+    say(
+        b"\nThe most worn group, kept beside the counts while the driver writes 11h: the lowest on a tie\n",
+    );
+    say(b"written at   group 1  group 3  worst\n");
+    rows(part, enable, WORST, WRITES)
+}
+
 fn heading(part: u8, enable: u8) {
     say(b"Part ");
     say_number(part as usize);
@@ -1083,7 +1235,10 @@ fn known_part(part: u8, enable: u8, f: Facts) -> bool {
     if !losses(part, enable, a, f.page) {
         return false;
     }
-    powers(part, enable, f.ident)
+    if !powers(part, enable, f.ident) {
+        return false;
+    }
+    worsts(part, enable)
 }
 
 fn refused(r: Refusal) -> bool {

@@ -1,29 +1,33 @@
 -- Laws that the proofs of the code share: walks along the counts, and a run from one end of a cycle to the next.
 -- Assumes nothing.
 use Prim.Native.Nat.{ℕ, suc, _+_, _-_, _*_, _≤_, _<_}
-use mathlib.Core.Path.{_≡_, _∙_, refl, sym, ap}
-use mathlib.Core.Bool.{Bool, not, cond}
+use mathlib.Core.Path.{_≡_, _∙_, refl, sym, ap, subst⁻¹}
+use mathlib.Core.Bool.{Bool, true, false, not, cond}
 use mathlib.Core.List.{List, [], _∷_, _++_, append-assoc, append-nil}
 use native.Mathlib.Nat.{mul-le-mul-right, div-le-self}
 use native.Mathlib.Numerals.{add-one}
+use native.Mathlib.Decide.{decLt}
 use native.Mathlib.Omega.{arith}
 use lib.Dec.{ltb}
 use lib.ListN.{length, getD, take, drop, set, drop-of-length-le, length-set}
-use lib.Seq.{drop-cons, take-suc-set, drop-set-lt, take-all}
-use borrow.Author.Tests.{eqb-true}
+use lib.Seq.{drop-cons, take-suc-set, drop-set-lt, take-all, set-getD, set-out}
+use borrow.Author.Tests.{eqb-true, lt-ltb, le-ltb}
 use Rattle.parts.specs.declared.Facts.{Facts}
 use Rattle.parts.specs.declared.Refusal.the-variants.{NoPart, WrongBuffer}
 use Rattle.parts.specs.declared.Verdict.the-variants.{Fine}
 use Rattle.parts.specs.Table.{groupsOf}
 use Rattle.parts.specs.Sound.{Sound}
 use Rattle.parts.specs.Refusals.{claimOf, soonerOf}
-use Rattle.parts.specs.Bytes.{topped}
+use Rattle.parts.specs.Bytes.{topped, upOf}
+use Rattle.parts.proofs.Laws.{branch}
 use Rattle.parts.proofs.Claims.{right-fine, sooner-fine}
 use Rattle.chip.specs.Memory.{touchedOf}
 use Rattle.wear.specs.declared.Most.{Most}
 use Rattle.wear.specs.Wear.{bumpedOf, bumpedFrom}
 use Rattle.wear.specs.Report.{sumOf, most, mostFrom, joinedOf}
+use Rattle.wear.specs.Worst.{laterOf, worseOf, raisedOf}
 use Rattle.wear.specs.Calls.{countsVerdictOf}
+use Rattle.wear.proofs.Grown.{Grew, grew-set, raised-same, raised-set, raised-join, worse-right, worse-left, worse-stays}
 
 -- ---- the groups of a page
 
@@ -52,6 +56,88 @@ bump-end g k counts at j n h =
 pub bump-length : (counts : List ℕ) (at : ℕ) (on : Bool) → length (bumpedOf counts at on) ≡ length counts
 unfolding bumpedOf
 bump-length counts at on = length-set counts at _
+
+-- a count that goes on does not fall
+pub grew-bump : (counts : List ℕ) (at : ℕ) (on : Bool) (after : List ℕ) → after ≡ bumpedOf counts at on → Grew counts after
+unfolding bumpedOf upOf
+grew-bump counts at on after e = subst⁻¹ (Grew counts) e (grew-set counts at (upOf (getD counts at 0) on) (up-more (getD counts at 0) on))
+  where
+    up-more : (n : ℕ) (b : Bool) → n ≤ upOf n b
+    up-more n true = branch (λ (z : ℕ). n ≤ z) (ltb n 4294967295) (λ _. omega arith) (λ _. omega arith)
+    up-more n false = omega arith
+
+-- where no count went on
+pub later-none : (best : Most) (k : List ℕ) → laterOf best (raisedOf k k) ≡ best
+later-none best k = ap (laterOf best) (raised-same k) ∙ rw (le-ltb (best .count) 0 (omega arith)) refl
+
+-- what was raised so far stands below the group at `at`, if anything was
+abbrev pub Low : ℕ → Most → Type 0
+Low at b = 0 < b .count → b .group < at
+
+-- what a page has raised so far, and one group more
+module _ (k₀ k : List ℕ) (at : ℕ) (best : Most) (g : Grew k₀ k) (b : best ≡ raisedOf k₀ k) (low : Low at best) where
+  on : List ℕ
+  on = bumpedOf k at true
+
+  -- the group goes on to y
+  later-more : (y : ℕ) → 0 < y → Dec (best .count < y) → Dec (y < best .count) → worseOf best (most at y) ≡ laterOf best (most at y)
+  later-more y p (yes h) d = worse-right best (most at y) h ∙ sym (rw (lt-ltb (best .count) y h) refl)
+  later-more y p (no h) (yes q) =
+      let l : y ≤ best .count = omega arith in
+      worse-left best (most at y) q ∙ sym (rw (le-ltb (best .count) y l) refl)
+  later-more y p (no h) (no q) =
+      let l : y ≤ best .count = omega arith in
+      let m : best .group < at = low (omega arith) in
+      worse-stays best (most at y) (omega arith) (omega arith) ∙ sym (rw (le-ltb (best .count) y l) refl)
+
+  raised-next : raisedOf k₀ on ≡ laterOf best (raisedOf k on)
+  unfolding on bumpedOf upOf
+  raised-next = go (decLt at (length k)) (decLt (getD k at 0) 4294967295)
+    where
+      same : on ≡ k → raisedOf k₀ on ≡ laterOf best (raisedOf k on)
+      same e = ap (raisedOf k₀) e ∙ sym b ∙ sym (ap (λ (z : List ℕ). laterOf best (raisedOf k z)) e ∙ later-none best k)
+
+      go : Dec (at < length k) → Dec (getD k at 0 < 4294967295) → raisedOf k₀ on ≡ laterOf best (raisedOf k on)
+      go (yes l) (yes h) =
+          let y : ℕ = getD k at 0 + 1 in
+          let e : on ≡ set k at y = rw (lt-ltb (getD k at 0) 4294967295 h) refl in
+          let r : raisedOf k on ≡ most at y = ap (raisedOf k) e ∙ raised-set k at y l (omega arith) in
+          raised-join k₀ k on g (grew-bump k at true on refl)
+          ∙ ap (λ (z : Most). worseOf z (raisedOf k on)) (sym b)
+          ∙ ap (worseOf best) r
+          ∙ later-more y (omega arith) (decLt (best .count) y) (decLt y (best .count))
+          ∙ sym (ap (laterOf best) r)
+      go (yes l) (no h) =
+          let n : 4294967295 ≤ getD k at 0 = omega arith in
+          same (rw (le-ltb (getD k at 0) 4294967295 n) (set-getD k at 0))
+      go (no l) d = same (set-out k at _ (omega arith))
+
+  low-next : Low (suc at) (laterOf best (raisedOf k on))
+  unfolding on bumpedOf upOf
+  low-next = go (decLt at (length k)) (decLt (getD k at 0) 4294967295)
+    where
+      kept : raisedOf k on ≡ most 0 0 → Low (suc at) (laterOf best (raisedOf k on))
+      kept e = subst⁻¹ (λ (z : Most). Low (suc at) (laterOf best z)) e (rw (le-ltb (best .count) 0 (omega arith)) (λ p. omega (arith, low p)))
+
+      go : Dec (at < length k) → Dec (getD k at 0 < 4294967295) → Low (suc at) (laterOf best (raisedOf k on))
+      go (yes l) (yes h) =
+          let y : ℕ = getD k at 0 + 1 in
+          let e : on ≡ set k at y = rw (lt-ltb (getD k at 0) 4294967295 h) refl in
+          let r : raisedOf k on ≡ most at y = ap (raisedOf k) e ∙ raised-set k at y l (omega arith) in
+          subst⁻¹ (λ (z : Most). Low (suc at) (laterOf best z)) r (branch (Low (suc at)) (ltb (best .count) y) (λ _ p. omega arith) (λ _ p. omega (arith, low p)))
+      go (yes l) (no h) =
+          let n : 4294967295 ≤ getD k at 0 = omega arith in
+          kept (ap (raisedOf k) (rw (le-ltb (getD k at 0) 4294967295 n) (set-getD k at 0)) ∙ raised-same k)
+      go (no l) d = kept (ap (raisedOf k) (set-out k at _ (omega arith)) ∙ raised-same k)
+
+  -- as a call says it
+  pub raised-on : (t : Bool) (k′ : List ℕ) (best′ : Most) → k′ ≡ bumpedOf k at t → best′ ≡ cond t (laterOf best (raisedOf k k′)) best
+      → (best′ ≡ raisedOf k₀ k′) × Low (suc at) best′
+  unfolding on bumpedOf upOf
+  raised-on true k′ best′ e r =
+      let q : best′ ≡ laterOf best (raisedOf k on) = r ∙ ap (λ (z : List ℕ). laterOf best (raisedOf k z)) e in
+      (q ∙ sym raised-next ∙ ap (raisedOf k₀) (sym e), subst⁻¹ (Low (suc at)) q low-next)
+  raised-on false k′ best′ e r = (r ∙ b ∙ ap (raisedOf k₀) (sym (e ∙ set-getD k at 0)), subst⁻¹ (Low (suc at)) r (λ p. omega (arith, low p)))
 
 -- ---- the sum and the most
 

@@ -1,7 +1,7 @@
 -- A run that goes from one end of a cycle to the next, and is marked there: what it has come to is the run of the events so far.
 -- Assumes nothing.
-use Prim.Native.Nat.{ℕ, suc, _+_, _-_, _≤_, _<_}
-use mathlib.Core.Path.{_≡_, _∙_, refl, sym, ap}
+use Prim.Native.Nat.{ℕ, zero, suc, _+_, _-_, _/_, _≤_, _<_}
+use mathlib.Core.Path.{_≡_, _∙_, refl, sym, ap, subst⁻¹}
 use mathlib.Core.Bool.{Bool, true, false, cond, false≢true}
 use mathlib.Core.List.{List, [], _∷_, _++_, append-assoc, append-nil}
 use native.Mathlib.Omega.{arith}
@@ -15,14 +15,20 @@ use Rattle.parts.specs.declared.Event.{Event}
 use Rattle.parts.specs.Events.{eventWith}
 use Rattle.parts.proofs.Laws.{branch}
 use Rattle.state.specs.declared.Chip.{Chip}
-use Rattle.chip.specs.Memory.{Mem}
+use Rattle.line.specs.declared.Target.the-variants.{Array, Ident}
+use Rattle.line.specs.declared.Cycle.the-variants.{Writing, Locking}
+use Rattle.line.specs.declared.Phase.{Phase}
+use Rattle.line.specs.declared.Phase.the-variants.{Idle, Receive, Send, Busy}
+use Rattle.chip.specs.Memory.{Mem, counterPageOf, touchedOf}
 use Rattle.chip.specs.Model.{Model, PowerCut, oursWith}
 use Rattle.chip.specs.Runs.{afterOf, memoryOf, levelsOf, cyclesOf, closesOf, beforeCloseOf, stretchOf, upToOf}
 use Rattle.chip.specs.Calls.{reachOf}
 use Rattle.chip.proofs.Laws.{levels-length}
 use Rattle.chip.proofs.Turns.{begun-most}
 use Rattle.chip_laws.proofs.Bytes.{runs-join}
-use Rattle.wear.specs.Wear.{Counter, closedOf, wornOf, ourCounter, wornBy}
+use Rattle.wear.specs.Wear.{Counter, bumpedOf, bumpedFrom, pageWornOf, targetWornOf, cycleWornOf, closedIn, closedOf, wornOf, ourCounter, wornBy}
+use Rattle.wear.proofs.Grown.{Grew, grew-same, grew-on}
+use Rattle.wear.proofs.Laws.{grew-bump}
 
 -- ---- counting along a list
 
@@ -58,6 +64,34 @@ worn-close f c counts e h = go (eqb e 4) refl h
     go : (b : Bool) → eqb e 4 ≡ b → cond b true (eqb e 8) ≡ true → ourCounter f c counts e ≡ closedOf f c counts
     go true k _ = rw (eqb-true e 4 k) refl
     go false k l = rw (eqb-true e 8 l) refl
+
+-- no count falls
+
+grew-from : (g : ℕ) (k counts : List ℕ) (at j n : ℕ) → Grew counts (bumpedFrom g k counts at j n)
+grew-from g k counts at j zero = grew-same counts
+grew-from g k counts at j (suc n) =
+    grew-on counts (bumpedOf counts at (touchedOf g k j)) _ (grew-bump counts at (touchedOf g k j) _ refl) (grew-from g k (bumpedOf counts at (touchedOf g k j)) (suc at) (suc j) n)
+
+grew-closed : (f : Facts) (c : Chip) (counts : List ℕ) (p : Phase) → Grew counts (closedIn f c counts p)
+unfolding closedIn cycleWornOf targetWornOf pageWornOf
+grew-closed f c counts Idle = grew-same counts
+grew-closed f c counts (Receive r) = grew-same counts
+grew-closed f c counts (Send t) = grew-same counts
+grew-closed f c counts (Busy (Writing Array)) = grew-from (f .group) (c .latch) counts (counterPageOf f (c .line .core .counter) / f .group) 0 (f .page / f .group)
+grew-closed f c counts (Busy (Writing Ident)) = grew-same counts
+grew-closed f c counts (Busy Locking) = grew-same counts
+
+pub grew-counter : (f : Facts) (c : Chip) (counts : List ℕ) (e : ℕ) (after : List ℕ) → after ≡ ourCounter f c counts e → Grew counts after
+grew-counter f c counts e after h = subst⁻¹ (Grew counts) h (go (closesOf e) refl)
+  where
+    go : (b : Bool) → closesOf e ≡ b → Grew counts (ourCounter f c counts e)
+    go true k = subst⁻¹ (Grew counts) (worn-close f c counts e k) (grew-closed f c counts (c .line .phase))
+    go false k = subst⁻¹ (Grew counts) (worn-open f c counts e k) (grew-same counts)
+
+pub grew-worn : (M : Model) (f : Facts) (c : Chip) (counts es : List ℕ) → Grew counts (wornBy ourCounter M f c counts es)
+unfolding wornBy
+grew-worn M f c counts [] = grew-same counts
+grew-worn M f c counts (e ∷ es) = grew-on counts (ourCounter f c counts e) _ (grew-counter f c counts e _ refl) (grew-worn M f (M .next c e) (ourCounter f c counts e) es)
 
 worn-before : (M : Model) (f : Facts) (c : Chip) (counts es : List ℕ) → wornBy ourCounter M f c counts (beforeCloseOf es) ≡ counts
 unfolding wornBy

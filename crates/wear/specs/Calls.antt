@@ -15,9 +15,12 @@ use Rattle.state.specs.declared.Chip.{Chip}
 use Rattle.chip.specs.Memory.{Mem}
 use Rattle.chip.specs.Model.{PowerCut, oursWith}
 use Rattle.chip.specs.Calls.{RunLeft, runVerdict, runLeftOf}
+use Rattle.wear.specs.declared.Most.{Most}
 use Rattle.wear.specs.declared.Reported.{Reported}
+use Rattle.wear.specs.declared.Found.{Found}
 use Rattle.wear.specs.Wear.{Counter, ourCounter, wornBy}
-use Rattle.wear.specs.Report.{sumOf, mostOf, joinedOf}
+use Rattle.wear.specs.Report.{sumOf, most, mostOf, joinedOf}
+use Rattle.wear.specs.Worst.{worstVerdictOf, worstBy}
 
 -- how many counts a part has; 0 where there is no such part
 unfoldable pub groupCountOf : Facts → ℕ
@@ -55,6 +58,36 @@ wearWith W part enable w c m counts es a = wearLeftOf W part enable w c m counts
 
 abbrev pub wearOf : ℕ → ℕ → PowerCut → Chip → Mem → List ℕ → List ℕ → List ℕ → WearLeft
 wearOf = wearWith ourCounter
+
+-- ---- the same, with the stored worst (document 02, §8): "4 also for a stored worst that the counts don't bear out"
+
+abbrev pub keptVerdict : ℕ → ℕ → PowerCut → Chip → Mem → List ℕ → Most → List ℕ → List ℕ → Verdict
+keptVerdict part enable w c m counts worst es a = soonerOf (worstVerdictOf counts worst) (wearVerdict part enable w c m counts es a)
+
+-- what a call answers and leaves: all that a run that counts does, and the worst
+pub record KeptLeft : Type 0 where
+  pub wear : WearLeft
+  pub worst : Most
+
+abbrev pub keptLeftOf : ℕ → ℕ → PowerCut → Chip → Mem → List ℕ → Most → List ℕ → List ℕ → Verdict → KeptLeft
+keptLeftOf part enable w c m counts worst es a v =
+    record {
+      wear = wearLeftOf ourCounter part enable w c m counts es a v;
+      worst = worstBy worst (wearLeftOf ourCounter part enable w c m counts es a v .counts) v;
+    }
+
+-- of part, enable, what is given for a loss of power, chip, the two lent buffers, the counts and the worst of them, the events' codes and the lent
+-- answer buffer
+abbrev pub keptOf : ℕ → ℕ → PowerCut → Chip → Mem → List ℕ → Most → List ℕ → List ℕ → KeptLeft
+keptOf part enable w c m counts worst es a = keptLeftOf part enable w c m counts worst es a (keptVerdict part enable w c m counts worst es a)
+
+-- ---- what the walk finds, for who begins: refusals 1, 3
+
+abbrev pub foundBy : List ℕ → Verdict → Found
+foundBy counts v = record { verdict = v; worst = worstBy (most 0 0) counts v }
+
+abbrev pub foundOf : ℕ → List ℕ → Found
+foundOf part counts = foundBy counts (countsVerdictOf (factsOf part) (length counts))
 
 -- ---- what is told of the counts: refusals 1, 3
 

@@ -1,3 +1,4 @@
 pub mod Wear
 pub mod Report
+pub mod Worst
 pub mod Calls

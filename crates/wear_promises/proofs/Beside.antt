@@ -92,7 +92,7 @@ pub other-counts : (f : Facts) (x : ℕ) → (x ≡ groupsOf f → ⊥) → With
 unfolding countsVerdictOf
 other-counts f x o = within-right 3003 _ _ (rw (ne-eqb x (groupsOf f) o) (omega arith))
 
-wear-told : (part en : ℕ) (w : PowerCut) (c : Chip) (m : Mem) (counts es a : List ℕ) (v : Verdict) → wearLeftOf ourCounter part en w c m counts es a v .run .answer .verdict ≡ v
+pub wear-told : (part en : ℕ) (w : PowerCut) (c : Chip) (m : Mem) (counts es a : List ℕ) (v : Verdict) → wearLeftOf ourCounter part en w c m counts es a v .run .answer .verdict ≡ v
 wear-told part en w c m counts es a Fine = refl
 wear-told part en w c m counts es a (Refused s) = refl
 

@@ -10,3 +10,5 @@ pub mod Told
 pub mod Pinned
 pub mod WrongCounters
 pub mod Histories
+pub mod Kept
+pub mod WrongKeepers

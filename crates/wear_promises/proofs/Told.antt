@@ -7,10 +7,8 @@ use mathlib.Core.List.{List, [], _∷_, _++_}
 use native.Mathlib.Nat.{add-comm, add-assoc, mul-assoc, mul-div-cancel}
 use native.Mathlib.Decide.{decLt}
 use native.Mathlib.Omega.{arith}
-use lib.Dec.{ltb}
 use lib.ListN.{length, getD, replicate, getD-replicate, length-replicate}
 use lib.Seq.{ext-getD}
-use borrow.Author.Tests.{ltb-true, ltb-false}
 use Rattle.parts.specs.declared.Facts.{Facts}
 use Rattle.parts.specs.declared.Refusal.the-variants.{NoPart, WrongBuffer}
 use Rattle.parts.specs.declared.Verdict.{Verdict}
@@ -19,12 +17,13 @@ use Rattle.parts.specs.Sound.{Sound}
 use Rattle.parts.specs.Table.{factsOf, groupsOf}
 use Rattle.parts.specs.Refusals.{isFine, verdictNumberOf, soonerOf}
 use Rattle.parts.specs.Bytes.{AllBelow, topped}
-use Rattle.parts.proofs.Laws.{branch, known, unknown, sound}
+use Rattle.parts.proofs.Laws.{known, unknown, sound}
 use Rattle.parts.proofs.Claims.{sooner-fine, exact, later-claim}
 use Rattle.parts.proofs.Bytes.{top-low, top-high}
-use Rattle.wear.specs.declared.Most.{Most}
-use Rattle.wear.specs.Report.{most, mostFrom, mostOf, joinedOf}
+use Rattle.wear.specs.Report.{mostOf, joinedOf}
+use Rattle.wear.specs.Worst.{IsWorst}
 use Rattle.wear.specs.Calls.{countsVerdictOf, countsBy, WearLeft, wearOf, reportBy, reportOf, joinVerdict, joinOf}
+use Rattle.wear.proofs.Grown.{walk-finds-it}
 use Rattle.wear.proofs.Laws.{counts-fine}
 use Rattle.chip.specs.Model.{old}
 use Rattle.chip.specs.Calls.{RunLeft}
@@ -39,55 +38,7 @@ use Rattle.wear_promises.proofs.Traces.{traces-add-up}
 
 -- ---- the walk
 
--- none of the rest has more than what was most so far; or number k of it does, with which every earlier one has less and none has more
-data Walked (xs : List ℕ) (n : ℕ) (b r : Most) : Type 0 where
-  kept : r ≡ b → ((i : ℕ) → getD xs i 0 ≤ b .count) → Walked xs n b r
-  found : (k : ℕ) → k < length xs → r .group ≡ n + k → getD xs k 0 ≡ r .count → b .count < r .count
-      → ((i : ℕ) → i < k → getD xs i 0 < r .count) → ((i : ℕ) → getD xs i 0 ≤ r .count) → Walked xs n b r
-
-module _ (x : ℕ) (xs : List ℕ) (n : ℕ) (b r : Most) where
-  less : b .count < x → Walked xs (suc n) (most n x) r → Walked (x ∷ xs) n b r
-  less h (kept e o) =
-      found 0 (omega arith) (ap (λ (z : Most). z .group) e ∙ omega arith) (sym (ap (λ (z : Most). z .count) e)) (omega (arith, h, ap (λ (z : Most). z .count) e))
-      (λ i l. absurd (omega arith)) (λ i. all i)
-    where
-      all : (i : ℕ) → getD (x ∷ xs) i 0 ≤ r .count
-      all zero = omega (arith, ap (λ (z : Most). z .count) e)
-      all (suc i) = omega (arith, o i, ap (λ (z : Most). z .count) e)
-  less h (found k l g v u q o) = found (suc k) (omega arith) (omega (arith, g)) v (omega (arith, h, u)) before all
-    where
-      before : (i : ℕ) → i < suc k → getD (x ∷ xs) i 0 < r .count
-      before zero m = u
-      before (suc i) m = q i (omega arith)
-
-      all : (i : ℕ) → getD (x ∷ xs) i 0 ≤ r .count
-      all zero = omega (arith, u)
-      all (suc i) = o i
-
-  same : x ≤ b .count → Walked xs (suc n) b r → Walked (x ∷ xs) n b r
-  same h (kept e o) = kept e all
-    where
-      all : (i : ℕ) → getD (x ∷ xs) i 0 ≤ b .count
-      all zero = h
-      all (suc i) = o i
-  same h (found k l g v u q o) = found (suc k) (omega arith) (omega (arith, g)) v u before all
-    where
-      before : (i : ℕ) → i < suc k → getD (x ∷ xs) i 0 < r .count
-      before zero m = omega (arith, h, u)
-      before (suc i) m = q i (omega arith)
-
-      all : (i : ℕ) → getD (x ∷ xs) i 0 ≤ r .count
-      all zero = omega (arith, h, u)
-      all (suc i) = o i
-
-walked : (xs : List ℕ) (n : ℕ) (b : Most) → Walked xs n b (mostFrom b n xs)
-walked [] n b = kept refl (λ i. omega arith)
-walked (x ∷ xs) n b =
-    branch (λ (z : Most). Walked xs (suc n) z (mostFrom z (suc n) xs) → Walked (x ∷ xs) n b (mostFrom z (suc n) xs)) (ltb (b .count) x)
-    (λ h w. less x xs n b _ (ltb-true (b .count) x h) w) (λ h w. same x xs n b _ (ltb-false (b .count) x h) w)
-    (walked xs (suc n) (cond (ltb (b .count) x) (most n x) b))
-
-groups-some : (f : Facts) → Sound f → 0 < groupsOf f
+pub groups-some : (f : Facts) → Sound f → 0 < groupsOf f
 unfolding groupsOf
 groups-some f s =
     let q : ℕ = f .size / f .page * (f .page / f .group) in
@@ -114,44 +65,17 @@ module _ (part : ℕ) (counts : List ℕ) (h : reportOf part counts .verdict ≡
   size-is : length counts ≡ groupsOf (factsOf part)
   size-is = counts-fine (factsOf part) (length counts) judged
 
-record Mosted (part : ℕ) (counts : List ℕ) (r : Most) : Type 0 where
-  within : r .group < groupsOf (factsOf part)
-  holds : getD counts (r .group) 0 ≡ r .count
-  most′ : (n : ℕ) → getD counts n 0 ≤ r .count
-  lowest : (n : ℕ) → n < r .group → getD counts n 0 < r .count
-
-mosted : (part : ℕ) (counts : List ℕ) → length counts ≡ groupsOf (factsOf part) → Mosted part counts (mostOf counts)
-mosted part counts e = go (walked counts 0 (most 0 0))
-  where
-    r : Most
-    r = mostOf counts
-
-    go : Walked counts 0 (most 0 0) r → Mosted part counts r
-    go (kept q o) =
-        let g : r .group ≡ 0 = ap (λ (z : Most). z .group) q in
-        let c : r .count ≡ 0 = ap (λ (z : Most). z .count) q in
-        record {
-          within = omega (arith, g, groups-some (factsOf part) (sound part));
-          holds = omega (arith, o (r .group), c);
-          most′ = λ n. omega (arith, o n, c);
-          lowest = λ n l. absurd (omega (arith, l, g));
-        }
-    go (found k l g v u q o) =
-        record {
-          within = omega (arith, l, g, e);
-          holds = ap (λ (z : ℕ). getD counts z 0) (g ∙ omega arith) ∙ v;
-          most′ = o;
-          lowest = λ n m. q n (omega (arith, m, g));
-        }
+  mosted : IsWorst counts (mostOf counts)
+  mosted = walk-finds-it counts (omega (arith, size-is, groups-some (factsOf part) (sound part)))
 
 pub most-is-most : MostIsMost reportOf
 most-is-most =
     record {
       total = λ part counts h. rw (report-is part counts h) refl;
-      within = λ part counts h. rw (report-is part counts h) (mosted part counts (size-is part counts h) .within);
-      holds = λ part counts h. rw (report-is part counts h) (mosted part counts (size-is part counts h) .holds);
-      most = λ part counts h. rw (report-is part counts h) (mosted part counts (size-is part counts h) .most′);
-      lowest = λ part counts h. rw (report-is part counts h) (mosted part counts (size-is part counts h) .lowest);
+      within = λ part counts h. rw (report-is part counts h) (omega (arith, mosted part counts h .there, size-is part counts h));
+      holds = λ part counts h. rw (report-is part counts h) (mosted part counts h .holds);
+      most = λ part counts h. rw (report-is part counts h) (mosted part counts h .most);
+      lowest = λ part counts h. rw (report-is part counts h) (mosted part counts h .first);
     }
 
 pub report-numbers : ReportNumbers reportOf

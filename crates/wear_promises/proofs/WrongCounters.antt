@@ -39,7 +39,7 @@ use Rattle.wear_promises.proofs.Totals.{total-is-history}
 
 -- ---- a history from delivery
 
-abbrev chip-of : ℕ → Chip
+abbrev pub chip-of : ℕ → Chip
 chip-of part = standbyOf (factsOf part) false
 
 -- what the events leave of the counts, and what their history says of group n
@@ -62,7 +62,7 @@ module _ (W : Counter) (kept : WearIsHistory (wearWith W)) (part : ℕ) (counts 
 -- ---- nothing refuses them
 
 -- one byte at 0005h, ended, cut, or under way; two bytes of a group; two of two groups
-abbrev ended : List ℕ
+abbrev pub ended : List ℕ
 ended = itemCodesOf (written ++ E ∷ [])
 
 abbrev cut : List ℕ
@@ -77,7 +77,7 @@ twoAt at = itemCodesOf (S ∷ byteSent 0xA0 0 ∷ byteSent 0 0 ∷ byteSent at 0
 abbrev ident : List ℕ
 ident = itemCodesOf (S ∷ byteSent 0xB0 0 ∷ byteSent 0 0 ∷ byteSent 5 0 ∷ byteSent 7 0 ∷ P ∷ E ∷ [])
 
-abbrev Accepted : ℕ → List ℕ → List ℕ → Type 0
+abbrev pub Accepted : ℕ → List ℕ → List ℕ → Type 0
 Accepted part counts es = wearVerdict part 0 old (chip-of part) (deliveredOf part) counts es (replicate (length es) 0) ≡ Fine
 
 accepts : Accepted 2 (zeros 2) ended × (Accepted 2 (zeros 2) cut × (Accepted 2 (zeros 2) running × (Accepted 2 (zeros 2) (twoAt 4) × (Accepted 2 (zeros 2) (twoAt 3) × Accepted 3 (zeros 3) ident))))

@@ -3,3 +3,5 @@ pub mod Counts
 pub mod Told
 pub mod WrongCounters
 pub mod Histories
+pub mod Kept
+pub mod WrongKeepers

@@ -16,19 +16,22 @@ fn refuse(word: usize, bytes: &[u8], r: Refusal) -> Worn {
 
 // Every part has the enable 0.
 fn load(word: usize, bytes: &[u8], array: &mut [u8], id: &mut [u8], counts: &mut [u32]) -> Worn {
-    let loaded = image_worn::load_worn(bytes, 0, array, id, counts);
+    let l = image_worn::load_worn(bytes, 0, array, id, counts);
+    let loaded = l.loaded;
+    let worst = l.worst;
     let verdict = loaded.verdict;
     let w = work::nothing_yet();
     match verdict {
         Verdict::Fine => Worn {
             part: loaded.part,
+            worst,
             ..w
         },
         Verdict::Refused(r) => refuse(word, bytes, r),
     }
 }
 
-// The work begins with the counts of an image, zeros of one that has none.
+// The work begins with the counts of an image and their worst, zeros of one that has none.
 pub fn begun(word: usize, bytes: &[u8], counts: &mut [u32]) -> Worn {
     let part = image::part_in(bytes);
     let mut array = [0u8; 32768];
@@ -53,7 +56,8 @@ fn save_in(
     counts: &[u32],
     out: &mut [u8],
 ) -> bool {
-    let loaded = image_worn::load_worn(bytes, 0, array, id, before);
+    let l = image_worn::load_worn(bytes, 0, array, id, before);
+    let loaded = l.loaded;
     let saved = image_worn::save_worn(loaded.part, loaded.chip, array, id, counts, out);
     let n = saved.length;
     if n <= out.len() {

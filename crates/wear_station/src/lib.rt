@@ -10,7 +10,6 @@ mod work;
 use files::shape;
 use files::tell::say;
 use parts::Verdict;
-use show::Top;
 use words::wearing::Role;
 use words::wearing::Wear;
 use work::Worn;
@@ -50,6 +49,7 @@ fn take_words(first: Worn, next: usize, end: usize, counts: &mut [u32]) -> Worn 
 
 // ---- behind them
 
+// The total is a walk's, the worst is held.
 fn tell_all(asked: Wear, w: Worn, counts: &[u32]) -> bool {
     if asked.all {
         return show::all(counts);
@@ -57,13 +57,7 @@ fn tell_all(asked: Wear, w: Worn, counts: &[u32]) -> bool {
     let r = wear::report(w.part, counts);
     let verdict = r.verdict;
     match verdict {
-        Verdict::Fine => {
-            let most = Top {
-                group: r.group,
-                count: r.count,
-            };
-            show::told(w.part, r.total, most, w.traces, w.cycles, counts)
-        }
+        Verdict::Fine => show::told(w.part, r.total, w.worst, w.traces, w.cycles, counts),
         Verdict::Refused(_) => false,
     }
 }

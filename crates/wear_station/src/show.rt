@@ -1,19 +1,14 @@
 // What is told of the counts. Each function is told whether the lines before it were written, and says so of its own.
 use image_station::show::big;
-use image_station::show::or_more;
 use image_station::show::worn;
+use wear::Most;
 use words::answer;
 use words::answer::address;
 use words::answer::number;
 use words::answer::say;
+use words::report;
 use words::report::first_of;
-use words::report::onward;
-
-// A group, and its count.
-pub struct Top {
-    pub group: usize,
-    pub count: u32,
-}
+use words::report::or_more;
 
 const BARS: usize = 10;
 
@@ -47,15 +42,6 @@ fn total(ok: bool, sum: u64, most: u32) -> bool {
     say(or_more(told, most), b"\n")
 }
 
-// `0040h..0043h`, or `0010h` where a group is one byte.
-fn span(ok: bool, from: usize, n: usize) -> bool {
-    let low = address(ok, from);
-    if 1 < n {
-        return address(say(low, b".."), onward(from, n - 1));
-    }
-    low
-}
-
 fn two_digits(ok: bool, n: u64) -> bool {
     let tens = big(ok, n / 10 % 10);
     big(tens, n % 10)
@@ -68,12 +54,9 @@ fn percent(ok: bool, count: u32) -> bool {
     say(two_digits(whole, n % 100), b" % of 4000000\n")
 }
 
-fn most(ok: bool, size: usize, top: Top) -> bool {
-    let named = number(say(ok, b"most group "), top.group);
-    let there = span(say(named, b", "), first_of(top.group, size), size);
-    let counted = number(say(there, b": "), wide(top.count));
-    let told = or_more(counted, top.count);
-    percent(say(told, b", "), top.count)
+fn most(ok: bool, size: usize, worst: Most) -> bool {
+    let told = report::most(ok, size, worst.group, worst.count);
+    percent(say(told, b", "), worst.count)
 }
 
 // ---- the bars
@@ -101,7 +84,7 @@ fn row(ok: bool, n: usize) -> bool {
 }
 
 // A group that is not worn has no bar.
-fn bar(ok: bool, size: usize, top: Top, most: u32) -> bool {
+fn bar(ok: bool, size: usize, top: Most, most: u32) -> bool {
     if top.count == 0 {
         return ok;
     }
@@ -112,25 +95,25 @@ fn bar(ok: bool, size: usize, top: Top, most: u32) -> bool {
 }
 
 // Whether a group stands behind another in the order of the bars: most first, lowest group first on a tie.
-fn behind(group: usize, count: u32, last: Top) -> bool {
+fn behind(group: usize, count: u32, last: Most) -> bool {
     if count == last.count {
         return last.group < group;
     }
     count < last.count
 }
 
-fn better(best: Top, group: usize, count: u32, last: Top) -> Top {
+fn better(best: Most, group: usize, count: u32, last: Most) -> Most {
     if behind(group, count, last) {
         if best.count < count {
-            return Top { group, count };
+            return Most { group, count };
         }
     }
     best
 }
 
 // The first of those that stand behind another; a count of 0 where none is worn.
-fn next(counts: &[u32], last: Top) -> Top {
-    let mut best = Top { group: 0, count: 0 };
+fn next(counts: &[u32], last: Most) -> Most {
+    let mut best = Most { group: 0, count: 0 };
     let mut i = 0;
     while i < counts.len() {
         best = better(best, i, counts[i], last);
@@ -139,7 +122,7 @@ fn next(counts: &[u32], last: Top) -> Top {
     best
 }
 
-fn bars(ok: bool, size: usize, first: Top, counts: &[u32]) -> bool {
+fn bars(ok: bool, size: usize, first: Most, counts: &[u32]) -> bool {
     let mut told = ok;
     let mut top = first;
     let mut k = 0;
@@ -161,8 +144,8 @@ fn rest(ok: bool, worn: usize) -> bool {
 
 // ---- all of it
 
-// For people: the sum, the group with most, and the bars.
-pub fn told(part: u8, sum: u64, first: Top, traces: usize, cycles: usize, counts: &[u32]) -> bool {
+// For people: the sum, the worst, which is the first bar, and the bars.
+pub fn told(part: u8, sum: u64, first: Most, traces: usize, cycles: usize, counts: &[u32]) -> bool {
     let f = parts::facts_of(part);
     let one = head(true, part, f.group, counts.len(), traces, cycles);
     let two = total(one, sum, first.count);

@@ -1,22 +1,23 @@
 // What the words and the lists name, one after another: traces that are run and counted, and files of counts that are joined.
 use crate::stored;
 use crate::tell;
-use chip::Ran;
 use libc::STDIN_FILENO;
 use parts::Loss;
 use parts::Refusal;
 use parts::Verdict;
+use wear::Most;
 use words::Number;
 use words::wearing::Role;
 
 // The work so far. `ok` false: standard error has the reason, and nothing is to be told or saved. `part` is `NO_PART` until something named
-// one; `role` is what the last word was.
+// one; `role` is what the last word was; `worst` is the worst of the counts: nothing looks for it again after a trace.
 pub struct Worn {
     pub ok: bool,
     pub role: Role,
     pub part: u8,
     pub traces: usize,
     pub cycles: usize,
+    pub worst: Most,
 }
 
 pub const NO_PART: u8 = 255;
@@ -28,6 +29,7 @@ pub fn nothing_yet() -> Worn {
         part: NO_PART,
         traces: 0,
         cycles: 0,
+        worst: Most { group: 0, count: 0 },
     }
 }
 
@@ -99,10 +101,10 @@ fn delivered(
     events: &[u8],
     answers: &mut [u8],
     counts: &mut [u32],
-) -> Ran {
+) -> wear::Worn {
     let d = chip::deliver(part, array, id);
     let chip = d.chip;
-    wear::run(
+    wear::go_on(
         part,
         enable,
         Loss::Old,
@@ -125,13 +127,13 @@ fn run_events(
     events: &mut [u8],
     answers: &mut [u8],
     counts: &mut [u32],
-) -> Ran {
+) -> wear::Worn {
     recode(letters, events);
     delivered(part, enable, array, id, events, answers, counts)
 }
 
 // Each trace starts from delivery, as the trace program runs it; the counts go on.
-fn run_letters(part: u8, enable: u8, letters: &[u8], counts: &mut [u32]) -> Ran {
+fn run_letters(part: u8, enable: u8, letters: &[u8], counts: &mut [u32]) -> wear::Worn {
     let mut array = [0u8; 32768];
     let mut id = [0u8; 64];
     let mut events = [0u8; 32768];
@@ -157,13 +159,16 @@ fn run_text(
     text: &[u8],
     counts: &mut [u32],
 ) -> Worn {
-    let ran = run_letters(part, enable, trace::letters(text), counts);
+    let r = run_letters(part, enable, trace::letters(text), counts);
+    let ran = r.ran;
     let verdict = ran.verdict;
+    let worst = wear::worst::worse(w.worst, r.most);
     match verdict {
         Verdict::Fine => Worn {
             part,
             traces: std::num::wrapping_add_usize(w.traces, 1),
             cycles: std::num::wrapping_add_usize(w.cycles, ran.cycles),
+            worst,
             ..w
         },
         Verdict::Refused(r) => refuse(w, input, name, part, r),
@@ -211,8 +216,10 @@ fn join(
 ) -> Worn {
     stored::load(bytes, more);
     let verdict = wear::join(part, counts, more);
+    let found = wear::worst_of(part, counts);
+    let worst = found.worst;
     match verdict {
-        Verdict::Fine => Worn { part, ..w },
+        Verdict::Fine => Worn { part, worst, ..w },
         Verdict::Refused(r) => refuse(w, input, name, part, r),
     }
 }

@@ -53,6 +53,14 @@ fn tell_report(v: [usize; 16], typed: &[u8]) {
     let mut own = [0u32; MOST];
     cases::counts::read(&mut own, typed);
     counts::tell_report(narrow(v[0]), cases::counts::shown(&own, v[LENGTH]));
+    counts::tell_found(narrow(v[0]), cases::counts::shown(&own, v[LENGTH]));
+}
+
+// The numbers are the counts lent, a group and its count.
+fn tell_borne(v: [usize; 16], typed: &[u8]) {
+    let mut own = [0u32; MOST];
+    cases::counts::read(&mut own, typed);
+    counts::tell_borne(cases::counts::shown(&own, v[0]), v[1], v[2]);
 }
 
 fn join(v: [usize; 16], own: &mut [u32], other: &[u32]) -> Verdict {
@@ -83,6 +91,8 @@ fn call(letter: u8, v: [usize; 16], typed: &[u8]) {
         b'g' => tell_groups(narrow(v[0])),
         b'w' => tell_report(v, typed),
         b'j' => tell_join(v, typed),
+        b'b' => tell_borne(v, typed),
+        b'c' => counts::tell_worse(v),
         b'm' => runs::tell_mark(v, front(typed, b'/'), behind(typed, b'/')),
         b't' => runs::tell_runs(v, true, front(typed, b'/'), behind(typed, b'/')),
         _ => runs::tell_runs(v, false, front(typed, b'/'), behind(typed, b'/')),

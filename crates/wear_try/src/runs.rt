@@ -6,6 +6,8 @@ use parts::Loss;
 use parts::Verdict;
 use text::narrow;
 use text::say;
+use wear::Most;
+use wear::Worn;
 
 // The numbers of a line, by their places.
 const PART: usize = 0;
@@ -36,6 +38,13 @@ const FILL: usize = 10;
 // The list of events is repeated up to so many; 0 for once.
 const LAST: usize = 11;
 
+// The stored worst: 0 what the walk finds, 1 the group and the count of the line, 2 what the walk finds, and it is not given but compared.
+const HOW: usize = 12;
+
+const GROUP: usize = 13;
+
+const COUNT: usize = 14;
+
 // Levels of longer lists are told by a number.
 const SHORT: usize = 64;
 
@@ -56,6 +65,31 @@ fn deliver(v: [usize; 16], held: &mut [u8; 137], array: &mut [u8], id: &mut [u8]
     let of = narrow(v[OF]);
     chip::deliver(of, fitted::array(of, array), fitted::id(of, id));
     pack_chip::pack(chip::standby(of, v[LOCKED] == 1), held);
+}
+
+// Beside the counts: the group and its count.
+fn stored_worst(worst: &[usize; 2]) -> Most {
+    Most {
+        group: worst[0],
+        count: crate::counts::narrow(worst[1]),
+    }
+}
+
+fn store(worst: &mut [usize; 2], m: Most) {
+    worst[0] = m.group;
+    worst[1] = crate::counts::wide(m.count);
+}
+
+fn begin(v: [usize; 16], counts: &[u32], worst: &mut [usize; 2]) {
+    if v[HOW] == 1 {
+        worst[0] = v[GROUP];
+        worst[1] = v[COUNT];
+        return;
+    }
+    store(
+        worst,
+        wear::worst::most_of(cases::counts::shown(counts, v[COUNTS])),
+    );
 }
 
 // ---- what is left
@@ -147,6 +181,56 @@ struct Told {
     cycles: usize,
 }
 
+// The worst goes in and comes back; or its holder compares it with what was raised.
+fn call(
+    v: [usize; 16],
+    page: &[u8],
+    held: &[u8; 137],
+    array: &mut [u8],
+    id: &mut [u8],
+    counts: &mut [u32],
+    worst: Most,
+    events: &[u8],
+    levels: &mut [u8],
+) -> Worn {
+    let part = narrow(v[PART]);
+    let enable = narrow(v[ENABLE]);
+    let loss = loss_of(v[LOSS]);
+    let chip = pack_chip::unpack(held);
+    if v[HOW] == 2 {
+        let gone = wear::go_on(
+            part,
+            enable,
+            loss,
+            page,
+            chip,
+            array,
+            id,
+            counts,
+            events,
+            levels,
+        );
+        let ran = gone.ran;
+        return Worn {
+            ran: ran,
+            most: wear::worst::worse(worst, gone.most),
+        };
+    }
+    wear::run(
+        part,
+        enable,
+        loss,
+        page,
+        chip,
+        array,
+        id,
+        counts,
+        worst,
+        events,
+        levels,
+    )
+}
+
 fn run(
     v: [usize; 16],
     page: &[u8],
@@ -154,21 +238,23 @@ fn run(
     array: &mut [u8],
     id: &mut [u8],
     counts: &mut [u32],
+    worst: &mut [usize; 2],
     events: &[u8],
     levels: &mut [u8],
 ) -> Told {
-    let r = wear::run(
-        narrow(v[PART]),
-        narrow(v[ENABLE]),
-        loss_of(v[LOSS]),
+    let w = call(
+        v,
         page,
-        pack_chip::unpack(held),
+        held,
         fitted::first(array, v[ARRAY]),
         fitted::first(id, v[ID]),
         cases::counts::first(counts, v[COUNTS]),
+        stored_worst(worst),
         events,
         fitted::first(levels, v[ROOM]),
     );
+    store(worst, w.most);
+    let r = w.ran;
     let verdict = r.verdict;
     let chip = r.chip;
     pack_chip::pack(chip, held);
@@ -185,11 +271,12 @@ fn tell_run(
     array: &mut [u8],
     id: &mut [u8],
     counts: &mut [u32],
+    worst: &mut [usize; 2],
     events: &[u8],
 ) {
     let mut levels = [BLANK; 32769];
     let before = left(held, array, id, counts);
-    let t = run(v, page, held, array, id, counts, events, &mut levels);
+    let t = run(v, page, held, array, id, counts, worst, events, &mut levels);
     let verdict = t.verdict;
     crate::tell_verdict(verdict);
     crate::tell(b", cycles ", t.cycles);
@@ -209,6 +296,7 @@ fn one(
     array: &mut [u8],
     id: &mut [u8],
     counts: &mut [u32],
+    worst: &mut [usize; 2],
 ) {
     let mut events = [0u8; 32769];
     let mut page = [0u8; 65];
@@ -221,6 +309,7 @@ fn one(
         array,
         id,
         counts,
+        worst,
         cut(&events, 0, n),
     );
 }
@@ -241,9 +330,10 @@ fn next(
     array: &mut [u8],
     id: &mut [u8],
     counts: &mut [u32],
+    worst: &mut [usize; 2],
 ) {
     anew(v, fresh, held, array, id);
-    one(v, typed, held, array, id, counts);
+    one(v, typed, held, array, id, counts, worst);
 }
 
 // A bar ends a run. Answers where the run under way began.
@@ -257,9 +347,19 @@ fn turn(
     array: &mut [u8],
     id: &mut [u8],
     counts: &mut [u32],
+    worst: &mut [usize; 2],
 ) -> usize {
     if crate::events::at(typed, i) == b'|' {
-        next(v, fresh, cut(typed, start, i), held, array, id, counts);
+        next(
+            v,
+            fresh,
+            cut(typed, start, i),
+            held,
+            array,
+            id,
+            counts,
+            worst,
+        );
         say(b" | ");
         return cases::more(i);
     }
@@ -274,15 +374,25 @@ fn series(
     array: &mut [u8],
     id: &mut [u8],
     counts: &mut [u32],
+    worst: &mut [usize; 2],
 ) {
     let mut start = 0;
     let mut i = 0;
     while i < typed.len() {
-        start = turn(v, fresh, typed, start, i, held, array, id, counts);
+        start = turn(v, fresh, typed, start, i, held, array, id, counts, worst);
         i += 1;
     }
     let end = typed.len();
-    next(v, fresh, cut(typed, start, end), held, array, id, counts);
+    next(
+        v,
+        fresh,
+        cut(typed, start, end),
+        held,
+        array,
+        id,
+        counts,
+        worst,
+    );
 }
 
 // All counts that were lent are told, those behind the part's too.
@@ -291,13 +401,26 @@ pub fn tell_runs(v: [usize; 16], fresh: bool, counted: &[u8], typed: &[u8]) {
     let mut array = [0u8; 32769];
     let mut id = [0u8; 65];
     let mut counts = [0u32; crate::MOST];
+    let mut worst = [0usize; 2];
     cases::counts::read(&mut counts, counted);
+    begin(v, &counts, &mut worst);
     deliver(v, &mut held, &mut array, &mut id);
-    series(v, fresh, typed, &mut held, &mut array, &mut id, &mut counts);
+    series(
+        v,
+        fresh,
+        typed,
+        &mut held,
+        &mut array,
+        &mut id,
+        &mut counts,
+        &mut worst,
+    );
     say(b"; worn");
     crate::counts::tell_worn(&counts);
     say(b"; report ");
     crate::counts::tell_report(narrow(v[PART]), cases::counts::shown(&counts, v[COUNTS]));
+    crate::tell(b"; worst ", worst[0]);
+    crate::tell(b" with ", worst[1]);
 }
 
 // ---- what an end or a cut, now, would count
@@ -331,12 +454,12 @@ fn alone(v: [usize; 16], typed: &[u8], held: &mut [u8; 137]) {
     run_alone(v, held, &mut array, &mut id, cut(&events, 0, n));
 }
 
-fn mark(v: [usize; 16], held: &[u8; 137], counts: &mut [u32]) {
+fn mark(v: [usize; 16], held: &[u8; 137], counts: &mut [u32]) -> Most {
     wear::mark(
         narrow(v[PART]),
         pack_chip::unpack(held),
         cases::counts::first(counts, v[COUNTS]),
-    );
+    )
 }
 
 pub fn tell_mark(v: [usize; 16], counted: &[u8], typed: &[u8]) {
@@ -345,7 +468,9 @@ pub fn tell_mark(v: [usize; 16], counted: &[u8], typed: &[u8]) {
     cases::counts::read(&mut counts, counted);
     alone(v, typed, &mut held);
     tell_state(&held);
-    mark(v, &held, &mut counts);
+    let raised = mark(v, &held, &mut counts);
     say(b"; worn");
     crate::counts::tell_worn(&counts);
+    say(b"; raised ");
+    crate::counts::tell_most(raised);
 }

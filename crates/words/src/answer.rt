@@ -130,7 +130,7 @@ fn more(n: usize) -> usize {
 }
 
 // `0024h..0027h`, or `0024h` where it is one byte: the places from one on to before another.
-fn span(ok: bool, from: usize, end: usize) -> bool {
+pub fn span(ok: bool, from: usize, end: usize) -> bool {
     let low = address(ok, from);
     if end <= more(from) {
         return low;

@@ -16,6 +16,9 @@ pub struct Ground {
     pub from: usize,
 }
 
+// Where a count of wear stays.
+const FULL: u32 = 4294967295;
+
 // ---- what was refused
 
 // The address of the i-th byte from one on. The sum is guarded for the proof alone, as is the product below: what is shown lies in an array.
@@ -153,4 +156,23 @@ pub fn figures(
     let two = count(one, b"polls ", polls);
     let three = count(two, b"cycles ", cycles);
     count(three, b"clocks ", clocks)
+}
+
+// ---- the most worn group
+
+// A count that stays at its top says how many there were at least.
+pub fn or_more(ok: bool, most: u32) -> bool {
+    if most == FULL {
+        return say(ok, b" or more");
+    }
+    ok
+}
+
+// `most group 16, 0040h..0043h: 560`, of groups of so many bytes; with no line end.
+pub fn most(ok: bool, size: usize, group: usize, count: u32) -> bool {
+    let named = number(say(ok, b"most group "), group);
+    let from = first_of(group, size);
+    let there = answer::span(say(named, b", "), from, onward(from, size));
+    let told = number(say(there, b": "), count as usize);
+    or_more(told, count)
 }

@@ -34,12 +34,12 @@ same-length-6 c = search needs
 
 returns : tie.Need-returns
 returns c =
-    let a = c .before .before .before .before .before .before .before .before .before .before .before .before .before .before .before .before .before .before .before .before .before .before .before .before .before .before .before .before .before .args in
-    let g = c .before .before .before .before .before .before .before .before .before .before .before .before .before .before .before .before .before .before .before .before .before .before .begin in
-    let w = c .before .before .before .before .before .before .before .before .before .before .before .before .before .before .go in
-    let x = driven _ _ _ _ (a .request) (a .chip) _ _ _ _ (g .result) (w .result .held) _ (w .result .answer) (c .reported .result) (g .ensures) (w .ensures .0) (w .ensures .1 .0) (c .reported .ensures) in
-    let y = taped _ _ _ _ (a .request) (a .chip) _ _ (g .result) (g .ensures) _ _ _ _ _ _ _ (w .ensures .1 .1 .0) (w .ensures .1 .1 .1 .0) (w .ensures .1 .1 .1 .1 .0) (w .ensures .1 .1 .1 .1 .1) in
-    (x .0, (x .1 .0, (x .1 .1, y)))
+    let a = c .before .before .before .before .before .before .before .before .before .before .before .before .before .before .before .before .before .before .before .before .before .before .before .before .before .before .before .before .before .before .args in
+    let g = c .before .before .before .before .before .before .before .before .before .before .before .before .before .before .before .before .before .before .before .before .before .before .before .begin in
+    let w = c .before .before .before .before .before .before .before .before .before .before .before .before .before .before .before .go in
+    let x = driven _ _ _ _ (a .request) (a .chip) _ _ _ _ (g .result) (a .worst) (w .result .held) _ (w .result .answer) (c .before .reported .result) (g .ensures) (w .ensures .0) (w .ensures .1 .0) (c .before .reported .ensures) in
+    let y = taped _ _ _ _ (a .request) (a .chip) _ _ (g .result) (a .worst) (g .ensures) _ _ _ _ _ _ _ (w .ensures .1 .1 .0) (w .ensures .1 .1 .1 .0) (w .ensures .1 .1 .1 .1 .0) (w .ensures .1 .1 .1 .1 .1 .0) in
+    (x .0, (x .1 .0, (x .1 .1, (y .0, (y .1 .0, (y .1 .1 .0, (y .1 .1 .1, w .ensures .1 .1 .1 .1 .1 .1)))))))
 
 pub drive-spec : {M : Type 1} → statement M
 drive-spec =

@@ -6,6 +6,7 @@ use Rattle.driver.specs.Machine.{ourDriver}
 use Rattle.chip.specs.Memory.{mem}
 use Rattle.parts.specs.Table.{factsOf}
 use lib.ListN.{length}
+use Rattle.wear.specs.Report.{mostOf}
 use Prim.Native.Nat.{_≤_, _+_, _*_}
 use borrow.Author.Tests.{not-true}
 use borrow.Author.Needs.{needs}
@@ -34,18 +35,19 @@ Inv-loop part enable d array₀ id₀ buffer₀ counts₀ events₀ levels₀ he
     × (lastOf ourDriver (ours (factsOf part) enable) d left answer (whole held buffer (mem array id)) ≡ lastOf ourDriver (ours (factsOf part) enable) d enough (Done 0 0) (whole held₀ buffer₀ (mem array₀ id₀)))
     × (length counts ≡ length counts₀)
     × (along (factsOf part) enable d left (whole held buffer (mem array id)) counts ≡ along (factsOf part) enable d enough (whole held₀ buffer₀ (mem array₀ id₀)) counts₀)
+    × (held .worst ≡ mostOf counts)
 
 abbrev μ-loop : tie.MeasureT-loop
 μ-loop part enable d array₀ id₀ buffer₀ counts₀ events₀ levels₀ held₀ answer₀ sent₀ left₀ array id buffer counts events levels held answer sent left =
     left
 
 loop-holds : tie.Need-loop-holds Inv-loop μ-loop
-loop-holds c = (omega arith, refl, refl, refl, (omega (arith, c .before .before .before .before .before .before .pre .1 .0), omega (arith, c .before .before .before .before .before .before .pre .1 .0)), c .before .before .before .before .before .before .pre .0, refl, refl, refl, omega arith, left-start _ _ _ _ _ _ _, refl, refl, refl)
+loop-holds c = (omega arith, refl, refl, refl, (omega (arith, c .before .before .before .before .before .before .pre .1 .0), omega (arith, c .before .before .before .before .before .before .pre .1 .0)), c .before .before .before .before .before .before .pre .0, refl, refl, refl, omega arith, left-start _ _ _ _ _ _ _, refl, refl, refl, c .before .before .before .before .before .before .pre .1 .1 .1)
 
 turn-requires : tie.Need-turn-requires Inv-loop μ-loop
 turn-requires c κs =
     let l = c .before .before .before .before .before .loop in
-    (rw (l .inv .1, l .inv .2) (l .inv .5), ((omega (arith, l .inv .4, c .before .before .before .before .loop-test .taken), omega (arith, l .inv .4, c .before .before .before .before .loop-test .taken)), c .before .before .before .before .before .before .before .before .before .before .before .before .pre .1 .1))
+    (rw (l .inv .1, l .inv .2) (l .inv .5), ((omega (arith, l .inv .4, c .before .before .before .before .loop-test .taken), omega (arith, l .inv .4, c .before .before .before .before .loop-test .taken)), (c .before .before .before .before .before .before .before .before .before .before .before .before .pre .1 .1 .0, l .inv .14)))
 
 sends-requires : tie.Need-sends-requires Inv-loop μ-loop
 sends-requires c κs = tt
@@ -93,8 +95,8 @@ returns c =
     let g = sym (c .before .going .ensures) ∙ not-true (c .before .going .result) (c .if1 .taken) in
     let over = not-going _ _ _ _ _ (t .result .ended) (there .result) (code .result) (l .sent) _ _ _ _ _ e found (p .ensures .0) (p .ensures .1 .0) (p .ensures .1 .1) g in
     let q = left-still _ _ _ _ _ (t .result .ended) (there .result) (code .result) (l .sent) _ _ _ _ _ e found (p .ensures .0) (p .ensures .1 .0) (p .ensures .1 .1) (l .left) _ _ _ more g (l .inv .10) in (
-      turn-still _ _ _ (l .held) _ _ _ _ _ e (l .left) _ (l .inv .6) over,
-      (last-kept _ _ _ _ _ _ e said (l .left) _ _ more (l .inv .11) over, (q .0, (q .1 .0, (q .1 .1, worn-still _ _ _ _ _ (l .counts) _ e (t .ensures .1 .1) (l .left) _ more (l .inv .13) over)))),
+      turn-still _ _ _ (l .held) _ _ (t .result .held) _ _ e (l .left) _ (l .inv .6) over,
+      (last-kept _ _ _ _ _ _ e said (l .left) _ _ more (l .inv .11) over, (q .0, (q .1 .0, (q .1 .1, (worn-still _ _ _ _ _ (l .counts) _ e (t .ensures .1 .1 .0) (l .left) _ more (l .inv .13) over, t .ensures .1 .1 .1))))),
     )
 
 sub-left : tie.Need-sub-left Inv-loop μ-loop
@@ -114,21 +116,22 @@ loop-again c =
     let e = t .ensures .0 in
     let said = t .ensures .1 .0 .1 in
     let found = told _ (whole (l .held) (l .buffer) (mem (l .array) (l .id))) (t .result .ended) (there .result) (code .result) (t .result .answer) (t .ensures .1 .0) (there .ensures) (code .ensures) in
-    let few = turn-few _ _ _ (l .held) _ _ _ _ _ e in (
+    let few = turn-few _ _ _ (l .held) _ _ (t .result .held) _ _ e in (
       omega arith,
       search needs,
       search needs,
       search needs,
       (omega (arith, few, l .inv .4, more), omega (arith, few, l .inv .4, more)),
-      turn-fit _ _ _ (l .held) _ _ _ _ _ e _ _ (l .inv .5),
-      turn-on _ _ _ (l .held) _ _ _ _ _ e (l .left) _ more (l .inv .6),
+      turn-fit _ _ _ (l .held) _ _ (t .result .held) _ _ e _ _ (l .inv .5),
+      turn-on _ _ _ (l .held) _ _ (t .result .held) _ _ e (l .left) _ more (l .inv .6),
       search needs,
       search needs,
       omega (arith, l .inv .9, more, two _ _ _ _ _ (t .result .ended) (there .result) (code .result) (l .sent) _ _ _ _ _ e found (p .ensures .0) (p .ensures .1 .0) (p .ensures .1 .1)),
       left-on _ _ _ _ _ (t .result .ended) (there .result) (code .result) (l .sent) _ _ _ _ _ e found (p .ensures .0) (p .ensures .1 .0) (p .ensures .1 .1) (l .left) _ _ _ more (l .inv .10),
       last-on _ _ _ _ _ _ e said (l .left) _ _ more (l .inv .11),
       search needs,
-      worn-on _ _ _ _ _ (l .counts) _ e (t .ensures .1 .1) (l .left) _ more (l .inv .13),
+      worn-on _ _ _ _ _ (l .counts) _ e (t .ensures .1 .1 .0) (l .left) _ more (l .inv .13),
+      t .ensures .1 .1 .1,
     )
 
 same-length-7 : tie.Need-same-length-7 Inv-loop μ-loop
@@ -153,7 +156,7 @@ returns-2 : tie.Need-returns-2 Inv-loop μ-loop
 returns-2 c =
     let l = c .before .loop in
     let q = left-end _ _ _ _ _ _ _ _ _ _ _ (omega arith) (l .inv .10) in
-    (turns-end _ _ _ _ _ _ (omega arith) (l .inv .6), (last-end _ _ _ _ _ _ _ (omega arith) (l .inv .11), (q .0, (q .1 .0, (q .1 .1, worn-end _ _ _ _ _ _ _ (omega arith) (l .inv .13))))))
+    (turns-end _ _ _ _ _ _ (omega arith) (l .inv .6), (last-end _ _ _ _ _ _ _ (omega arith) (l .inv .11), (q .0, (q .1 .0, (q .1 .1, (worn-end _ _ _ _ _ _ _ (omega arith) (l .inv .13), l .inv .14))))))
 
 pub go-spec : {M : Type 1} → statement M
 go-spec =

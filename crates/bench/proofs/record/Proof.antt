@@ -35,7 +35,7 @@ drive-requires : tie.Need-drive-requires
 drive-requires c κs =
     let v = (sym (c .before .before .before .before .before .before .before .before .judge .ensures) ∙ c .before .before .before .before .before .before .enum-told .given .1) in
     let t : Typed (c .before .before .before .before .before .before .before .before .before .before .before .before .before .before .args .chip) = record { byte = search (needs, c .before .before .before .before .before .before .before .before .before .before .before .before .before .before .good .1 .1 .1 .0); latches = search (needs, c .before .before .before .before .before .before .before .before .before .before .before .before .before .before .good .1 .1 .1 .0) } in
-    (run-fit _ _ _ _ _ _ _ t v, run-first _ _ _ _ _ _ _ v)
+    (run-fit _ _ _ _ _ _ _ t v, (run-first _ _ _ _ _ _ _ v, refl))
 
 enum-known-verdict : tie.Need-enum-known-verdict
 enum-known-verdict c = search needs
@@ -61,8 +61,8 @@ same-length-5 c = search needs
 returns : tie.Need-returns
 unfolding finalOf
 returns c =
-    let v = (sym (c .before .before .before .before .before .before .before .before .before .before .before .before .before .before .before .before .before .before .before .before .judge .ensures) ∙ c .before .before .before .before .before .before .before .before .before .before .before .before .before .before .before .before .before .before .enum-told .given .1) in
-    let t = c .before .before .before .before .before .before .before .before .before .before .before .drive .ensures in
+    let v = (sym (c .before .before .before .before .before .before .before .before .before .before .before .before .before .before .before .before .before .before .before .before .before .before .judge .ensures) ∙ c .before .before .before .before .before .before .before .before .before .before .before .before .before .before .before .before .before .before .before .before .enum-told .given .1) in
+    let t = c .before .before .before .before .before .before .before .before .before .before .before .before .before .drive .ensures in
     let z = t .1 .1 .1 in
     (rw v (t .0), (rw v (t .1 .0), (rw (v, t .1 .1 .0) refl, rw v (z .0, (z .1 .0, z .1 .1 .0)))))
 

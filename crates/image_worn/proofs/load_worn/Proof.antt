@@ -29,6 +29,9 @@ load-counts-requires c κs =
 standby-requires : tie.Need-standby-requires
 standby-requires c κs = search needs
 
+most-of-requires : tie.Need-most-of-requires
+most-of-requires c κs = search needs
+
 enum-known-verdict : tie.Need-enum-known-verdict
 enum-known-verdict c = search needs
 
@@ -46,14 +49,14 @@ same-length-3 c = search needs
 
 returns : tie.Need-returns
 returns c =
-    let v = sym (c .before .before .before .before .before .before .before .before .before .before .before .before .before .before .before .before .load-verdict .ensures) ∙ c .before .before .before .before .before .before .before .before .before .before .before .before .before .enum-told .given .1 in
-    let p = c .before .before .before .before .before .before .before .before .before .before .before .before .before .before .before .part-in .ensures in
-    (rw (v, c .standby .ensures, c .before .before .before .before .before .before .before .before .before .before .before .before .lock-in .ensures, p), (rw (v, c .before .before .before .before .before .before .before .before .before .fill .ensures .0, p) refl, (rw (v, c .before .before .before .before .before .before .before .before .before .fill .ensures .1, p) refl, rw (v, c .before .before .before .load-counts .ensures, p) refl)))
+    let v = sym (c .before .before .before .before .before .before .before .before .before .before .before .before .before .before .before .before .before .before .load-verdict .ensures) ∙ c .before .before .before .before .before .before .before .before .before .before .before .before .before .before .before .enum-told .given .1 in
+    let p = c .before .before .before .before .before .before .before .before .before .before .before .before .before .before .before .before .before .part-in .ensures in
+    (rw (v, c .before .before .standby .ensures, c .before .before .before .before .before .before .before .before .before .before .before .before .before .before .lock-in .ensures, p), (rw (v, c .before .before .before .before .before .before .before .before .before .before .before .fill .ensures .0, p) refl, (rw (v, c .before .before .before .before .before .before .before .before .before .before .before .fill .ensures .1, p) refl, (rw (v, c .before .before .before .before .before .load-counts .ensures, p) refl, rw (v, c .most-of .ensures, c .before .before .before .before .before .load-counts .ensures, p) refl))))
 
 returns-2 : tie.Need-returns-2
 returns-2 c =
     let v = sym (c .before .before .before .before .before .load-verdict .ensures) ∙ c .before .before .verdict .given .1 in
-    (rw (v, c .standby2 .ensures, c .before .before .before .before .part-in .ensures), (rw v refl, (rw v refl, rw v refl)))
+    (rw (v, c .standby2 .ensures, c .before .before .before .before .part-in .ensures), (rw v refl, (rw v refl, (rw v refl, rw v refl))))
 
 pub load-worn-spec : {M : Type 1} → statement M
 load-worn-spec =
@@ -66,6 +69,7 @@ load-worn-spec =
     fill-requires
     load-counts-requires
     standby-requires
+    most-of-requires
     enum-known-verdict
     standby-requires-2
     same-length

@@ -37,7 +37,7 @@ unfolding packChipInto
 into s c h = rw (eq-eqb (length s) chipLength (holds-long s h)) refl
 
 -- a chip left as it was leaves its bytes as they were
-kept-same : (s : List ℕ) → AllBelow 256 s → chipBytesAfterBench s (unpackedChipOf s) ≡ s
+pub kept-same : (s : List ℕ) → AllBelow 256 s → chipBytesAfterBench s (unpackedChipOf s) ≡ s
 unfolding chipBytesAfterBench
 kept-same s b =
     branch (λ (l : List ℕ). l ≡ s) (holdsChipOf s) (λ h. rw (into s (unpackedChipOf s) h) (chip-unpacks-back s b h .1)) (λ _. refl)

@@ -20,10 +20,10 @@ use Rattle.image_worn.specs.Layout.{wornLengthOf}
 use Rattle.image_worn.specs.Calls.{saveWornVerdictOf, loadWornVerdictOf, toWornVerdictOf, toPlainVerdictOf}
 use Rattle.sapwoodle.specs.Images.{looksOf}
 use Rattle.sapwoodle.specs.Worns.{loadWornVerdictIn, savingWornBytes, loadingWornBytes, toWornBytes, toPlainBytes}
-use Rattle.sapwoodle.specs.Promises.{SaveWornKeeps, LoadWornKeeps, ConvertKeeps, WornBytesKept, SaveWornIsImages, LoadWornHolds}
+use Rattle.sapwoodle.specs.Promises.{SaveWornKeeps, LoadWornKeeps, ConvertKeeps, WornBytesKept, SaveWornIsImages, LoadWornHolds, LoadWornFinds}
 use Rattle.sapwoodle.proofs.answers.Laws.{standby-fits}
 use Rattle.sapwoodle.proofs.images.Laws.{writes-nothing, looked}
-use Rattle.sapwoodle.proofs.worns.Laws.{unheld-worn-refused, loads-nothing}
+use Rattle.sapwoodle.proofs.worns.Laws.{unheld-worn-refused, loads-nothing, worst-held}
 
 save-worn-keeps : SaveWornKeeps savingWornBytes
 save-worn-keeps part s m counts out h =
@@ -37,9 +37,10 @@ to-plain-keeps : ConvertKeeps toPlainBytes
 to-plain-keeps l out h = writes-nothing (imageLengthOf (factsOf (partIn l))) _ out (toPlainVerdictOf l (length out)) h
 
 load-worn-keeps : LoadWornKeeps loadingWornBytes
-load-worn-keeps l enable s m counts h =
-    let k = loads-nothing l _ s m counts (loadWornVerdictIn l enable s m counts) (λ e. h (rw e refl)) in
-    (k .0, k .1, k .2, refl)
+load-worn-keeps l enable s m counts worst h =
+    let o : (loadWornVerdictIn l enable s m counts ≡ Fine → ⊥) = λ e. h (rw e refl) in
+    let k = loads-nothing l _ s m counts (loadWornVerdictIn l enable s m counts) o in
+    (k .0, k .1, k .2, worst-held worst _ (loadWornVerdictIn l enable s m counts) o, refl)
 
 pub worn-bytes-kept : WornBytesKept
 worn-bytes-kept = record { save = save-worn-keeps; load = load-worn-keeps; to-worn = to-worn-keeps; to-plain = to-plain-keeps }
@@ -63,7 +64,10 @@ load-long l enable s m counts =
 
 pub load-worn-holds : LoadWornHolds loadingWornBytes
 unfolding packChipInto
-load-worn-holds l enable s m counts h =
+load-worn-holds l enable s m counts worst h =
     let v = fine (loadWornVerdictIn l enable s m counts) h in
     let b = chip-packs-back (standbyOf (factsOf (partIn l)) (lockIn l)) (standby-fits (factsOf (partIn l)) (lockIn l)) in
     rw (v, eq-eqb (length s) chipLength (load-long l enable s m counts v)) (b .1, b .2)
+
+pub load-worn-finds : LoadWornFinds loadingWornBytes
+load-worn-finds l enable s m counts worst h = rw (fine (loadWornVerdictIn l enable s m counts) h) refl

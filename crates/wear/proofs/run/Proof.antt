@@ -1,18 +1,18 @@
-use mathlib.Core.Path.{ap}
-use Rattle.parts.specs.declared.Verdict.{Verdict}
-use Rattle.parts.specs.Refusals.{soonerOf}
-use mathlib.Core.Path.{_∙_, sym, refl}
+use mathlib.Core.Path.{refl, _∙_, sym}
 use Rattle.parts.proofs.Claims.{sooner-fine}
 use Rattle.chip.proofs.Laws.{run-fine}
+use denote.Ref.{now}
+use Rattle.wear.proofs.Grown.{born-fine, worst-kept}
+use Rattle.wear.proofs.Stretches.{grew-worn}
 use borrow.Author.Needs.{needs}
 use Rattle.wear.proofs.run.Statement.{statement}
 use Rattle.wear.proofs.run.Tie as tie
 
-counts-verdict-requires : tie.Need-counts-verdict-requires
-counts-verdict-requires c κs = search needs
+verdict-requires : tie.Need-verdict-requires
+verdict-requires c κs = search needs
 
-run-verdict-requires : tie.Need-run-verdict-requires
-run-verdict-requires c κs = search needs
+judge-requires : tie.Need-judge-requires
+judge-requires c κs = search needs
 
 sooner-requires : tie.Need-sooner-requires
 sooner-requires c κs = search needs
@@ -21,12 +21,16 @@ enum-told : tie.Need-enum-told
 enum-told c = search needs
 
 go-requires : tie.Need-go-requires
-go-requires c κs =
-    let e = ap (λ (z : Verdict). soonerOf z (c .before .before .before .before .before .before .before .run-verdict .result)) (sym (c .before .before .before .before .before .before .before .before .counts-verdict .ensures)) ∙ sym (c .before .before .before .before .before .before .sooner .ensures) ∙ c .before .before .before .before .enum-told .given .1 in
-    run-fine _ _ _ _ _ _ _ _ (sym (c .before .before .before .before .before .before .before .run-verdict .ensures) ∙ sooner-fine _ (c .before .before .before .before .before .before .before .run-verdict .result) e .1)
+go-requires c κs = let v = sym (c .before .before .before .before .before .before .sooner .ensures) ∙ c .before .before .before .before .enum-told .given .1 in run-fine _ _ _ _ _ _ _ _ (sooner-fine _ _ (sym (c .before .before .before .before .before .before .before .judge .ensures) ∙ sooner-fine (c .before .before .before .before .before .before .before .before .verdict .result) (c .before .before .before .before .before .before .before .judge .result) v .1) .1)
+
+worse-requires : tie.Need-worse-requires
+worse-requires c κs = search needs
 
 enum-known-verdict : tie.Need-enum-known-verdict
 enum-known-verdict c = search needs
+
+refused-requires : tie.Need-refused-requires
+refused-requires c κs = search needs
 
 same-length : tie.Need-same-length
 same-length c = search needs
@@ -42,28 +46,34 @@ same-length-4 c = search needs
 
 returns : tie.Need-returns
 returns c =
-    let w = sym (c .before .before .before .before .before .before .before .before .before .before .before .before .before .before .before .sooner .ensures) ∙ c .before .before .before .before .before .before .before .before .before .before .before .before .before .enum-told .given .1 in
-    let t = c .before .before .before .before .before .before .before .before .go .ensures in
-    rw (← c .before .before .before .before .before .before .before .before .before .before .before .before .before .before .before .before .before .counts-verdict .ensures, ← c .before .before .before .before .before .before .before .before .before .before .before .before .before .before .before .before .run-verdict .ensures) (rw w (t .0), (rw w (t .1 .0), (rw w (t .1 .1 .0), rw w (t .1 .1 .1))))
+    let v = sym (c .before .before .before .before .before .before .before .before .before .before .before .before .before .before .before .before .before .sooner .ensures) ∙ c .before .before .before .before .before .before .before .before .before .before .before .before .before .before .before .enum-told .given .1 in
+    let t = c .before .before .before .before .before .before .before .before .before .before .go .ensures in
+    let b = born-fine (now (c .before .before .before .before .before .before .before .before .before .before .before .before .before .before .before .before .before .before .before .before .before .before .before .before .before .before .before .args .counts)) (c .before .before .before .before .before .before .before .before .before .before .before .before .before .before .before .before .before .before .before .before .before .before .before .before .before .before .before .args .worst) (sym (c .before .before .before .before .before .before .before .before .before .before .before .before .before .before .before .before .before .before .before .verdict .ensures) ∙ sooner-fine (c .before .before .before .before .before .before .before .before .before .before .before .before .before .before .before .before .before .before .before .verdict .result) (c .before .before .before .before .before .before .before .before .before .before .before .before .before .before .before .before .before .before .judge .result) v .0) in
+    rw (← c .before .before .before .before .before .before .before .before .before .before .before .before .before .before .before .before .before .before .before .verdict .ensures, ← c .before .before .before .before .before .before .before .before .before .before .before .before .before .before .before .before .before .before .judge .ensures)
+    (rw v (t .0), (rw v (t .1 .0), (rw v (t .1 .1 .0), (rw v (t .1 .1 .1 .0), rw v (c .worse .ensures ∙ rw (b, t .1 .1 .1 .1, t .1 .1 .1 .0) (worst-kept _ _ (grew-worn _ _ _ _ _)))))))
+
+same-length-5 : tie.Need-same-length-5
+same-length-5 c = search needs
 
 returns-2 : tie.Need-returns-2
-returns-2 c =
-    let w = sym (c .before .before .before .sooner .ensures) ∙ c .before .verdict .given .1 in
-    rw (← c .before .before .before .before .before .counts-verdict .ensures, ← c .before .before .before .before .run-verdict .ensures) (rw w refl, (rw w refl, (rw w refl, rw w refl)))
+returns-2 c = let w = sym (c .before .before .before .before .sooner .ensures) ∙ c .before .before .verdict2 .given .1 in rw (← c .before .before .before .before .before .before .verdict .ensures, ← c .before .before .before .before .before .judge .ensures) (rw w (c .refused .ensures .0), (rw w refl, (rw w refl, (rw w refl, rw w (c .refused .ensures .1)))))
 
 pub run-spec : {M : Type 1} → statement M
 run-spec =
     tie.close
     (tie.spec
-    counts-verdict-requires
-    run-verdict-requires
+    verdict-requires
+    judge-requires
     sooner-requires
     enum-told
     go-requires
+    worse-requires
     enum-known-verdict
+    refused-requires
     same-length
     same-length-2
     same-length-3
     same-length-4
     returns
+    same-length-5
     returns-2)

@@ -38,11 +38,11 @@ same-length-5 c = search needs
 
 returns : tie.Need-returns
 returns c =
-    let u = c .before .before .before .before .before .before .before .before .before .before .before .before .before .before .before .before .before .before .before .before .unpack .ensures in
-    let q = c .before .before .before .before .before .before .before .before .before .before .before .before .before .before .before .before .before .before .before .before .before .before .request .ensures in
-    let s = c .before .before .before .before .before .before .before .before .before .before .before .before .before .before .before .run-worn .ensures in
+    let u = c .before .before .before .before .before .before .before .before .before .before .before .before .before .before .before .before .before .before .before .before .before .before .before .before .unpack .ensures in
+    let q = c .before .before .before .before .before .before .before .before .before .before .before .before .before .before .before .before .before .before .before .before .before .before .before .before .before .before .request .ensures in
+    let s = c .before .before .before .before .before .before .before .before .before .before .before .before .before .before .before .before .before .run-worn .ensures in
     let v = c .before .before .before .before .before .verdict-place .ensures in
-    (rw (c .verdict-number .ensures, s .0, u, q) refl, (rw (c .before .before .before .keep .ensures, s .0, u, q) refl, (rw (s .1 .0, u, q) refl, (rw (s .1 .1 .0, u, q) refl, (rw (s .1 .1 .1, u, q) refl, (rw (v, s .0, u, q) refl, (rw (s .0, u, q) refl, (rw (s .0, u, q) refl, (rw (s .0, u, q) refl, rw (s .0, u, q) refl)))))))))
+    (rw (c .verdict-number .ensures, s .0, u, q) refl, (rw (c .before .before .before .keep .ensures, s .0, u, q) refl, (rw (s .1 .0, u, q) refl, (rw (s .1 .1 .0, u, q) refl, (rw (s .1 .1 .1 .0, u, q) refl, (rw (v, s .0, u, q) refl, (rw (s .0, u, q) refl, (rw (s .0, u, q) refl, (rw (s .0, u, q) refl, (rw (s .0, u, q) refl, (rw (s .1 .1 .1 .1, u, q) refl, rw (s .1 .1 .1 .1, u, q) refl)))))))))))
 
 pub sapwoodle-wear-bench-run-spec : {M : Type 1} → statement M
 sapwoodle-wear-bench-run-spec =

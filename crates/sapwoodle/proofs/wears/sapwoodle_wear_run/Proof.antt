@@ -35,11 +35,11 @@ same-length-5 c = search needs
 
 returns : tie.Need-returns
 returns c =
-    let u = c .before .before .before .before .before .before .before .before .before .before .before .before .before .before .before .before .before .before .before .before .unpack .ensures in
-    let l = c .before .before .before .before .before .before .before .before .before .before .before .before .before .before .before .before .before .before .before .loss-from .ensures in
-    let s = c .before .before .before .before .before .before .before .before .before .before .before .before .before .before .run .ensures in
+    let u = c .before .before .before .before .before .before .before .before .before .before .before .before .before .before .before .before .before .before .before .before .before .before .before .before .unpack .ensures in
+    let l = c .before .before .before .before .before .before .before .before .before .before .before .before .before .before .before .before .before .before .before .before .before .before .before .loss-from .ensures in
+    let s = c .before .before .before .before .before .before .before .before .before .before .before .before .before .before .before .before .run .ensures in
     let k = c .before .before .settle .ensures in
-    (rw (k .0, s .0, l, u) refl, (rw (k .1, s .0, l, u) refl, (rw (s .1 .0, l, u) refl, (rw (s .1 .1 .1, l, u) refl, (rw (s .1 .1 .0, l, u) refl, (rw (s .0, l, u) refl, rw (c .before .before .before .before .verdict-place .ensures, s .0, l, u) refl))))))
+    (rw (k .0, s .0, l, u) refl, (rw (k .1, s .0, l, u) refl, (rw (s .1 .0, l, u) refl, (rw (s .1 .1 .1 .0, l, u) refl, (rw (s .1 .1 .0, l, u) refl, (rw (s .0, l, u) refl, (rw (c .before .before .before .before .verdict-place .ensures, s .0, l, u) refl, (rw (s .1 .1 .1 .1, l, u) refl, rw (s .1 .1 .1 .1, l, u) refl))))))))
 
 pub sapwoodle-wear-run-spec : {M : Type 1} → statement M
 sapwoodle-wear-run-spec =

@@ -1,4 +1,4 @@
-use Prim.Native.Nat.{_+_, _-_, _≤_, _<_}
+use Prim.Native.Nat.{_-_, _≤_}
 use mathlib.Core.Path.{_≡_}
 use lib.ListN.{length}
 use borrow.Author.Needs.{needs}
@@ -6,10 +6,10 @@ use Rattle.wear_try.proofs.runs.series.Statement.{statement}
 use Rattle.wear_try.proofs.runs.series.Tie as tie
 
 abbrev Inv-loop : tie.InvT-loop
-Inv-loop v fresh typed held₀ array₀ id₀ counts₀ start₀ i₀ held array id counts start i = (i ≤ length typed) × (length array ≡ length array₀) × (length id ≡ length id₀) × (length counts ≡ length counts₀)
+Inv-loop v fresh typed held₀ array₀ id₀ counts₀ worst₀ start₀ i₀ held array id counts worst start i = (i ≤ length typed) × (length array ≡ length array₀) × (length id ≡ length id₀) × (length counts ≡ length counts₀)
 
 abbrev μ-loop : tie.MeasureT-loop
-μ-loop v fresh typed held₀ array₀ id₀ counts₀ start₀ i₀ held array id counts start i = length typed - i
+μ-loop v fresh typed held₀ array₀ id₀ counts₀ worst₀ start₀ i₀ held array id counts worst start i = length typed - i
 
 loop-holds : tie.Need-loop-holds Inv-loop μ-loop
 loop-holds c = search needs
