@@ -226,9 +226,12 @@ static void worn_plain(unsigned part, unsigned enable, size_t n) {
                                   plain.answers);
 }
 
+// Beside the product's counts.
+static struct worst held;
+
 static void worn_product(unsigned part, unsigned enable, size_t n) {
     product.cycles = product_wear_run((uint8_t)part, (uint8_t)enable, lent, lent_length, (uint8_t)lock, state, product.array, product.id,
-                                      product.counts, events, n, product.answers);
+                                      product.counts, &held, events, n, product.answers);
 }
 
 // Most counts 0, the others anywhere; some at the top or a little below it, so that they come there. From a seed of their own: the events stay
@@ -255,15 +258,54 @@ static void count_raised(const uint32_t *before, const uint32_t *after) {
     }
 }
 
+// How many runs brought another group to the top place, and how many worsts that the counts do not bear out were refused.
+static size_t overtaken, unborne;
+
+// The counts have just been walked by plain C: the product is given what it found, and has to answer what it finds next.
+static int same_worst(unsigned part, const char *what, struct worst before) {
+    struct worst found = model_worst(product.counts, model_groups(part)), told = {9, 9};
+    unsigned number = product_worst((uint8_t)part, product.counts, &told);
+    if (found.group != before.group) overtaken++;
+    if (number == 0 && held.group == found.group && held.count == found.count && told.group == found.group && told.count == found.count) return 1;
+    printf("differ %s part %u: worst %zu with %u, walk %zu with %u, told %zu with %u\n", what, part, held.group, held.count, found.group,
+           found.count, told.group, told.count);
+    return 0;
+}
+
+// Any other group or count is refused with 4, and changes nothing.
+static int same_unborne(unsigned part, const char *what, size_t n) {
+    static uint32_t before[GROUPS];
+    struct worst right = held, wrong = held;
+    size_t groups = model_groups(part);
+    switch (random_below(5)) {
+    case 0: wrong.group = random_below((uint32_t)groups); break;
+    case 1: wrong.count = random_below(2) ? wrong.count + 1 : wrong.count - 1; break;
+    case 2: wrong.group = random_below((uint32_t)groups), wrong.count = product.counts[wrong.group]; break;
+    case 3: wrong.group = groups + random_below(3); break;
+    default: wrong = (struct worst){random_below((uint32_t)groups), random_below(2) ? 0 : random_below(0x80000000)}; break;
+    }
+    unsigned wanted = wrong.group == right.group && wrong.count == right.count ? 0 : 4;
+    if (wanted == 0) return 1;
+    memcpy(before, product.counts, sizeof before);
+    struct worst given = wrong;
+    unsigned number = product_counts((uint8_t)part, product.array, product.id, product.counts, groups, &given, events, n, product.answers);
+    unborne++;
+    if (number == wanted && given.group == wrong.group && given.count == wrong.count && memcmp(before, product.counts, sizeof before) == 0) return 1;
+    printf("differ %s part %u: worst %zu with %u answered %u, or something changed\n", what, part, wrong.group, wrong.count, number);
+    return 0;
+}
+
 static int same_worn(unsigned part, unsigned enable, size_t n, const char *what) {
     static uint32_t before[GROUPS];
     random_counts(before);
     memcpy(plain.counts, before, sizeof before);
     memcpy(product.counts, before, sizeof before);
     fresh(part);
+    held = model_worst(before, model_groups(part));
+    struct worst was = held;
     worn_plain(part, enable, n);
     worn_product(part, enable, n);
-    if (!agree(part, enable, n, what)) return 0;
+    if (!agree(part, enable, n, what) || !same_worst(part, what, was)) return 0;
     count_raised(before, plain.counts);
     for (unsigned i = 0; i < GROUPS; i++)
         if (plain.counts[i] != product.counts[i]) {
@@ -271,7 +313,7 @@ static int same_worn(unsigned part, unsigned enable, size_t n, const char *what)
                    product.counts[i], before[i]);
             return 0;
         }
-    return 1;
+    return same_unborne(part, what, n);
 }
 
 // Refusal 3: counts of another length. A refused call leaves them. The part's last list of events is still there.
@@ -283,7 +325,8 @@ static int same_lengths(unsigned part) {
         unsigned wanted = lengths[k] == groups ? 0 : 3;
         random_counts(before);
         memcpy(room, before, sizeof before);
-        unsigned number = product_counts((uint8_t)part, product.array, product.id, room, lengths[k], events, ROOM, product.answers);
+        struct worst worst = model_worst(room, lengths[k]);
+        unsigned number = product_counts((uint8_t)part, product.array, product.id, room, lengths[k], &worst, events, ROOM, product.answers);
         if (number == wanted && (wanted == 0 || memcmp(room, before, sizeof room) == 0)) continue;
         printf("differ part %u, %zu counts: %u and not %u, or a count changed\n", part, lengths[k], number, wanted);
         return 0;
@@ -524,12 +567,13 @@ static int same_loaded(unsigned part, size_t n) {
     unsigned enable = random_below(8) ? 0 : random_below(9), locked = 0;
     size_t state_length = random_below(4) ? SAPWOODLE_STATE_LENGTH : about(SAPWOODLE_STATE_LENGTH);
     uint8_t named = 99;
+    struct worst worst = {77, 7};
     random_store(1);
     random_array(before, sizeof before);
     memcpy(room, before, sizeof before);
     if (random_below(8) == 0) s.id_length = p.id_length = 1 + random_below(64);
     if (random_below(8) == 0) s.counts_length = p.counts_length = about(model_groups(part) - 2);
-    unsigned b = product_load_worn(image, n, (uint8_t)enable, room, state_length, &p, &named);
+    unsigned b = product_load_worn(image, n, (uint8_t)enable, room, state_length, &p, &named, &worst);
     unsigned a = worn_load(image, n, enable, state_length == SAPWOODLE_STATE_LENGTH, &locked, &s);
     // The part that the image names may be another of the same lengths, without a pin.
     if (a == 0) {
@@ -538,7 +582,8 @@ static int same_loaded(unsigned part, size_t n) {
         before[4] = (uint8_t)locked;
     }
     answered[a]++;
-    if (a == b && named == (n > 5 ? image[5] : 0) && memcmp(before, room, sizeof room) == 0 &&
+    struct worst found = a == 0 ? model_worst(plain.counts, s.counts_length) : (struct worst){77, 7};
+    if (a == b && worst.group == found.group && worst.count == found.count && named == (n > 5 ? image[5] : 0) && memcmp(before, room, sizeof room) == 0 &&
         memcmp(plain.array, product.array, sizeof plain.array) == 0 && memcmp(plain.id, product.id, sizeof plain.id) == 0 &&
         memcmp(plain.counts, product.counts, sizeof plain.counts) == 0)
         return 1;
@@ -612,12 +657,42 @@ static void load_plain(unsigned part, unsigned enable, size_t n) {
     struct store s = store_of(&plain, part);
     unsigned locked = 0;
     plain.cycles = worn_load(image, n, enable, 1, &locked, &s);
+    // The product answers the worst too.
+    struct worst w = model_worst(s.counts, s.counts_length);
+    plain.cycles += w.group + w.count;
 }
 
 static void load_product(unsigned part, unsigned enable, size_t n) {
     struct store s = store_of(&product, part);
     uint8_t named = 0;
-    product.cycles = product_load_worn(image, n, (uint8_t)enable, state, sizeof state, &s, &named);
+    product.cycles = product_load_worn(image, n, (uint8_t)enable, state, sizeof state, &s, &named, &held);
+}
+
+// ---- the worst: the walk that finds it, the look that a call without events pays, and a page written through the driver
+
+static void walk_plain(unsigned part, unsigned enable, size_t n) {
+    (void)part;
+    struct worst w = model_worst(product.counts, n);
+    plain.cycles = w.group + w.count + enable;
+}
+
+static void walk_product(unsigned part, unsigned enable, size_t n) {
+    struct worst w = {0, 0};
+    (void)n;
+    product.cycles = product_worst((uint8_t)part, product.counts, &w) + w.group + enable;
+}
+
+static void look_product(unsigned part, unsigned enable, size_t n) {
+    (void)n;
+    worn_product(part, enable, 0);
+}
+
+static uint8_t page[64];
+
+static void write_driven(unsigned part, unsigned enable, size_t n) {
+    (void)enable;
+    (void)n;
+    product.cycles = product_wear_write((uint8_t)part, state, product.array, product.id, page, part < 2 ? 16 : part < 4 ? 32 : 64, product.counts, &held);
 }
 
 // ---- times
@@ -678,7 +753,8 @@ int main(int argc, char **argv) {
     }
     lend(part, 0);
     printf("compared events=%zu cut_writes=%zu cut_locks=%zu parts=6 same=yes\n", compared, cut_writes, cut_locks);
-    printf("compared wear_events=%zu counts_raised=%zu to_the_top=%zu parts=6 same=yes\n", compared, raised, topped);
+    printf("compared wear_events=%zu counts_raised=%zu to_the_top=%zu overtaken=%zu unborne=%zu parts=6 same=yes\n", compared, raised, topped, overtaken,
+           unborne);
     size_t texts = 0;
     for (unsigned p = 0; p < 6; p++) {
         size_t n = same_texts(p);
@@ -727,9 +803,18 @@ int main(int argc, char **argv) {
     for (int w = 0; w < 3; w++) {
         size_t k = make[w](part);
         fresh(part);
+        held = model_worst(product.counts, model_groups(part));
         measure(worn[w], "events", part, k, worn_plain, worn_product);
         measure_beside(worn[w], "events", part, k, "run", run_product, worn_product);
     }
+    size_t groups = model_groups(part);
+    fresh(part);
+    random_counts(product.counts);
+    held = model_worst(product.counts, groups);
+    measure("worst_walk", "counts", part, groups, walk_plain, walk_product);
+    measure_beside("worst_look", "counts", part, groups, "walk", walk_product, look_product);
+    memcpy(state, delivered, sizeof delivered);
+    measure_beside("worst_write", "counts", part, groups, "look", look_product, write_driven);
     size_t length = make_image(part, 2, 1);
     fresh(part);
     measure("worn_save", "bytes", part, length, save_plain, save_product);

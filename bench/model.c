@@ -258,3 +258,10 @@ size_t model_wear_run(unsigned part, unsigned enable, const uint8_t *lent, int l
                       uint32_t *counts, const uint8_t *events, size_t n, uint8_t *answers) {
     return run(part, enable, lent, lock, m, array, id, counts, events, n, answers);
 }
+
+struct worst model_worst(const uint32_t *counts, size_t n) {
+    struct worst w = {0, 0};
+    for (size_t i = 0; i < n; i++)
+        if (w.count < counts[i]) w = (struct worst){i, counts[i]};
+    return w;
+}

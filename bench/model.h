@@ -31,6 +31,12 @@ struct model {
     uint8_t latch[64];
 };
 
+// The most worn group, the lowest on a tie.
+struct worst {
+    size_t group;
+    uint32_t count;
+};
+
 size_t model_size(unsigned part);
 size_t model_id_size(unsigned part);
 int model_has_pin(unsigned part);
@@ -48,5 +54,8 @@ size_t model_run(unsigned part, unsigned enable, const uint8_t *lent, int lock, 
 // The same, and each group of the array that a write cycle touches counts one more when that cycle ends or is cut, staying at the top.
 size_t model_wear_run(unsigned part, unsigned enable, const uint8_t *lent, int lock, struct model *m, uint8_t *array, uint8_t *id,
                       uint32_t *counts, const uint8_t *events, size_t n, uint8_t *answers);
+
+// What a walk along the counts finds.
+struct worst model_worst(const uint32_t *counts, size_t n);
 
 #endif

@@ -26,25 +26,39 @@ static size_t product_run(uint8_t part, uint8_t enable, const uint8_t *lent, siz
     return cycles;
 }
 
-// The same with the counts of a part's groups, which go on.
+// The same with the counts of a part's groups and the worst of them, which go on.
 static size_t product_wear_run(uint8_t part, uint8_t enable, const uint8_t *lent, size_t lent_length, uint8_t lock, uint8_t *state,
-                               uint8_t *array, uint8_t *id, uint32_t *counts, const uint8_t *events, size_t n, uint8_t *answers) {
+                               uint8_t *array, uint8_t *id, uint32_t *counts, struct worst *worst, const uint8_t *events, size_t n,
+                               uint8_t *answers) {
     size_t cycles = 0, place = 0;
     memcpy(state, delivered, sizeof delivered);
     sapwoodle_wear_run(part, enable, lent, lent_length, lock, state, sizeof delivered, array, model_size(part), id, model_id_size(part),
-                       counts, model_groups(part), events, n, answers, n, &cycles, &place);
+                       counts, model_groups(part), &worst->group, &worst->count, events, n, answers, n, &cycles, &place);
     return cycles;
 }
 
+static unsigned product_worst(uint8_t part, const uint32_t *counts, struct worst *worst) {
+    return sapwoodle_worst(part, counts, model_groups(part), &worst->group, &worst->count);
+}
+
+// One page written through the driver, with the counts and the worst of them.
+static unsigned product_wear_write(uint8_t part, uint8_t *state, uint8_t *array, uint8_t *id, uint8_t *data, size_t n, uint32_t *counts,
+                                   struct worst *worst) {
+    size_t place = 0, polls = 0, bytes = 0, cycles = 0, clocks = 0;
+    return sapwoodle_wear_bench_run(part, 0, SAPWOODLE_WRITE, 0, n, 10, 0, 1, state, sizeof delivered, array, model_size(part), id,
+                                    model_id_size(part), data, n, counts, model_groups(part), &worst->group, &worst->count, &place, &polls,
+                                    &bytes, &cycles, &clocks);
+}
+
 // How a run answers to so many counts.
-static unsigned product_counts(uint8_t part, uint8_t *array, uint8_t *id, uint32_t *counts, size_t length, const uint8_t *events, size_t n,
-                               uint8_t *answers) {
+static unsigned product_counts(uint8_t part, uint8_t *array, uint8_t *id, uint32_t *counts, size_t length, struct worst *worst,
+                               const uint8_t *events, size_t n, uint8_t *answers) {
     uint8_t state[SAPWOODLE_STATE_LENGTH];
     size_t cycles = 0, place = 0;
     product_deliver(part, array, id);
     memcpy(state, delivered, sizeof state);
     return sapwoodle_wear_run(part, 0, answers, 0, 0, state, sizeof state, array, model_size(part), id, model_id_size(part), counts, length,
-                              events, n, answers, n, &cycles, &place);
+                              &worst->group, &worst->count, events, n, answers, n, &cycles, &place);
 }
 
 // How a step and a run answer to a page and a flag; 255 where they differ.
@@ -101,9 +115,9 @@ static unsigned product_save_worn(uint8_t part, unsigned locked, const struct st
 }
 
 static unsigned product_load_worn(const uint8_t *image, size_t n, uint8_t enable, uint8_t *state, size_t state_length, const struct store *to,
-                                  uint8_t *part) {
+                                  uint8_t *part, struct worst *worst) {
     return sapwoodle_load_worn(image, n, enable, state, state_length, to->array, to->array_length, to->id, to->id_length, to->counts,
-                               to->counts_length, part);
+                               to->counts_length, part, &worst->group, &worst->count);
 }
 
 static unsigned product_from_plain(const uint8_t *image, size_t n, uint8_t *out, size_t room, size_t *written) {

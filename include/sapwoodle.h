@@ -286,21 +286,36 @@ unsigned char sapwoodle_bench_run(unsigned char part, unsigned char enable, unsi
  *
  *     part 2, AAh at 0025h and 55h at 0026h in one page write: when its cycle ends, counts[9] is one more
  *
- *     unsigned int counts[2048] = { 0 };
- *     sapwoodle_wear_run(2, 0, page, 0, 0, state, sizeof state, array, sizeof array, id, 0, counts, 2048, events, n, answers, n, &cycles, &place);
+ * Beside the counts the caller keeps the most worn group of them, the lowest on a tie: its number `group` and its count `count`, 0 and 0 while all
+ * counts are 0. It goes into each call that raises counts and comes back as the worst of the counts that are left, so that nobody walks them to show
+ * it. Each such call looks once whether the counts bear it out, and refuses another with 4: the stored worst group is not what the counts say; begin
+ * again with sapwoodle_worst. A refused call leaves it.
+ *
+ *     unsigned int counts[2048] = { 0 }, count = 0;
+ *     unsigned long group = 0;
+ *     sapwoodle_wear_run(2, 0, page, 0, 0, state, sizeof state, array, sizeof array, id, 0, counts, 2048, &group, &count, events, n, answers, n,
+ *         &cycles, &place);
  */
 #define SAPWOODLE_GROUPS_MOST 8192
 
 /* How many counts a part has: 2,048, and 8,192 of parts 4 and 5; 0 for a number that is no part. */
 unsigned long sapwoodle_groups(unsigned char part);
 
-/* As sapwoodle_run, and the counts go on by the cycles that end or are cut. Refused with 1 to 6, 13. */
+/* `group` gets the group with most, the lowest on a tie, and `count` its count, found by a walk along the counts: for who begins, or joined two heaps;
+ * where all are 0, and of a refused call, 0 each. Refused with 1, 3. */
+unsigned char sapwoodle_worst(unsigned char part,
+    const unsigned int *counts, unsigned long counts_length,
+    unsigned long *group, unsigned int *count);
+
+/* As sapwoodle_run, and the counts go on by the cycles that end or are cut, and the worst of them with them. Refused with 1 to 6, 13; with 4 also where
+ * the counts do not bear the worst out. */
 unsigned char sapwoodle_wear_run(unsigned char part, unsigned char enable,
     const unsigned char *page, unsigned long page_length, unsigned char lock,
     unsigned char *state, unsigned long state_length,
     unsigned char *array, unsigned long array_length,
     unsigned char *id, unsigned long id_length,
     unsigned int *counts, unsigned long counts_length,
+    unsigned long *group, unsigned int *count,
     const unsigned char *events, unsigned long events_length,
     unsigned char *answers, unsigned long answers_length,
     unsigned long *cycles, unsigned long *place);
@@ -311,13 +326,13 @@ unsigned char sapwoodle_wear_report(unsigned char part,
     const unsigned int *counts, unsigned long counts_length,
     unsigned long *total, unsigned long *group, unsigned int *count);
 
-/* The counts of two heaps of traces together, into the first. Refused with 1, 3, for either of them. */
+/* The counts of two heaps of traces together, into the first. Refused with 1, 3, for either of them. sapwoodle_worst finds the worst of both. */
 unsigned char sapwoodle_wear_join(unsigned char part,
     unsigned int *counts, unsigned long counts_length,
     const unsigned int *more, unsigned long more_length);
 
-/* As sapwoodle_bench_run, and the counts go on by the cycles that end in it, also where the driver is refused with 9 to 11. Refused with 1 to 4, 6, 7, 8
- * before anything changes. */
+/* As sapwoodle_bench_run, and the counts go on by the cycles that end in it, also where the driver is refused with 9 to 11, 14, 15, and the worst of them
+ * with them. Refused with 1 to 4, 6, 7, 8 before anything changes; with 4 also where the counts do not bear the worst out. */
 unsigned char sapwoodle_wear_bench_run(unsigned char part, unsigned char enable, unsigned char what,
     unsigned long address, unsigned long length, unsigned long budget,
     unsigned char chip_enable, unsigned long d,
@@ -326,6 +341,7 @@ unsigned char sapwoodle_wear_bench_run(unsigned char part, unsigned char enable,
     unsigned char *id, unsigned long id_length,
     unsigned char *data, unsigned long data_length,
     unsigned int *counts, unsigned long counts_length,
+    unsigned long *group, unsigned int *count,
     unsigned long *place, unsigned long *polls, unsigned long *bytes, unsigned long *cycles, unsigned long *clocks);
 
 /* ---- the image with counts of wear: version 2. It is version 1 but for that number, and behind the identification page for each group, from
@@ -353,14 +369,16 @@ unsigned char sapwoodle_save_worn(unsigned char part,
     unsigned char *out, unsigned long out_length,
     unsigned long *written);
 
-/* As sapwoodle_load, from an image of either version, and the counts with it: of version 1 each is 0. Any number is a count. Refused with 1, 2, 3, 4, 12;
- * an image too short to hold its part byte is 12 at once. */
+/* As sapwoodle_load, from an image of either version, and the counts with it: of version 1 each is 0. Any number is a count. `group` and `count` get the
+ * worst of them; of a refused call they keep their values, as the counts do. Refused with 1, 2, 3, 4, 12; an image too short to hold its part byte is 12
+ * at once. */
 unsigned char sapwoodle_load_worn(const unsigned char *image, unsigned long image_length, unsigned char enable,
     unsigned char *state, unsigned long state_length,
     unsigned char *array, unsigned long array_length,
     unsigned char *id, unsigned long id_length,
     unsigned int *counts, unsigned long counts_length,
-    unsigned char *part);
+    unsigned char *part,
+    unsigned long *group, unsigned int *count);
 
 /* An image of version 1 as one of version 2, with all counts 0. `written` gets its length, of a refused call 0; further bytes of `out` keep their values.
  * Refused with 1, 6, 12, an image of version 2 with 12 too; one too short to hold its part byte is 12 at once. */
