@@ -1,4 +1,4 @@
--- Document 02, §6, of driver and chip together: of any function that is called as `bench::run_worn` is, the counts are what its tape says.
+-- Document 02, §6, of driver and chip together: of any function that is called as `bench::run_worn` is, but for the worst (Kept.antt), the counts are what its tape says.
 -- Assumes nothing.
 use Prim.Native.Nat.{ℕ, _+_, _<_, _≤_}
 use mathlib.Core.Path.{_≡_}

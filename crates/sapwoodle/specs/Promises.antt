@@ -1,5 +1,5 @@
 -- What is promised of the calls over bytes, stated over any functions of the form. `stepping`, `running`, `delivering`, `savingBytes`,
--- `loadingBytes`, `savingWornBytes`, `loadingWornBytes`, `toWornBytes`, `toPlainBytes`, `beginning`, `asking` and `benching`, which the contracts
+-- `loadingBytes`, `savingWornBytes`, `loadingWornBytes`, `toWornBytes`, `toPlainBytes`, `wearing`, `benchWearing`, `beginning`, `asking` and `benching`, which the contracts
 -- cite, keep it: proofs/chips/Kept.antt and so on. What an image holds is promised in the crates `image` and `image_worn`, what the driver does to
 -- the chip in the crate `bench_promises`.
 -- Assumes nothing.

@@ -373,16 +373,6 @@ unfolding allBelowOf
 low-all b [] h = refl
 low-all b (x ∷ l) h = rw (lt-ltb x b (h 0 (omega arith))) (low-all b l (λ n k. h (suc n) (omega arith)))
 
--- nothing is below 0
-pub low-none : (l : List ℕ) → allBelowOf 0 true l ≡ eqb (length l) 0
-unfolding allBelowOf
-low-none [] = refl
-low-none (x ∷ l) = rw (le-ltb x 0 (omega arith), ne-eqb (suc (length l)) 0 (λ e. omega arith)) (never l)
-  where
-    never : (k : List ℕ) → allBelowOf 0 false k ≡ false
-    never [] = refl
-    never (y ∷ k) = never k
-
 same-test : (a b : Bool) → (a ≡ true → b ≡ true) → (b ≡ true → a ≡ true) → a ≡ b
 same-test true b h k = sym (h refl)
 same-test false true h k = k refl

@@ -42,7 +42,21 @@ pub fn most_of(counts: &[u32]) -> Most
 
 // ---- the look
 
-// Whether no count is above a limit; in a loop without a way out.
+// Whether every count is below a limit; in a loop without a way out. A loop of its own for each of the two: through one for both the run behind
+// the look is compiled to slower code.
+fn all_below(limit: u32, counts: &[u32]) -> bool
+    ensures { λ r. ⌜ r ≡ allBelowOf limit true (now (counts .entry)) ⌝ }
+{
+    let mut low = true;
+    let mut i = 0;
+    while i < counts.len() {
+        low = low & (counts[i] < limit);
+        i += 1;
+    }
+    low
+}
+
+// Whether none is above it.
 fn none_above(limit: u32, counts: &[u32]) -> bool
     ensures { λ r. ⌜ r ≡ allBelowOf (limit + 1) true (now (counts .entry)) ⌝ }
 {
@@ -53,16 +67,6 @@ fn none_above(limit: u32, counts: &[u32]) -> bool
         i += 1;
     }
     low
-}
-
-// Whether every count is below it.
-fn all_below(limit: u32, counts: &[u32]) -> bool
-    ensures { λ r. ⌜ r ≡ allBelowOf limit true (now (counts .entry)) ⌝ }
-{
-    if limit == 0 {
-        return counts.len() == 0;
-    }
-    none_above(limit - 1, counts)
 }
 
 // Whether a group is the one that the walk finds: it holds the count, every lower one has less and none has more.

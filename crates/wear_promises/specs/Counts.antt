@@ -1,4 +1,4 @@
--- Document 02, §6, of any function that counts wear as `wear::run` does: the counts are what the history says.
+-- Document 02, §6, of any function that counts wear as `wear::go_on` does: the counts are what the history says.
 -- Assumes nothing.
 use Prim.Native.Nat.{ℕ, suc, _+_, _/_, _<_, _≤_}
 use mathlib.Core.Path.{_≡_}
@@ -24,7 +24,7 @@ use Rattle.wear.specs.Report.{sumOf}
 use Rattle.wear.specs.Calls.{WearLeft}
 use Rattle.wear_promises.specs.History.{timesOf, touchedIn}
 
--- called as `wear::run` is: part, enable, what is given for a loss of power, chip, the two lent buffers, the counts, event codes, the lent answer buffer
+-- called as `wear::go_on` is: part, enable, what is given for a loss of power, chip, the two lent buffers, the counts, event codes, the lent answer buffer
 abbrev pub WearRun : Type 0
 WearRun = ℕ → ℕ → PowerCut → Chip → Mem → List ℕ → List ℕ → List ℕ → WearLeft
 

@@ -1,25 +1,52 @@
-use Prim.Native.Nat.{ℕ, _+_, _-_}
-use mathlib.Core.Path.{_≡_, _∙_, sym, ap}
+use borrow.Author.Needs.{needs}
+use Prim.Native.Nat.{_-_, _≤_}
+use mathlib.Core.Path.{_≡_, refl, _∙_, sym}
 use mathlib.Core.Bool.{true}
 use native.Mathlib.Omega.{arith}
+use lib.ListN.{length, drop}
 use denote.Ref.{now}
 use Rattle.parts.specs.Bytes.{allBelowOf}
-use Rattle.wear.proofs.Grown.{low-none}
-use borrow.Author.Needs.{needs}
+use Rattle.parts.proofs.Bytes.{low-step, low-end}
 use Rattle.wear.proofs.worst.all_below.Statement.{statement}
 use Rattle.wear.proofs.worst.all_below.Tie as tie
 
-returns : tie.Need-returns
-returns c = sym (ap (λ (z : ℕ). allBelowOf z true (now (c .before .before .args .counts))) (c .if1 .taken) ∙ low-none (now (c .before .before .args .counts)))
+abbrev Inv-loop : tie.InvT-loop
+Inv-loop limit counts low₀ i₀ low i = (i ≤ length counts) × (allBelowOf limit low (drop i counts) ≡ allBelowOf limit true counts)
 
-sub-none-above : tie.Need-sub-none-above
-sub-none-above c = search needs
+abbrev μ-loop : tie.MeasureT-loop
+μ-loop limit counts low₀ i₀ low i = length counts - i
 
-none-above-requires : tie.Need-none-above-requires
-none-above-requires c κs = search needs
+loop-holds : tie.Need-loop-holds Inv-loop μ-loop
+loop-holds c = (omega arith, refl)
 
-returns-2 : tie.Need-returns-2
-returns-2 c = let e : c .before .before .before .args .limit - 1 + 1 ≡ c .before .before .before .args .limit = omega (arith, c .before .if1 .left) in c .none-above .ensures ∙ ap (λ (z : ℕ). allBelowOf z true (now (c .before .before .before .args .counts))) e
+mul-low : tie.Need-mul-low Inv-loop μ-loop
+mul-low c = search needs
+
+shared-slice-read-low : tie.Need-shared-slice-read-low Inv-loop μ-loop
+shared-slice-read-low c = search needs
+
+add-i : tie.Need-add-i Inv-loop μ-loop
+add-i c = search needs
+
+loop-less : tie.Need-loop-less Inv-loop μ-loop
+loop-less c = search needs
+
+loop-again : tie.Need-loop-again Inv-loop μ-loop
+loop-again c = let l = c .before .before .loop in let a = c .before .before .before .args in (omega arith, low-step (a .limit) (l .low) (l .i) (now (a .counts)) (omega arith) ∙ l .inv .1)
+
+returns : tie.Need-returns Inv-loop μ-loop
+returns c = let l = c .before .loop in let a = c .before .before .args in sym (low-end (a .limit) (l .low) (l .i) (now (a .counts)) (omega arith)) ∙ l .inv .1
 
 pub all-below-spec : {M : Type 1} → statement M
-all-below-spec = tie.close (tie.spec returns sub-none-above none-above-requires returns-2)
+all-below-spec =
+    tie.close
+    (tie.spec
+    Inv-loop
+    μ-loop
+    loop-holds
+    mul-low
+    shared-slice-read-low
+    add-i
+    loop-less
+    loop-again
+    returns)
