@@ -276,7 +276,7 @@ fn cut(
     if k == 0 {
         files::complain(
             word,
-            b": more than 1048575 changes without a Stop; cut it\n",
+            b": got more than 1048575 changes without a Stop, wanted no more: cut it\n",
         );
         return unread(w);
     }
@@ -653,9 +653,9 @@ fn tell_saved(
 // A line of text is seen as a sample above 3, but for bits that are picked.
 fn warn_text(job: Job, word: usize, text: bool) {
     if job.picks & text {
-        files::complain(
-            word,
-            b" begins with a line of text, META .., and its letters are taken for samples: tail -n +2 leaves it out\n",
+        files::tell::name(word);
+        files::tell::say(
+            b": line 1: found text, META .., and its letters are taken for samples: tail -n +2 leaves it out\n",
         );
     }
 }

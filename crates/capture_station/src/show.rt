@@ -7,6 +7,7 @@ use words::answer;
 use words::answer::count;
 use words::answer::number;
 use words::answer::say;
+use words::status;
 
 // A clock in its byte: how many clocks of the byte came before it, which byte behind the last Start, counted from 1, and the bits so far.
 pub struct Spot {
@@ -65,6 +66,7 @@ pub fn refused(r: Refusal) -> bool {
 
 // A sample that is none, and what files have such.
 fn refused_at(ok: bool, r: Refusal) -> bool {
+    status::refused();
     let told = field(ok, b"refused ", text::wide(parts::number(r)));
     let placed = count(told, b" at ", parts::verdict_place(Verdict::Refused(r)));
     say(
@@ -91,6 +93,7 @@ fn told_spot(ok: bool, s: Spot) -> bool {
 
 // The model's level is the other one.
 fn differs(ok: bool, sample: usize, clock: usize, level: u8, spot: Spot) -> bool {
+    status::refused();
     let one = field(ok, b"differs at sample ", sample);
     let two = field(one, b", clock ", clock);
     let three = field(two, b": line ", text::wide(level));

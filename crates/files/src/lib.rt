@@ -1,14 +1,17 @@
-// Stored chips: an image or an Intel HEX file that is read, and an image written into a file that is there whole or not at all. A chip is
-// held as its bytes.
+// Stored chips: an image, an Intel HEX file or raw bytes that are read, and each of them written into a file that is there whole or not at
+// all. A chip is held as its bytes.
 pub mod counts;
+pub mod lost;
+mod saved;
 pub mod shape;
+pub mod store;
 pub mod tell;
+pub mod traced;
 mod why;
 
 ghost use mathlib.Core.Path.{_≡_};
 ghost use lib.ListN.{length};
 use hexfile::HexRead;
-use image::Saved;
 use libc::STDIN_FILENO;
 use parts::Loss;
 use parts::Refusal;
@@ -16,6 +19,8 @@ use parts::Verdict;
 use wear::Most;
 use words::Job;
 use words::Number;
+use words::form;
+use words::status;
 
 // What became of a chip before its run: it was judged, whether its file has the counts of its wear, and the worst of the counts; or standard
 // error has the reason.
@@ -46,23 +51,23 @@ fn warn(what: &[u8]) {
     tell::say(what);
 }
 
-// What is wrong with a file that is read.
+// Why a file that is read is of no use: nothing is answered.
 pub fn complain(word: usize, what: &[u8]) {
     warn(b"sapwoodle: ");
-    why::name(word);
+    tell::name(word);
     warn(what);
+    status::trouble();
 }
 
 pub fn unread(word: usize) {
-    complain(word, b" cannot be read\n");
+    complain(word, b": cannot be read\n");
 }
 
 // The file of this name, opened; below 0 where it cannot be, and standard error has the reason.
 pub fn open_named(name: &[u8]) -> i32 {
     let fd = os::open_read(name);
     if fd < 0 {
-        warn(b"sapwoodle: ");
-        os::fail(name);
+        words::failed(name);
     }
     fd
 }
@@ -114,7 +119,7 @@ pub fn too_long(word: usize, n: usize) -> bool {
     if n <= MOST {
         return false;
     }
-    complain(word, b" is longer than 1048576 bytes\n");
+    complain(word, b": got more than 1048576 bytes, wanted no more\n");
     true
 }
 
@@ -213,15 +218,21 @@ fn is_image(part: u8, bytes: &[u8]) -> bool {
 }
 
 // An image of another part is not what was meant; anything else is no image.
-fn other(part: u8, bytes: &[u8]) -> Ready {
-    if is_image(part, bytes) {
-        warn(b"sapwoodle: the image is of another part than the one named\n");
+fn other(word: usize, part: u8, bytes: &[u8]) -> Ready {
+    let found = image::part_in(bytes);
+    if is_image(found, bytes) {
+        complain(word, b": got an image of part ");
+        tell::number(text::wide(found));
+        warn(b", wanted part ");
+        tell::number(text::wide(part));
+        warn(b"\n");
         return Ready::Told;
     }
     Ready::Judged(Verdict::Refused(Refusal::BadImage), false, unworn())
 }
 
 fn load(
+    word: usize,
     part: u8,
     enable: u8,
     bytes: &[u8],
@@ -233,7 +244,7 @@ fn load(
     let l = image_worn::load_worn(bytes, enable, array, id, counts);
     let loaded = l.loaded;
     if loaded.part != part {
-        return other(loaded.part, bytes);
+        return other(word, part, bytes);
     }
     let verdict = loaded.verdict;
     let worst = l.worst;
@@ -241,7 +252,8 @@ fn load(
     Ready::Judged(verdict, is_worn(bytes), worst)
 }
 
-fn chip_in(
+// An image: of one that is refused standard error has the reason.
+fn image_chip(
     word: usize,
     part: u8,
     enable: u8,
@@ -251,20 +263,76 @@ fn chip_in(
     id: &mut [u8],
     counts: &mut [u32],
 ) -> Ready {
-    if is_hex(bytes) {
-        if too_long(word, bytes.len()) {
-            return Ready::Told;
-        }
-        let read = hex_chip(word, part, bytes, held, array, id);
-        let verdict = read.verdict;
-        return Ready::Judged(verdict, false, unworn());
-    }
-    let ready = load(part, enable, bytes, held, array, id, counts);
+    let ready = load(word, part, enable, bytes, held, array, id, counts);
     if refused(ready) {
         shape::tell(word, bytes);
+        shape::or_raw(part, bytes);
         warn(b"\n");
     }
     ready
+}
+
+// A chip as delivered with these bytes as its array.
+fn raw_chip(
+    word: usize,
+    part: u8,
+    bytes: &[u8],
+    held: &mut [u8],
+    array: &mut [u8],
+    id: &mut [u8],
+) -> Verdict {
+    let verdict = delivered(part, held, array, id);
+    if bytes.len() == array.len() {
+        parts::copy(array, 0, bytes);
+        return verdict;
+    }
+    shape::tell_length(word, bytes.len(), array.len());
+    Verdict::Refused(Refusal::BadImage)
+}
+
+// What a file is: its name may say it, else what stands in it does.
+pub fn form_in(word: usize, part: u8, bytes: &[u8]) -> u8 {
+    let f = parts::facts_of(part);
+    let named = form::of_word(word);
+    if named != form::UNSAID {
+        return named;
+    }
+    if is_hex(bytes) {
+        return form::HEX;
+    }
+    if bytes.len() == f.size {
+        return form::RAW;
+    }
+    form::EPR
+}
+
+// The chip of a file's bytes, of any form. What has no counts leaves those that are lent, which are zeros.
+pub fn chip_in(
+    word: usize,
+    part: u8,
+    enable: u8,
+    bytes: &[u8],
+    held: &mut [u8],
+    array: &mut [u8],
+    id: &mut [u8],
+    counts: &mut [u32],
+) -> Ready {
+    match form_in(word, part, bytes) {
+        form::HEX => {
+            if too_long(word, bytes.len()) {
+                return Ready::Told;
+            }
+            let read = hex_chip(word, part, bytes, held, array, id);
+            let verdict = read.verdict;
+            Ready::Judged(verdict, false, unworn())
+        }
+        form::RAW => Ready::Judged(
+            raw_chip(word, part, bytes, held, array, id),
+            false,
+            unworn(),
+        ),
+        _ => image_chip(word, part, enable, bytes, held, array, id, counts),
+    }
 }
 
 fn chip_from(
@@ -287,7 +355,7 @@ fn chip_from(
     Ready::Told
 }
 
-// The chip that the file named by a word has, of either kind. What has no counts leaves those that are lent, which are zeros.
+// The chip that the file named by a word has.
 pub fn fetched(
     word: usize,
     part: u8,
@@ -367,8 +435,6 @@ pub fn prepared(
     }
 }
 
-// ---- writing
-
 // As much of `from` as there is room for, behind the first n bytes.
 pub fn extend(to: &mut [u8], n: usize, from: &[u8]) -> usize {
     let mut at = n;
@@ -384,107 +450,25 @@ pub fn extend(to: &mut [u8], n: usize, from: &[u8]) -> usize {
     at
 }
 
-fn fails(option: &[u8], name: &[u8]) -> bool {
-    warn(b"sapwoodle: the file of ");
-    os::fail(option);
-    os::unlink(name);
-    false
-}
-
-// The bytes are on the disk, and the file is closed.
-fn filled(fd: i32, bytes: &[u8]) -> bool {
-    let whole = io::write_all(fd, bytes);
-    if !whole {
-        libc::close(fd);
-        return false;
-    }
-    let synced = libc::fsync(fd);
-    let closed = libc::close(fd);
-    if synced < 0 {
-        return false;
-    }
-    0 <= closed
-}
-
-// A failure leaves the old file as it was. The new one is made, so that no file of that name is overwritten.
-fn replace(option: &[u8], name: &[u8], beside: &[u8], bytes: &[u8]) -> bool {
-    let fd = os::create(beside);
-    if fd < 0 {
-        warn(b"sapwoodle: the file of ");
-        warn(option);
-        os::fail(b" with .new behind its name");
-        return false;
-    }
-    if !filled(fd, bytes) {
-        return fails(option, beside);
-    }
-    if os::rename(beside, name) < 0 {
-        return fails(option, beside);
-    }
-    true
-}
-
-fn named(option: &[u8], name: &[u8], beside: &mut [u8], bytes: &[u8]) -> bool {
-    let n = extend(beside, 0, name);
-    let k = extend(beside, n, b".new");
-    if k <= beside.len() {
-        return replace(option, name, &beside[0..k], bytes);
-    }
-    false
-}
-
-fn store_as(option: &[u8], name: &[u8], bytes: &[u8]) -> bool {
-    if name.len() == 0 {
-        warn(b"sapwoodle: the file of ");
-        warn(option);
-        warn(b" has no name, or too long a one\n");
-        return false;
-    }
-    let mut beside = io::buffer();
-    named(option, name, &mut beside, bytes)
-}
-
-// Whether the file stands that a word behind an option names: whole or not at all.
-pub fn store(option: &[u8], word: usize, bytes: &[u8]) -> bool {
-    let mut name = io::buffer();
-    let n = os::arg(word, &mut name);
-    store_as(option, &name[..n], bytes)
-}
-
-fn save_in(word: usize, saved: Saved, out: &[u8]) -> bool {
-    let n = saved.length;
-    if n <= out.len() {
-        return store(b"--save", word, &out[0..n]);
-    }
-    false
-}
-
-// Whether the file stands that a word names, or none is asked for: an image of version 1.
-pub fn save(word: usize, part: u8, held: &[u8], array: &[u8], id: &[u8]) -> bool {
-    if word == 0 {
-        return true;
-    }
-    let mut out = [0u8; 32839];
-    let saved = image::save(part, pack_chip::unpack(held), array, id, &mut out);
-    save_in(word, saved, &out)
-}
-
-// The same, of version 2.
-fn save_worn(word: usize, part: u8, held: &[u8], array: &[u8], id: &[u8], counts: &[u32]) -> bool {
-    let mut out = [0u8; 65607];
-    let saved = image_worn::save_worn(part, pack_chip::unpack(held), array, id, counts, &mut out);
-    save_in(word, saved, &out)
-}
+// ---- writing
 
 // Whether counts are saved.
 pub fn keeps(job: Job) -> bool {
-    job.wear & (0 < job.save)
+    job.wear & (0 < job.save) & (job.form == form::EPR)
 }
 
-// The same, of the version that the job keeps.
+// Whether the file stands that a job saves, in its form and without counts; or none is asked for.
+pub fn save(job: Job, held: &[u8], array: &[u8], id: &[u8]) -> bool {
+    if job.save == 0 {
+        return true;
+    }
+    saved::formed(job, held, array, id)
+}
+
+// The same, with the counts where the job keeps them.
 pub fn save_kept(job: Job, held: &[u8], array: &[u8], id: &[u8], counts: &[u32]) -> bool {
     if keeps(job) {
-        return save_worn(job.save, job.part, held, array, id, counts);
+        return saved::worn(job.save, job.part, held, array, id, counts);
     }
-    save(job.save, job.part, held, array, id)
+    save(job, held, array, id)
 }

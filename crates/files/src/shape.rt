@@ -1,10 +1,14 @@
 // Why a file is no image: what stands there and what was wanted, on standard error. A file of counts has a mark, a version and a part too.
 use crate::tell::byte;
+use crate::tell::name;
 use crate::tell::number;
 use crate::tell::say;
 
 // Room for one byte more than the largest image has, so that a longer file is seen to be too long.
 pub const ROOM: usize = 65608;
+
+// And one more than the most bytes that a file of any form has.
+const WHOLE: usize = 1048577;
 
 // The mark, the version and the part.
 const HEAD: usize = 6;
@@ -48,11 +52,14 @@ pub fn no_part(part: u8) {
     say(b", wanted 0 to 5");
 }
 
-// Of a file that is longer than any, not all was read.
+// Of a file that is longer than any, not all was read: no more than there was room for.
 pub fn found(n: usize, room: usize) {
     number(n);
+    if n == 1 {
+        return say(b" byte");
+    }
     say(b" bytes");
-    if room <= n {
+    if (n == room) | (n == WHOLE) {
         say(b" or more");
     }
 }
@@ -76,7 +83,7 @@ fn length(n: usize, wanted: usize) {
 
 // A part without an identification page has no lock.
 fn lock(flag: u8, ident: bool) {
-    say(b"lock byte ");
+    say(b"found lock byte ");
     byte(flag);
     say(b", wanted 00h");
     if ident {
@@ -93,12 +100,14 @@ fn behind_version(part: u8, ident: bool, bytes: &[u8]) {
 }
 
 fn no_mark(bytes: &[u8]) {
+    say(b"found ");
     mark(bytes);
     say(b", wanted 45h 50h 52h, EPR");
 }
 
 // Refusal 1 is given before 12; a file that is no image at all is to be seen as one.
 fn unknown(part: u8, bytes: &[u8]) {
+    say(b"found ");
     no_part(part);
     if !marked(bytes, b'R') {
         say(b"; ");
@@ -111,6 +120,7 @@ fn malformed(part: u8, ident: bool, bytes: &[u8]) {
         return no_mark(bytes);
     }
     if !versioned(bytes, 1, 2) {
+        say(b"found ");
         version(bytes);
         return say(b", wanted 0001h or 0002h");
     }
@@ -131,8 +141,30 @@ fn reason(bytes: &[u8]) {
     malformed(part, f.ident, bytes);
 }
 
-// `sapwoodle: FILE: `, and the first that is wrong of bytes that are no image; with no line end.
+// `FILE: `, and the first that is wrong of bytes that are no image; with no line end.
 pub fn tell(word: usize, bytes: &[u8]) {
-    crate::complain(word, b": ");
+    name(word);
+    say(b": ");
     reason(bytes);
+}
+
+// What else the bytes could have been, where they have no mark: the array of a part.
+pub(crate) fn or_raw(part: u8, bytes: &[u8]) {
+    let f = parts::facts_of(part);
+    if !marked(bytes, b'R') {
+        say(b"; or ");
+        number(f.size);
+        say(b" raw bytes, got ");
+        found(bytes.len(), WHOLE);
+    }
+}
+
+// `FILE: got 8191 bytes, wanted 8192`
+pub(crate) fn tell_length(word: usize, n: usize, wanted: usize) {
+    name(word);
+    say(b": got ");
+    found(n, WHOLE);
+    say(b", wanted ");
+    number(wanted);
+    say(b"\n");
 }

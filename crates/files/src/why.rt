@@ -1,4 +1,5 @@
 // Why a HEX file was refused: one line for people on standard error, with the file and the number of the line, which is read again here.
+use crate::tell::name;
 use crate::tell::number;
 use crate::tell::say;
 use parts::Refusal;
@@ -344,15 +345,6 @@ fn endless(text: &[u8], at: usize) {
 }
 
 // ---- the line
-
-pub(crate) fn name(word: usize) {
-    if words::is_input(word) {
-        return say(b"standard input");
-    }
-    let mut name = io::buffer();
-    let n = os::arg(word, &mut name);
-    say(&name[..n]);
-}
 
 fn begin(word: usize, line: usize) {
     name(word);

@@ -1,11 +1,8 @@
 // The command `hex`: Intel HEX files looked at, made into images of a chip, and made of one.
 use files::HexReady;
 use hexfile::HexRead;
-use libc::STDERR_FILENO;
 use parts::Refusal;
 use parts::Verdict;
-use state::Chip;
-use wear::Most;
 use words::Job;
 use words::answer;
 
@@ -23,7 +20,7 @@ fn answer_read(job: Job, read: HexRead, held: &[u8], array: &[u8], id: &[u8]) ->
     let verdict = read.verdict;
     match verdict {
         Verdict::Fine => {
-            if files::save(job.save, job.part, held, array, id) {
+            if files::save(job, held, array, id) {
                 return tell_read(job, read);
             }
             false
@@ -66,43 +63,6 @@ fn read_asked(job: Job) -> bool {
 
 // ---- to HEX
 
-fn warn(text: &[u8]) {
-    io::write_all(STDERR_FILENO, text);
-}
-
-fn as_delivered(part: u8, id: &[u8], array: &mut [u8], own: &mut [u8]) -> bool {
-    chip::deliver(part, array, own);
-    check::same(id, own)
-}
-
-fn id_delivered(part: u8, id: &[u8]) -> bool {
-    let mut array = [0u8; 32768];
-    let mut own = [0u8; 64];
-    as_delivered(
-        part,
-        id,
-        fitted::array(part, &mut array),
-        fitted::id(part, &mut own),
-    )
-}
-
-// What a HEX file does not hold of the chip.
-fn warn_lost(part: u8, chip: Chip, id: &[u8], worst: Most) {
-    let line = chip.line;
-    let core = line.core;
-    if !id_delivered(part, id) {
-        warn(
-            b"sapwoodle: the identification page is not as delivered, and a HEX file does not hold it\n",
-        );
-    }
-    if core.locked {
-        warn(b"sapwoodle: the lock is not as delivered, and a HEX file does not hold it\n");
-    }
-    if 0 < worst.count {
-        warn(b"sapwoodle: the image has counts of wear, and a HEX file does not hold them\n");
-    }
-}
-
 fn spell(part: u8, array: &[u8], out: &mut [u8]) -> bool {
     let written = hexfile::write(part, array, out);
     let n = written.length;
@@ -120,10 +80,11 @@ fn tell_text(part: u8, array: &[u8]) -> bool {
 
 fn refuse(word: usize, bytes: &[u8]) -> bool {
     if files::is_hex(bytes) {
-        warn(b"sapwoodle: the file is a HEX file already\n");
+        files::tell::name(word);
+        files::tell::say(b": got Intel HEX, wanted an EPR image\n");
     } else {
         files::shape::tell(word, bytes);
-        warn(b"\n");
+        files::tell::say(b"\n");
     }
     answer::no_image(answer::refused(Refusal::BadImage))
 }
@@ -135,7 +96,8 @@ fn load(word: usize, bytes: &[u8], array: &mut [u8], id: &mut [u8], counts: &mut
     let verdict = loaded.verdict;
     match verdict {
         Verdict::Fine => {
-            warn_lost(loaded.part, loaded.chip, id, l.worst);
+            let worst = l.worst;
+            files::lost::tell(loaded.part, loaded.chip, id, 0 < worst.count);
             tell_text(loaded.part, array)
         }
         Verdict::Refused(_) => refuse(word, bytes),

@@ -73,6 +73,7 @@ fn worn_in(bytes: &[u8]) -> usize {
 
 // `refused 21: `
 fn refused(r: Refusal) -> bool {
+    words::status::refused();
     let told = number(say(true, b"refused "), text::wide(parts::number(r)));
     say(told, b": ")
 }
@@ -120,7 +121,7 @@ fn unmade(asked: Imaging, bytes: &[u8], r: Refusal) -> bool {
 
 // The file stands before anything is told.
 fn made(asked: Imaging, bytes: &[u8]) -> bool {
-    if files::store(b"OUT", asked.out, bytes) {
+    if files::store::store(asked.out, bytes) {
         let told = number(say(true, b"version "), text::wide(asked.version));
         return say(number(say(told, b", "), bytes.len()), b" bytes\n");
     }

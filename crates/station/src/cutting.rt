@@ -332,11 +332,17 @@ fn put(tape: &mut [u8], at: usize, x: u8) {
 }
 
 // The events before the cut, and the reset.
-fn tell_tape(ok: bool, job: Job, events: &mut [u8], levels: &mut [u8]) -> bool {
+// The tape ends with the loss of power; answers how many events that makes.
+fn taped(job: Job, events: &mut [u8], levels: &mut [u8]) -> usize {
     let at = job.cut;
     put(events, at, RESET);
     put(levels, at, QUIET);
-    crate::tell_tape(ok, job.events, cut::counted(at, true), events, levels)
+    cut::counted(at, true)
+}
+
+fn tell_tape(ok: bool, job: Job, events: &mut [u8], levels: &mut [u8]) -> bool {
+    let n = taped(job, events, levels);
+    crate::tell_tape(ok, job.events, n, events, levels)
 }
 
 // ---- the run
@@ -344,18 +350,15 @@ fn tell_tape(ok: bool, job: Job, events: &mut [u8], levels: &mut [u8]) -> bool {
 // The cut is at an event of the tape, or behind its last.
 fn on_tape(k: usize, sent: usize) -> bool {
     if sent < k {
-        io::write_all(libc::STDERR_FILENO, b"sapwoodle: --cut ");
-        io::print_decimal(libc::STDERR_FILENO, k as u64);
-        io::write_all(libc::STDERR_FILENO, b" is too large: the run has ");
-        io::print_decimal(libc::STDERR_FILENO, sent as u64);
-        io::write_all(libc::STDERR_FILENO, b" events\n");
+        words::trouble(b"--cut: got ");
+        files::tell::number(k);
+        files::tell::say(b", wanted no more than the ");
+        files::tell::number(sent);
+        files::tell::say(b" events of the run\n");
         return false;
     }
     if TAPE <= k {
-        io::write_all(
-            libc::STDERR_FILENO,
-            b"sapwoodle: --cut goes up to 393215: no more events of a run are kept\n",
-        );
+        words::trouble(b"--cut goes up to 393215: no more events of a run are kept\n");
         return false;
     }
     true
@@ -412,22 +415,45 @@ fn tell(
     crate::tell_worst(all, job, found.worst)
 }
 
-// The files stand before the report is told.
-fn stored(
+// The wires up to the cut; the loss of power is no event of the wires, but it ends a cycle.
+fn drawn(
     job: Job,
     held: &[u8],
-    array: &[u8],
-    id: &[u8],
-    counts: &[u32],
-    events: &[u8],
-    levels: &[u8],
+    array: &mut [u8],
+    id: &mut [u8],
+    events: &mut [u8],
+    levels: &mut [u8],
 ) -> bool {
-    if crate::drawn(job, Verdict::Fine, job.cut, events, levels) {
-        return files::save_kept(job, held, array, id, counts);
+    if !crate::sampled(job, job.cut, events, levels) {
+        return false;
     }
-    false
+    let n = taped(job, events, levels);
+    crate::dumped(job, n, events, levels, held, array, id)
 }
 
+// The chip before the run is kept for what is told.
+fn drawn_copy(
+    job: Job,
+    held: &[u8],
+    was: &[u8],
+    was_id: &[u8],
+    events: &mut [u8],
+    levels: &mut [u8],
+) -> bool {
+    let mut array = [0u8; 32768];
+    let mut id = [0u8; 64];
+    power_station::copy(was, was_id, &mut array, &mut id);
+    drawn(
+        job,
+        held,
+        fitted::array(job.part, &mut array),
+        fitted::id(job.part, &mut id),
+        events,
+        levels,
+    )
+}
+
+// The files stand before the report is told.
 fn cut_run(
     job: Job,
     page: &[u8],
@@ -442,8 +468,13 @@ fn cut_run(
     events: &mut [u8],
     levels: &mut [u8],
 ) -> bool {
+    let mut before = [0u8; pack_chip::LENGTH];
+    pack_chip::pack(pack_chip::unpack(held), &mut before);
     let found = cut_chip(job, page, events, held, array, id, counts, worst, data);
-    if stored(job, held, array, id, counts, events, levels) {
+    if !drawn_copy(job, &before, was, was_id, events, levels) {
+        return false;
+    }
+    if files::save_kept(job, held, array, id, counts) {
         return tell(job, found, array, id, was, was_id, events, levels);
     }
     false

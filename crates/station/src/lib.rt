@@ -63,10 +63,11 @@ fn draw(word: usize, sent: usize, events: &[u8], levels: &[u8]) -> bool {
             return wires::store(word, &events[0..sent], &levels[0..sent]);
         }
     }
-    io::write_all(
-        libc::STDERR_FILENO,
-        b"sapwoodle: more than 393216 events, too many for --capture\n",
-    );
+    too_many()
+}
+
+fn too_many() -> bool {
+    words::trouble(b"more than 393216 events, too many to draw\n");
     false
 }
 
@@ -74,15 +75,62 @@ fn is_fine(verdict: Verdict) -> bool {
     parts::verdict_number(verdict) == 0
 }
 
-// The wires of a run, done or not; of one that was refused before its first event there are none.
-fn drawn(job: Job, verdict: Verdict, sent: usize, events: &[u8], levels: &[u8]) -> bool {
+// As samples.
+fn sampled(job: Job, sent: usize, events: &[u8], levels: &[u8]) -> bool {
     if job.drawn == 0 {
         return true;
     }
+    draw(job.drawn, sent, events, levels)
+}
+
+// As a value change dump, from the chip before the run on, which is lent for it.
+fn dumped(
+    job: Job,
+    sent: usize,
+    events: &[u8],
+    levels: &[u8],
+    held: &[u8],
+    array: &mut [u8],
+    id: &mut [u8],
+) -> bool {
+    if job.vcd == 0 {
+        return true;
+    }
+    if sent <= events.len() {
+        if sent <= levels.len() {
+            return vcd::store(
+                job.vcd,
+                job.part,
+                job.own,
+                held,
+                array,
+                id,
+                &events[0..sent],
+                &levels[0..sent],
+            );
+        }
+    }
+    too_many()
+}
+
+// The wires of a run, done or not; of one that was refused before its first event there are none.
+fn drawn(
+    job: Job,
+    verdict: Verdict,
+    sent: usize,
+    events: &[u8],
+    levels: &[u8],
+    held: &[u8],
+    array: &mut [u8],
+    id: &mut [u8],
+) -> bool {
     if (sent == 0) & !is_fine(verdict) {
         return true;
     }
-    draw(job.drawn, sent, events, levels)
+    if sampled(job, sent, events, levels) {
+        return dumped(job, sent, events, levels, held, array, id);
+    }
+    false
 }
 
 // A run that is not done leaves no file.
@@ -125,6 +173,7 @@ fn tell_rest(ok: bool, job: Job, verdict: Verdict, data: &[u8], worst: Most) -> 
 // The worst is found as a file is loaded, so the counts bear it out, and this is never told.
 fn tell_wrong_worst() -> bool {
     let r = parts::number(Refusal::BadState);
+    words::status::refused();
     let told = answer::number(say(true, b"refused "), text::wide(r));
     say(
         told,
@@ -196,7 +245,79 @@ fn count(
     ))
 }
 
-// The files stand before the report is told.
+// The report, behind files that stand.
+fn told(
+    job: Job,
+    e: Ended,
+    worst: Most,
+    data: &[u8],
+    events: &mut [u8],
+    levels: &mut [u8],
+) -> bool {
+    let verdict = e.verdict;
+    let told = tell_report(job, e);
+    let taped = tell_tape(told, job.events, e.sent, events, levels);
+    tell_rest(taped, job, verdict, data, worst)
+}
+
+fn run_taped(
+    job: Job,
+    held: &mut [u8],
+    array: &mut [u8],
+    id: &mut [u8],
+    counts: &[u32],
+    worst: Most,
+    data: &mut [u8],
+    was: &mut [u8],
+    was_id: &mut [u8],
+    before: &[u8],
+    events: &mut [u8],
+    levels: &mut [u8],
+) -> bool {
+    let e = recorded(job, held, array, id, data, events, levels);
+    let verdict = e.verdict;
+    if !drawn(job, verdict, e.sent, events, levels, before, was, was_id) {
+        return false;
+    }
+    if saved(job, verdict, held, array, id, counts) {
+        return told(job, e, worst, data, events, levels);
+    }
+    false
+}
+
+// `was`, `was_id` and `before` are the chip before the run, from which it is drawn.
+fn run_on(
+    job: Job,
+    held: &mut [u8],
+    array: &mut [u8],
+    id: &mut [u8],
+    counts: &[u32],
+    worst: Most,
+    data: &mut [u8],
+    was: &mut [u8],
+    was_id: &mut [u8],
+    before: &mut [u8],
+) -> bool {
+    let mut events = power_station::tape();
+    let mut levels = power_station::tape();
+    pack_chip::pack(pack_chip::unpack(held), before);
+    power_station::copy(array, id, was, was_id);
+    run_taped(
+        job,
+        held,
+        array,
+        id,
+        counts,
+        worst,
+        data,
+        was,
+        was_id,
+        before,
+        &mut events,
+        &mut levels,
+    )
+}
+
 fn run(
     job: Job,
     held: &mut [u8],
@@ -206,19 +327,21 @@ fn run(
     worst: Most,
     data: &mut [u8],
 ) -> bool {
-    let mut events = power_station::tape();
-    let mut levels = power_station::tape();
-    let e = recorded(job, held, array, id, data, &mut events, &mut levels);
-    let verdict = e.verdict;
-    if !drawn(job, verdict, e.sent, &events, &levels) {
-        return false;
-    }
-    if !saved(job, verdict, held, array, id, counts) {
-        return false;
-    }
-    let told = tell_report(job, e);
-    let taped = tell_tape(told, job.events, e.sent, &mut events, &mut levels);
-    tell_rest(taped, job, verdict, data, worst)
+    let mut was = [0u8; 32768];
+    let mut was_id = [0u8; 64];
+    let mut before = [0u8; pack_chip::LENGTH];
+    run_on(
+        job,
+        held,
+        array,
+        id,
+        counts,
+        worst,
+        data,
+        fitted::array(job.part, &mut was),
+        fitted::id(job.part, &mut was_id),
+        &mut before,
+    )
 }
 
 fn run_or_cut(

@@ -43,7 +43,7 @@ fn draw_all(events: &[u8], levels: &[u8], out: &mut [u8]) -> usize {
 fn store_in(word: usize, events: &[u8], levels: &[u8], out: &mut [u8]) -> bool {
     let n = draw_all(events, levels, out);
     if n <= out.len() {
-        return files::store(b"--capture", word, &out[0..n]);
+        return files::store::store(word, &out[0..n]);
     }
     false
 }

@@ -1,15 +1,5 @@
 // Commands as they are typed, one after the other: the words are those of the file args, with `then` between two commands. One more compares
 // two files that they left: `same A B`.
-fn is_then(word: &[u8]) -> bool {
-    check::same(word, b"then")
-}
-
-fn then_at(i: usize) -> bool {
-    let mut word = io::buffer();
-    let n = os::arg(i, &mut word);
-    is_then(&word[..n])
-}
-
 // The limit is for the proof alone.
 fn after(i: usize) -> usize {
     if i < 4000 { i + 1 } else { i }
@@ -52,56 +42,18 @@ fn same_command(first: usize) {
 
 // ---- the commands
 
-fn choose_other(word: &[u8], next: usize, end: usize) {
-    if check::same(word, b"wear") {
-        wear_station::wear_command(next, end);
-        return;
-    }
-    if check::same(word, b"image") {
-        image_station::image_command(next, end);
-        return;
-    }
-    if check::same(word, b"same") {
-        return same_command(next);
-    }
-    station::write_command(next, end);
-}
-
-fn choose(word: &[u8], next: usize, end: usize) {
-    if check::same(word, b"read") {
-        station::read_command(next, end);
-        return;
-    }
-    if check::same(word, b"bench") {
-        tables::bench_command(next, end);
-        return;
-    }
-    if check::same(word, b"power") {
-        power_station::power_command(next, end);
-        return;
-    }
-    if check::same(word, b"capture") {
-        capture_station::capture_command(next, end);
-        return;
-    }
-    if check::same(word, b"hex") {
-        hex_station::hex_command(next, end);
-        return;
-    }
-    choose_other(word, next, end);
-}
-
 // The command from a word on; an empty line stands before it.
 fn command(at: usize, end: usize) {
-    let mut word = io::buffer();
-    let n = os::arg(at, &mut word);
     say(b"\n");
-    choose(&word[..n], after(at), end);
+    if words::is(at, b"same") {
+        return same_command(after(at));
+    }
+    commands::command(at, end);
 }
 
 // Where the command that is under way begins.
 fn ended(first: usize, i: usize) -> usize {
-    if then_at(i) {
+    if words::is(i, b"then") {
         command(first, i);
         return after(i);
     }

@@ -1241,22 +1241,16 @@ fn known_part(part: u8, enable: u8, f: Facts) -> bool {
     worsts(part, enable)
 }
 
-fn refused(r: Refusal) -> bool {
-    say(b"refused ");
-    say_number(text::wide(parts::number(r)));
-    say(b"\n")
-}
-
-// The trials on one part; refusals 1 and 2 of document 01 print a line and nothing else. False where it could not be written.
+// The trials on one part, or refusals 1 and 2 of document 01. False where it could not be written.
 fn one_part(part: u8, enable: u8) -> bool {
     let f = parts::facts_of(part);
     if !f.known {
-        return refused(Refusal::NoPart);
+        return answer::no_part(answer::refused(Refusal::NoPart));
     }
     if !parts::enable_right(f, enable) {
-        return refused(Refusal::WrongEnable);
+        return answer::wrong_enable(answer::refused(Refusal::WrongEnable));
     }
-    known_part(part, enable, f)
+    all_told(known_part(part, enable, f))
 }
 
 // A blank line stands between two parts.
@@ -1285,7 +1279,7 @@ fn every_part() -> bool {
 
 fn all_told(done: bool) -> bool {
     if !done {
-        os::fail(b"sapwoodle: standard output");
+        words::failed(b"standard output");
     }
     done
 }
@@ -1298,7 +1292,7 @@ pub fn bench_command(next: usize, end: usize) -> bool {
     }
     let job = words::bench_asked(next, end);
     if job.ok {
-        return all_told(one_part(job.part, job.enable));
+        return one_part(job.part, job.enable);
     }
     false
 }

@@ -1,7 +1,7 @@
 // The image whose counts are gone on from, and in which they are saved.
-use crate::tell;
 use crate::work;
 use files::shape;
+use files::traced;
 use parts::Refusal;
 use parts::Verdict;
 use work::Worn;
@@ -10,7 +10,7 @@ use work::Worn;
 
 fn refuse(word: usize, bytes: &[u8], r: Refusal) -> Worn {
     shape::tell(word, bytes);
-    tell::end(r);
+    traced::end(r);
     work::stopped(work::nothing_yet())
 }
 
@@ -61,7 +61,7 @@ fn save_in(
     let saved = image_worn::save_worn(loaded.part, loaded.chip, array, id, counts, out);
     let n = saved.length;
     if n <= out.len() {
-        return files::store(b"--save", word, &out[0..n]);
+        return files::store::store(word, &out[0..n]);
     }
     false
 }

@@ -8,7 +8,6 @@ mod tell;
 mod work;
 
 use files::shape;
-use files::tell::say;
 use parts::Verdict;
 use words::wearing::Role;
 use words::wearing::Wear;
@@ -83,7 +82,7 @@ fn ended(asked: Wear, w: Worn, image: &[u8], counts: &mut [u32]) -> bool {
         return false;
     }
     if w.part == work::NO_PART {
-        say(b"sapwoodle: no list names a trace, and there is no file of counts\n");
+        words::trouble(b"no list names a trace, and there is no file of counts\n");
         return false;
     }
     finished(asked, w, image, fitted::counts(w.part, counts))

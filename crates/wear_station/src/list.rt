@@ -1,8 +1,6 @@
 // A list of traces: a name a line, LF or CR LF; empty lines are left out. It is read in pieces, so a list of any length goes through.
 use crate::tell;
 use crate::work;
-use files::tell::number;
-use files::tell::say;
 use work::Worn;
 
 // How far a list is read: how many bytes of the line are kept, the line's number, and whether no more is to be read.
@@ -63,12 +61,7 @@ fn next_line(l: Listed, line: &[u8], counts: &mut [u32]) -> Listed {
 }
 
 fn too_long(l: Listed, input: bool, name: &[u8], most: usize) -> Listed {
-    tell::begin(input, name);
-    say(b": line ");
-    number(l.line);
-    say(b" is longer than ");
-    number(most);
-    say(b" bytes\n");
+    tell::long_line(input, name, l.line, most);
     failed(l)
 }
 

@@ -1,8 +1,8 @@
 // The file of counts: the mark `EPC`, version 0001h high byte first, the part, then each group's count as four bytes, high byte first.
-use crate::tell;
 use files::shape;
 use files::tell::number;
 use files::tell::say;
+use files::traced;
 use parts::Refusal;
 
 // Room for one byte more than the largest has, so that a longer file is seen to be too long.
@@ -34,12 +34,12 @@ pub fn load(bytes: &[u8], counts: &mut [u32]) {
 // ---- what is no file of counts
 
 fn begin(input: bool, name: &[u8]) {
-    tell::begin(input, name);
-    say(b": no file of counts: found ");
+    traced::begin(input, name);
+    say(b"no file of counts: found ");
 }
 
 fn end() -> bool {
-    tell::end(Refusal::BadImage);
+    traced::end(Refusal::BadImage);
     false
 }
 
@@ -117,7 +117,7 @@ fn save_in(word: usize, part: u8, counts: &[u32], out: &mut [u8]) -> bool {
     files::counts::put(out, HEAD, counts);
     let n = size_of(counts.len());
     if n <= out.len() {
-        return files::store(b"--save", word, &out[0..n]);
+        return files::store::store(word, &out[0..n]);
     }
     false
 }

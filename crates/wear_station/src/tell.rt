@@ -1,54 +1,34 @@
 // What is wrong with a file, on standard error. A file is named as it was typed, or as its list names it; `input`: it is standard input.
 use files::tell::number;
 use files::tell::say;
+use files::traced;
 use parts::Refusal;
-use parts::Spot;
-
-// `sapwoodle: FILE`
-pub fn begin(input: bool, name: &[u8]) {
-    say(b"sapwoodle: ");
-    if input {
-        return say(b"standard input");
-    }
-    say(name);
-}
+use words::status;
 
 pub fn unread(input: bool, name: &[u8]) {
-    begin(input, name);
-    say(b" cannot be read\n");
+    say(b"sapwoodle: ");
+    traced::begin(input, name);
+    say(b"cannot be read\n");
+    status::trouble();
 }
 
-fn place(spot: Spot) {
-    match spot {
-        Spot::Nowhere => {}
-        Spot::At(k) => {
-            say(b" at ");
-            number(k);
-        }
-    }
-}
-
-// As the trace program answers.
-pub fn refused(input: bool, name: &[u8], r: Refusal) {
-    begin(input, name);
-    say(b": refused ");
-    number(text::wide(parts::number(r)));
-    place(parts::spot_of(r));
-    say(b"\n");
-}
-
-// The end of a line that says why.
-pub fn end(r: Refusal) {
-    say(b" (refused ");
-    number(text::wide(parts::number(r)));
-    say(b")\n");
+pub fn long_line(input: bool, name: &[u8], line: usize, most: usize) {
+    say(b"sapwoodle: ");
+    traced::begin(input, name);
+    say(b"line ");
+    number(line);
+    say(b": got a name of more than ");
+    number(most);
+    say(b" bytes, wanted no more\n");
+    status::trouble();
 }
 
 pub fn other_part(input: bool, name: &[u8], part: u8, before: u8) {
-    begin(input, name);
-    say(b": part ");
+    traced::begin(input, name);
+    say(b"got part ");
     number(text::wide(part));
-    say(b", but what stands before it is of part ");
+    say(b", wanted part ");
     number(text::wide(before));
-    end(Refusal::WrongBuffer);
+    say(b" as before it");
+    traced::end(Refusal::WrongBuffer);
 }

@@ -1,6 +1,7 @@
 // What the words and the lists name, one after another: traces that are run and counted, and files of counts that are joined.
 use crate::stored;
 use crate::tell;
+use files::traced;
 use libc::STDIN_FILENO;
 use parts::Loss;
 use parts::Refusal;
@@ -72,26 +73,18 @@ fn other_part(w: Worn, part: u8) -> Verdict {
     parts::claim(other, Refusal::WrongBuffer)
 }
 
-fn refuse(w: Worn, input: bool, name: &[u8], part: u8, r: Refusal) -> Worn {
+// `text`: the trace, or nothing of a file of counts, of which nothing else is refused.
+fn refuse(w: Worn, input: bool, name: &[u8], text: &[u8], part: u8, r: Refusal) -> Worn {
     let n = parts::number(r);
     if n == parts::number(Refusal::WrongBuffer) {
         tell::other_part(input, name, part, w.part);
     } else {
-        tell::refused(input, name, r);
+        traced::tell(input, name, text, r);
     }
     stopped(w)
 }
 
 // ---- a trace
-
-// The letters' event codes, into a buffer of as many bytes.
-fn recode(letters: &[u8], events: &mut [u8]) {
-    let mut i = 0;
-    while i < events.len() {
-        events[i] = trace::code_of(parts::byte_at(letters, i));
-        i += 1;
-    }
-}
 
 fn delivered(
     part: u8,
@@ -128,7 +121,7 @@ fn run_events(
     answers: &mut [u8],
     counts: &mut [u32],
 ) -> wear::Worn {
-    recode(letters, events);
+    traced::recode(letters, events);
     delivered(part, enable, array, id, events, answers, counts)
 }
 
@@ -171,7 +164,7 @@ fn run_text(
             worst,
             ..w
         },
-        Verdict::Refused(r) => refuse(w, input, name, part, r),
+        Verdict::Refused(r) => refuse(w, input, name, text, part, r),
     }
 }
 
@@ -182,7 +175,7 @@ fn judged(w: Worn, input: bool, name: &[u8], text: &[u8], counts: &mut [u32]) ->
     let verdict = parts::sooner(own, other_part(w, j.part));
     match verdict {
         Verdict::Fine => run_text(w, input, name, j.part, j.enable, text, counts),
-        Verdict::Refused(r) => refuse(w, input, name, j.part, r),
+        Verdict::Refused(r) => refuse(w, input, name, text, j.part, r),
     }
 }
 
@@ -220,7 +213,7 @@ fn join(
     let worst = found.worst;
     match verdict {
         Verdict::Fine => Worn { part, worst, ..w },
-        Verdict::Refused(r) => refuse(w, input, name, part, r),
+        Verdict::Refused(r) => refuse(w, input, name, b"", part, r),
     }
 }
 
@@ -245,7 +238,7 @@ fn counts_in(w: Worn, input: bool, name: &[u8], bytes: &[u8], counts: &mut [u32]
     let verdict = other_part(w, part);
     match verdict {
         Verdict::Fine => joined(w, input, name, part, bytes, counts),
-        Verdict::Refused(r) => refuse(w, input, name, part, r),
+        Verdict::Refused(r) => refuse(w, input, name, b"", part, r),
     }
 }
 

@@ -1,11 +1,12 @@
 // Plain lines on standard output that other tools can read, for more than one command. Each function is told whether the lines before it
 // were written, and says so of its own: what standard output does not take is said once, and nothing follows.
+use crate::status;
 use parts::Refusal;
 
 // Whether a write was taken: said where it was not.
 pub fn written(done: bool) -> bool {
     if !done {
-        os::fail(b"sapwoodle: standard output");
+        crate::failed(b"standard output");
     }
     done
 }
@@ -38,6 +39,7 @@ pub fn bytes(ok: bool, n: usize, all: usize) -> bool {
 // The first line of a refusal, and the reasons that two commands give.
 pub fn refused(r: Refusal) -> bool {
     let n = parts::number(r);
+    status::refused();
     count(true, b"refused ", text::wide(n))
 }
 

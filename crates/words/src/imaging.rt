@@ -18,7 +18,7 @@ pub struct Imaging {
 }
 
 fn wrong(i: usize, kind: usize) -> Imaging {
-    complain(i, kind);
+    complain(help::IMAGE, i, kind);
     Imaging {
         ok: false,
         converts: false,

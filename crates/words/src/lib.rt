@@ -1,10 +1,41 @@
 // The words of a command line, made into a job. What is wrong with a word is said on standard error at once. And the words that more than
 // one command answers with.
 pub mod answer;
+pub mod form;
 pub mod imaging;
+pub mod looking;
 pub mod report;
+pub mod status;
+pub mod tracing;
 pub mod wearing;
 
+use help::BENCH;
+use help::CAPTURE;
+use help::HEX;
+use help::POWER;
+use help::READ;
+use help::WRITE;
+use help::options;
+use help::options::BUDGET;
+use help::options::CUT;
+use help::options::DRAWN;
+use help::options::ENABLE;
+use help::options::ENDS;
+use help::options::EVENTS;
+use help::options::FILL;
+use help::options::FORM;
+use help::options::FROM_IMAGE;
+use help::options::IDENT;
+use help::options::LETTER;
+use help::options::LOCK;
+use help::options::OWN;
+use help::options::PAGE;
+use help::options::PIN;
+use help::options::SAVE;
+use help::options::SCL;
+use help::options::SDA;
+use help::options::VCD;
+use help::options::WORN;
 use libc::STDERR_FILENO;
 use libc::STDIN_FILENO;
 use parts::Refusal;
@@ -29,11 +60,14 @@ pub struct Job {
     // Which words name the files and have the bytes; 0 for none.
     pub image: usize,
     pub save: usize,
+    // The form that is saved, of the module form.
+    pub form: u8,
     // Whether the counts of wear are saved too: it is asked for, or the file that was loaded has them.
     pub wear: bool,
     pub bytes: usize,
-    // The file that a run's wires are drawn into.
+    // The files that a run's wires are drawn into: as samples, and as a value change dump.
     pub drawn: usize,
+    pub vcd: usize,
     // Of a write that is cut, where `cuts`: the event before which power is lost; the file with the bytes of the page that is lent, or, where
     // `fills`, what each of them is; and whether a locking cycle leaves the lock.
     pub cuts: bool,
@@ -66,71 +100,36 @@ pub struct Number {
     pub n: usize,
 }
 
-// What a word is taken for, by number: the words that are always there, then the options with a number, with a file, with nothing.
+// What a word is taken for, by number: the options have the numbers that they have in the crate help, and these the words that are always
+// there.
 const PART: usize = 1;
-
-const ENABLE: usize = 2;
 
 const ADDRESS: usize = 3;
 
 const LENGTH: usize = 4;
 
-const BUDGET: usize = 5;
-
-const ENDS: usize = 6;
-
-const OWN: usize = 7;
-
-const PIN: usize = 8;
-
-const SCL: usize = 9;
-
-const SDA: usize = 10;
-
-const CUT: usize = 11;
-
-const FILL: usize = 12;
-
-const IMAGE: usize = 13;
-
-const SAVE: usize = 14;
-
-const DRAWN: usize = 15;
-
-const PAGE: usize = 16;
-
-const IDENT: usize = 17;
-
-const EVENTS: usize = 18;
-
-const LETTER: usize = 19;
-
-const LOCK: usize = 20;
-
-const WEAR: usize = 21;
-
 // The name of an option, the bytes of a write, the first file of a capture and the word behind its last.
-const OPTION: usize = 22;
+const OPTION: usize = 24;
 
-const BYTES: usize = 23;
+const BYTES: usize = 25;
 
-const FILES: usize = 24;
+const FILES: usize = 26;
 
-const BEHIND: usize = 25;
+const BEHIND: usize = 27;
 
-// Two more that a word can be wrong as, the word behind `hex`, that `wear` names nothing that is read, the word behind `image`, and what
-// stands where `--to` of its conversion should.
-const LONG: usize = 26;
+// What else a word can be wrong as: too long, missing, the word behind `hex`, that `wear` names nothing that is read, the word behind
+// `image`, and what stands where `--to` of its conversion should.
+const LONG: usize = 64;
 
-const MISSING: usize = 27;
+const MISSING: usize = 65;
 
-const HEX: usize = 28;
+const HEX_WORD: usize = 66;
 
-const SOURCES: usize = 29;
+const SOURCES: usize = 67;
 
-const IMAGE_WORD: usize = 30;
+const IMAGE_WORD: usize = 68;
 
-const TO: usize = 31;
+const TO: usize = 69;
 
 const NONE: usize = 255;
 
@@ -139,27 +138,10 @@ const NO_BYTE: usize = 256;
 
 const NO_EVENT: usize = 268435456;
 
-// The commands: those that take options, and the others.
-const OTHER: u8 = 0;
-
-const WRITE: u8 = 1;
-
-const READ: u8 = 2;
-
-const CAPTURE: u8 = 3;
-
-const POWER: u8 = 4;
-
 // ---- complaints
 
 fn tell(text: &[u8]) {
     io::write_all(STDERR_FILENO, text);
-}
-
-fn usage() {
-    tell(
-        b"usage: sapwoodle write PART ENABLE ADDRESS HEXBYTES [option ..]    HEXBYTES - : the bytes from standard input\n       sapwoodle read PART ENABLE ADDRESS LENGTH [option ..]\n       sapwoodle capture PART ENABLE FILE.. [capture's option ..]\n       sapwoodle power PART ADDRESS LENGTH [--ident] [--enable N]\n       sapwoodle bench [PART [--enable N]]\n       sapwoodle hex check PART FILE\n       sapwoodle hex image PART FILE --save FILE\n       sapwoodle hex text IMAGE\n       sapwoodle wear [--image FILE] [--counts FILE].. [--save FILE] [--all] [--list FILE].. TRACE..\n       sapwoodle image info FILE\n       sapwoodle image convert FILE OUT --to 1|2\noptions: --ident --events --budget N --ends-at D --pin high|low|floating --chip-enable N --image FILE --save FILE [--wear] --capture FILE\nwrite's options too: --cut K [--page FILE | --fill HH] [--lock]\ncapture's options: --letter --events --scl BIT --sda BIT --pin high|low|floating --image FILE --save FILE [--wear]\n--image takes an EPR image of either version or an Intel HEX file; a file that is read can be - : standard input\n",
-    );
 }
 
 fn reason(kind: usize) {
@@ -170,12 +152,13 @@ fn reason(kind: usize) {
         SDA => tell(b"is no bit of a byte, 0 to 7\n"),
         FILL => tell(b"is no byte: two hexadecimal digits, for --fill\n"),
         SAVE => tell(b"is not --save, and hex image wants --save FILE\n"),
-        OPTION => tell(b"is no option, or one too many\n"),
+        FORM => tell(b"is none of epr, hex, raw, for --as\n"),
+        OPTION => tell(b"is one too many\n"),
         BYTES => tell(b"is no row of bytes: two hexadecimal digits a byte, or -\n"),
         FILES => tell(b"is no file: capture wants one, or more, before its options\n"),
         LONG => tell(b"is too long\n"),
         MISSING => tell(b"is missing\n"),
-        HEX => tell(b"is none of check, image, text, for hex\n"),
+        HEX_WORD => tell(b"is none of check, image, text, for hex\n"),
         SOURCES => tell(
             b"is missing: wear wants a TRACE, --list FILE, --counts FILE or --image FILE\n",
         ),
@@ -191,20 +174,64 @@ fn quote(word: &[u8]) {
     tell(b"' ");
 }
 
-// A word is named by its number too: it may be missing, or too long to show.
-fn complain(i: usize, kind: usize) {
+// An option that is none of the command's; a word that is none is one too many, and so is an option that is said again.
+fn reason_of(command: u8, word: &[u8], kind: usize) {
+    if (kind == OPTION) & dashed(word) {
+        if help::option_of(command, word) == options::NO_OPTION {
+            return help::unknown_option(command, word);
+        }
+    }
+    if (kind == MISSING) & (0 < word.len()) {
+        return tell(b"stands where a word is missing\n");
+    }
+    reason(kind);
+}
+
+fn tell_wrong(command: u8, i: usize, kind: usize) {
     let mut word = io::buffer();
     let n = os::arg(i, &mut word);
+    quote(&word[..n]);
+    reason_of(command, &word[..n], kind);
+}
+
+fn tell_missing(kind: usize) {
+    if kind == SOURCES {
+        tell(b" ");
+        return reason(kind);
+    }
+    tell(b" is missing\n");
+}
+
+// A word is named by its number too: it may be missing, or too long to show. The second line says how the command is used.
+fn complain(command: u8, i: usize, kind: usize) {
     tell(b"sapwoodle: word ");
     io::print_decimal(STDERR_FILENO, i as u64);
-    quote(&word[..n]);
-    reason(kind);
-    usage();
+    if i < os::arg_count() {
+        tell_wrong(command, i, kind);
+    } else {
+        tell_missing(kind);
+    }
+    help::usage(command);
+    status::trouble();
+}
+
+// What is wrong, in a line behind the program's name.
+pub fn trouble(what: &[u8]) {
+    tell(b"sapwoodle: ");
+    tell(what);
+    status::trouble();
+}
+
+// What the system did not do, with its own reason: to be called before anything else is asked of it.
+pub fn failed(what: &[u8]) {
+    tell(b"sapwoodle: ");
+    os::fail(what);
+    status::trouble();
 }
 
 // The word that is looked at is wrong.
 fn bad(read: Read, kind: usize) -> Read {
-    complain(read.next, kind);
+    complain(read.command, read.next, kind);
     Read { ok: false, ..read }
 }
 
@@ -243,7 +270,7 @@ fn upper(b: u8) -> u8 {
 }
 
 // Whether two words are the same but for the case of letters.
-fn same(a: &[u8], b: &[u8]) -> bool {
+pub fn same(a: &[u8], b: &[u8]) -> bool {
     if a.len() != b.len() {
         return false;
     }
@@ -364,76 +391,6 @@ fn pin_of(word: &[u8]) -> usize {
     NONE
 }
 
-fn cut_of(word: &[u8]) -> usize {
-    if same(word, b"--cut") {
-        return CUT;
-    }
-    if same(word, b"--page") {
-        return PAGE;
-    }
-    if same(word, b"--fill") {
-        return FILL;
-    }
-    if same(word, b"--lock") {
-        return LOCK;
-    }
-    NONE
-}
-
-fn captured_of(word: &[u8]) -> usize {
-    if same(word, b"--capture") {
-        return DRAWN;
-    }
-    if same(word, b"--letter") {
-        return LETTER;
-    }
-    if same(word, b"--scl") {
-        return SCL;
-    }
-    if same(word, b"--sda") {
-        return SDA;
-    }
-    cut_of(word)
-}
-
-fn rarer_of(word: &[u8]) -> usize {
-    if same(word, b"--image") {
-        return IMAGE;
-    }
-    if same(word, b"--save") {
-        return SAVE;
-    }
-    if same(word, b"--wear") {
-        return WEAR;
-    }
-    if same(word, b"--ident") {
-        return IDENT;
-    }
-    if same(word, b"--enable") {
-        return ENABLE;
-    }
-    captured_of(word)
-}
-
-fn option_of(word: &[u8]) -> usize {
-    if same(word, b"--events") {
-        return EVENTS;
-    }
-    if same(word, b"--budget") {
-        return BUDGET;
-    }
-    if same(word, b"--ends-at") {
-        return ENDS;
-    }
-    if same(word, b"--pin") {
-        return PIN;
-    }
-    if same(word, b"--chip-enable") {
-        return OWN;
-    }
-    rarer_of(word)
-}
-
 fn found(n: usize) -> Number {
     Number { ok: n != NONE, n }
 }
@@ -453,7 +410,7 @@ fn parsed(word: &[u8], kind: usize) -> Number {
         SCL => bit_of(word),
         SDA => bit_of(word),
         FILL => byte_of(word),
-        OPTION => found(option_of(word)),
+        FORM => found(form::named(word)),
         _ => number_of(word),
     }
 }
@@ -462,6 +419,13 @@ fn parsed_at(i: usize, kind: usize) -> Number {
     let mut word = io::buffer();
     let n = os::arg(i, &mut word);
     parsed(&word[..n], kind)
+}
+
+// The option of a command that word i names.
+fn option_at(command: u8, i: usize) -> usize {
+    let mut word = io::buffer();
+    let n = os::arg(i, &mut word);
+    help::option_of(command, &word[..n])
 }
 
 // Whether word i is this one.
@@ -529,34 +493,13 @@ fn take_file(read: Read, kind: usize) -> Read {
 
 // `read` stands behind the option's name.
 fn take_value(read: Read, kind: usize) -> Read {
-    if kind < IMAGE {
+    if kind < FROM_IMAGE {
         return take(read, kind);
     }
     if kind < IDENT {
         return take_file(read, kind);
     }
     set(read, kind, 1)
-}
-
-// Whether an option is one of the command's; `--enable` is one of bench too, which has no other.
-fn fits(kind: usize, command: u8) -> bool {
-    match kind {
-        ENABLE => command == POWER,
-        IDENT => command != CAPTURE,
-        PIN => command != POWER,
-        IMAGE => command != POWER,
-        SAVE => command != POWER,
-        WEAR => command != POWER,
-        EVENTS => command != POWER,
-        SCL => command == CAPTURE,
-        SDA => command == CAPTURE,
-        LETTER => command == CAPTURE,
-        CUT => command == WRITE,
-        FILL => command == WRITE,
-        PAGE => command == WRITE,
-        LOCK => command == WRITE,
-        _ => command < CAPTURE,
-    }
 }
 
 fn take_option(read: Read) -> Read {
@@ -566,11 +509,9 @@ fn take_option(read: Read) -> Read {
     if read.end <= read.next {
         return read;
     }
-    let kind = parsed_at(read.next, OPTION);
-    if kind.ok {
-        if fits(kind.n, read.command) {
-            return take_value(passed(read), kind.n);
-        }
+    let kind = option_at(read.command, read.next);
+    if kind < options::END {
+        return take_value(passed(read), kind);
     }
     bad(read, OPTION)
 }
@@ -592,13 +533,13 @@ fn ended(read: Read) -> Read {
     read
 }
 
-// There are fourteen options of a write, ten of a read: more words than that repeat one.
+// There are sixteen options of a write, twelve of a read: more words than that repeat one.
 fn take_options(read: Read) -> Read {
-    let ten = take_option(take_option(take_some(take_some(read))));
-    if ten.command == WRITE {
-        return ended(take_some(ten));
+    let twelve = take_some(take_some(take_some(read)));
+    if twelve.command == WRITE {
+        return ended(take_some(twelve));
     }
-    ended(ten)
+    ended(twelve)
 }
 
 // No bit, no byte and no event is named.
@@ -650,11 +591,13 @@ fn job_of(read: Read) -> Job {
         ends: said[ENDS],
         pin: text::narrow(said[PIN]),
         events: said[EVENTS] == 1,
-        image: said[IMAGE],
+        image: said[FROM_IMAGE],
         save: said[SAVE],
-        wear: said[WEAR] == 1,
+        form: form::saved(said[FORM], said[SAVE]),
+        wear: said[WORN] == 1,
         bytes: said[BYTES],
         drawn: said[DRAWN],
+        vcd: said[VCD],
         cuts: said[CUT] != NO_EVENT,
         cut: said[CUT],
         page: said[PAGE],
@@ -672,7 +615,7 @@ fn job_of(read: Read) -> Job {
 
 fn mistaken(job: Job, what: &[u8]) -> Job {
     if job.ok {
-        tell(what);
+        trouble(what);
     }
     Job { ok: false, ..job }
 }
@@ -684,13 +627,13 @@ fn once(job: Job) -> Job {
     if bytes & image {
         return mistaken(
             job,
-            b"sapwoodle: only one of HEXBYTES and --image can be standard input\n",
+            b"only one of HEXBYTES and --image can be standard input\n",
         );
     }
     if is_input(job.page) & (bytes | image) {
         return mistaken(
             job,
-            b"sapwoodle: only one of HEXBYTES, --image and --page can be standard input\n",
+            b"only one of HEXBYTES, --image and --page can be standard input\n",
         );
     }
     job
@@ -700,21 +643,27 @@ fn once(job: Job) -> Job {
 fn lent(job: Job) -> Job {
     let paged = 0 < job.page;
     if paged & job.fills {
-        return mistaken(job, b"sapwoodle: --page and --fill do not go together\n");
+        return mistaken(job, b"--page and --fill do not go together\n");
     }
     if !job.cuts & (paged | job.fills | job.lock) {
         return mistaken(
             job,
-            b"sapwoodle: --page, --fill and --lock are for a write with --cut\n",
+            b"--page, --fill and --lock are for a write with --cut\n",
         );
     }
     job
 }
 
-// Counts are kept in a file alone.
+// Counts are kept in a file alone, and in an EPR image alone.
 fn kept(job: Job) -> Job {
     if job.wear & (job.save == 0) {
-        return mistaken(job, b"sapwoodle: --wear goes with --save\n");
+        return mistaken(job, b"--wear goes with --save\n");
+    }
+    if job.wear & (job.form != form::EPR) {
+        return mistaken(
+            job,
+            b"--wear keeps the counts in an EPR image: HEX and raw bytes do not hold them\n",
+        );
     }
     job
 }
@@ -820,11 +769,11 @@ fn alone(scl: u8, sda: u8) -> bool {
 // Two bits that differ, or none.
 fn paired(job: Job) -> Job {
     if alone(job.scl, job.sda) {
-        return mistaken(job, b"sapwoodle: --scl and --sda go together\n");
+        return mistaken(job, b"--scl and --sda go together\n");
     }
     if job.picks {
         if job.scl == job.sda {
-            return mistaken(job, b"sapwoodle: --scl and --sda are the same bit\n");
+            return mistaken(job, b"--scl and --sda are the same bit\n");
         }
     }
     job
@@ -834,14 +783,11 @@ fn paired(job: Job) -> Job {
 fn once_of_all(job: Job) -> Job {
     let files = inputs(job.files, job.behind);
     if 1 < files {
-        return mistaken(job, b"sapwoodle: only one FILE can be standard input\n");
+        return mistaken(job, b"only one FILE can be standard input\n");
     }
     if files == 1 {
         if is_input(job.image) {
-            return mistaken(
-                job,
-                b"sapwoodle: only one of FILE and --image can be standard input\n",
-            );
+            return mistaken(job, b"only one of FILE and --image can be standard input\n");
         }
     }
     job
@@ -862,8 +808,7 @@ fn take_enable(read: Read) -> Read {
     if read.end <= read.next {
         return read;
     }
-    let kind = parsed_at(read.next, OPTION);
-    if kind.n == ENABLE {
+    if option_at(read.command, read.next) == ENABLE {
         return take(passed(read), ENABLE);
     }
     if read.ok {
@@ -873,26 +818,25 @@ fn take_enable(read: Read) -> Read {
 }
 
 pub fn bench_asked(next: usize, end: usize) -> Job {
-    job_of(take_enable(take(start(OTHER, next, end), PART)))
+    job_of(take_enable(take(start(BENCH, next, end), PART)))
 }
 
 // The file that is read; what was wrong before it is said already.
 fn take_read(read: Read) -> Read {
     if read.ok {
-        return take_file(read, IMAGE);
+        return take_file(read, FROM_IMAGE);
     }
     read
 }
 
-// `--save FILE`
+// `--save FILE`, and perhaps a form.
 fn take_saved(read: Read) -> Read {
     if !read.ok {
         return read;
     }
     if read.next < read.end {
-        let kind = parsed_at(read.next, OPTION);
-        if kind.n == SAVE {
-            return take_file(passed(read), SAVE);
+        if option_at(read.command, read.next) == SAVE {
+            return take_option(take_file(passed(read), SAVE));
         }
     }
     bad(read, SAVE)
@@ -901,9 +845,9 @@ fn take_saved(read: Read) -> Read {
 // `PART FILE` of hex check, `PART FILE --save FILE` of hex image.
 pub fn hex_asked(saves: bool, next: usize, end: usize) -> Job {
     if end <= next {
-        return missing(OTHER, end);
+        return missing(HEX, end);
     }
-    let read = take_read(take(start(OTHER, next, end), PART));
+    let read = take_read(take(start(HEX, next, end), PART));
     if saves {
         return job_of(ended(take_saved(read)));
     }
@@ -912,15 +856,15 @@ pub fn hex_asked(saves: bool, next: usize, end: usize) -> Job {
 
 // `IMAGE` of hex text.
 pub fn text_asked(next: usize, end: usize) -> Job {
-    job_of(ended(take_read(start(OTHER, next, end))))
+    job_of(ended(take_read(start(HEX, next, end))))
 }
 
 // The word behind `hex` is missing, or none that it knows.
 pub fn complain_hex(next: usize, end: usize) {
     if next < end {
-        return complain(next, HEX);
+        return complain(HEX, next, HEX_WORD);
     }
-    complain(end, MISSING);
+    complain(HEX, end, MISSING);
 }
 
 // ---- the bytes of a write
@@ -939,7 +883,7 @@ pub fn read_all(fd: i32, to: &mut [u8]) -> Number {
 fn input(to: &mut [u8]) -> Number {
     let got = read_all(STDIN_FILENO, to);
     if !got.ok {
-        os::fail(b"sapwoodle: standard input");
+        failed(b"standard input");
     }
     got
 }
@@ -977,7 +921,7 @@ fn bytes(word: &[u8], to: &mut [u8], i: usize) -> Number {
     }
     let made = unhex(word, to);
     if !made.ok {
-        complain(i, BYTES);
+        complain(WRITE, i, BYTES);
     }
     made
 }
@@ -988,7 +932,7 @@ pub fn data(to: &mut [u8], i: usize) -> Number {
     let n = os::arg(i, &mut word);
     let error = os::errno();
     if error != 0 {
-        complain(i, LONG);
+        complain(WRITE, i, LONG);
         return Number { ok: false, n: 0 };
     }
     bytes(&word[..n], to, i)

@@ -7,7 +7,7 @@ use crate::complain;
 use crate::dashed_at;
 use crate::is;
 use crate::is_input;
-use crate::tell;
+use crate::trouble;
 
 // What a word is.
 pub enum Role {
@@ -85,7 +85,7 @@ pub fn role_of(before: Role, i: usize) -> Role {
 // ---- looking at all words, before anything is read
 
 fn wrong(l: Taken, i: usize) -> Taken {
-    complain(i, OPTION);
+    complain(help::WEAR, i, OPTION);
     Taken { ok: false, ..l }
 }
 
@@ -166,7 +166,7 @@ fn wants_file(last: Role) -> bool {
 }
 
 fn lacks(end: usize, kind: usize) -> bool {
-    complain(end, kind);
+    complain(help::WEAR, end, kind);
     false
 }
 
@@ -180,7 +180,7 @@ fn whole(l: Taken, end: usize) -> bool {
         return lacks(end, SOURCES);
     }
     if 1 < l.inputs {
-        tell(b"sapwoodle: only one of TRACE, --list, --counts and --image can be standard input\n");
+        trouble(b"only one of TRACE, --list, --counts and --image can be standard input\n");
         return false;
     }
     true
