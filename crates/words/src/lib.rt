@@ -656,6 +656,9 @@ fn lent(job: Job) -> Job {
 
 // Counts are kept in a file alone, and in an EPR image alone.
 fn kept(job: Job) -> Job {
+    if (job.form != form::EPR) & (job.save == 0) {
+        return mistaken(job, b"--as goes with --save\n");
+    }
     if job.wear & (job.save == 0) {
         return mistaken(job, b"--wear goes with --save\n");
     }
