@@ -527,7 +527,19 @@ fn is_fine(verdict: Verdict) -> bool {
     parts::verdict_number(verdict) == 0
 }
 
-fn tell_name(job: Job, word: usize) -> bool {
+// Of a refused file, its place and what was found and wanted, on standard error.
+fn tell_sample(word: usize, verdict: Verdict) {
+    if is_fine(verdict) {
+        return;
+    }
+    files::tell::name(word);
+    files::tell::say(b": sample ");
+    files::tell::number(parts::verdict_place(verdict));
+    files::tell::say(b": found a value above 3, wanted 0 to 3\n");
+}
+
+fn tell_name(job: Job, word: usize, verdict: Verdict) -> bool {
+    tell_sample(word, verdict);
     if several(job) {
         return show::name(true, word);
     }
@@ -548,7 +560,7 @@ fn tell(
     out: &mut [u8],
 ) -> bool {
     let verdict = f.verdict;
-    let told = show::block(tell_name(job, word), job.letter, f);
+    let told = show::block(tell_name(job, word, verdict), job.letter, f);
     if job.events & is_fine(verdict) {
         return tell_events(
             job,

@@ -226,7 +226,7 @@ fn lost(job: Job, page: &[u8], c: Chip, array: &mut [u8], id: &mut [u8]) -> Chip
 pub fn wrong_page(r: Refusal, n: usize, wanted: usize) -> bool {
     let named = say(
         answer::refused(r),
-        b"the page lent for a loss of power has ",
+        b"the page lent for a loss of power: got ",
     );
     let told = number(named, n);
     answer::count(told, b" bytes, wanted ", wanted)

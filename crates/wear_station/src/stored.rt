@@ -38,6 +38,13 @@ fn begin(input: bool, name: &[u8]) {
     say(b"no file of counts: found ");
 }
 
+fn begin_length(input: bool, name: &[u8], n: usize) {
+    traced::begin(input, name);
+    say(b"no file of counts: got ");
+    shape::found(n, ROOM);
+    say(b", wanted ");
+}
+
 fn end() -> bool {
     traced::end(Refusal::BadImage);
     false
@@ -64,9 +71,7 @@ fn no_part(input: bool, name: &[u8], part: u8) -> bool {
 }
 
 fn no_head(input: bool, name: &[u8], n: usize) -> bool {
-    begin(input, name);
-    shape::found(n, ROOM);
-    say(b", wanted ");
+    begin_length(input, name, n);
     number(size_of(wear::groups(0)));
     say(b" or ");
     number(size_of(wear::groups(5)));
@@ -74,9 +79,7 @@ fn no_head(input: bool, name: &[u8], n: usize) -> bool {
 }
 
 fn no_length(input: bool, name: &[u8], n: usize, part: u8) -> bool {
-    begin(input, name);
-    shape::found(n, ROOM);
-    say(b", wanted ");
+    begin_length(input, name, n);
     number(size_of(wear::groups(part)));
     say(b" for part ");
     number(text::wide(part));
