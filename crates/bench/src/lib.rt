@@ -1,4 +1,5 @@
 // The driver against the model: each is told what the other does, until the driver has finished.
+#![tactic(auto)]
 ghost use Rattle.std.specs.Prelude.{◌≡◌, cond, true, ◌+◌, ◌<◌, length, set, eqb, ltb};
 ghost use Rattle.std.proofs.lemmas.List.Edits.{sets};
 ghost use Rattle.parts.specs.Table.{facts_of};
@@ -36,7 +37,7 @@ use state::Chip;
 use wear::Most;
 
 // How a run ended: Fine is done, refused with 1 to 8 before anything changed, with 9 to 11 by the driver.
-#[derive(Drop)]
+#[derive(Clone, Copy)]
 pub struct Report {
     pub verdict: Verdict,
     pub polls: usize,
@@ -48,21 +49,21 @@ pub struct Report {
 }
 
 // A run and its tape: `sent` events in all, the driver's and the ends of cycles.
-#[derive(Drop)]
+#[derive(Clone, Copy)]
 pub struct Recorded {
     pub report: Report,
     pub sent: usize,
 }
 
 // A run that counts wear, and the worst of the counts that it left; refused before anything changed, the worst that it was given.
-#[derive(Drop)]
+#[derive(Clone, Copy)]
 pub struct Kept {
     pub report: Report,
     pub worst: Most,
 }
 
 // Driver and chip between two askings; `level` is what the driver is told next. `worst` is that of the lent counts.
-#[derive(Drop)]
+#[derive(Clone, Copy)]
 struct Held {
     driver: Driver,
     level: u8,
@@ -72,7 +73,7 @@ struct Held {
     worst: Most,
 }
 
-#[derive(Drop)]
+#[derive(Clone, Copy)]
 struct Turned {
     held: Held,
     // Whether the cycle was ended first.
@@ -80,7 +81,7 @@ struct Turned {
     answer: Answer,
 }
 
-#[derive(Drop)]
+#[derive(Clone, Copy)]
 struct Gone {
     held: Held,
     // The last.
@@ -88,7 +89,7 @@ struct Gone {
     sent: usize,
 }
 
-#[derive(Drop)]
+#[derive(Clone, Copy)]
 struct Driven {
     kept: Kept,
     sent: usize,

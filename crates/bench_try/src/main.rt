@@ -2,6 +2,7 @@
 // its page or index, polls, bytes, cycles, clocks. A line is a letter with its numbers: d a part as delivered, s a part in standby, locked or not, e an
 // event for a part, b what the buffer is filled with, p how many bytes of it are printed, r a run (`run`), o a run of one byte on the
 // part as delivered, k a run with counts of wear and the worst of them (`run_worn`).
+#![tactic(auto)]
 use driver::{Place, Request};
 use libc::STDIN_FILENO;
 use parts::{ArrayAddress, IdLocation, Loss, Verdict};

@@ -19,7 +19,7 @@ use parts::Verdict;
 use state::Chip;
 
 // Where the run stands: the line, the clocks since the last Start, Stop or whole byte, and what was counted and marked.
-#[derive(Drop)]
+#[derive(Clone, Copy)]
 struct Going {
     line: Line,
     place: u8,
@@ -71,7 +71,7 @@ fn quiet(line: Line, code: u8) -> bool
 }
 
 // What an event does to the line, the level and the cycles begun.
-#[derive(Drop)]
+#[derive(Clone, Copy)]
 struct Step {
     line: Line,
     level: u8,

@@ -1,5 +1,6 @@
 // What a logic analyser saw: samples of the two wires become events, the model runs over them, and the first level that differs is marked; the
 // tally of a capture; and the wires of a run, drawn.
+#![tactic(auto)]
 mod engine;
 mod samples;
 
@@ -19,13 +20,13 @@ use state::Chip;
 
 // The first clock at which the line differs from the model: the sample at which it rises and its number among the clocks, both counted from
 // 0, and the line's level.
-#[derive(Drop)]
+#[derive(Clone, Copy)]
 pub enum Mark {
     Same,
     At(usize, usize, u8),
 }
 
-#[derive(Drop)]
+#[derive(Clone, Copy)]
 pub struct Seen {
     pub verdict: Verdict,
     // Of the capture, without the ends of cycles that were put in.
@@ -37,7 +38,7 @@ pub struct Seen {
     pub chip: Chip,
 }
 
-#[derive(Drop)]
+#[derive(Clone, Copy)]
 pub struct Listed {
     pub verdict: Verdict,
     // How many events; 0 where the call is refused.
@@ -45,7 +46,7 @@ pub struct Listed {
 }
 
 // Each stays at the top of its 32 bits.
-#[derive(Drop)]
+#[derive(Clone, Copy)]
 pub struct Tally {
     pub starts: u32,
     pub stops: u32,
@@ -54,7 +55,7 @@ pub struct Tally {
 }
 
 // Where the wires stand, the clock high: no transfer, or a transfer with data low or high.
-#[derive(Drop)]
+#[derive(Clone, Copy)]
 pub enum Wires {
     Rest,
     Low,
@@ -62,7 +63,7 @@ pub enum Wires {
 }
 
 // The samples that an event adds, the first `count` of them, and where the wires stand then.
-#[derive(Drop)]
+#[derive(Clone, Copy)]
 pub struct Stroke {
     pub samples: [u8; 4],
     pub count: usize,

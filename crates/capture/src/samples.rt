@@ -61,7 +61,7 @@ fn pair(bus: bool, before: u8, s: u8, still: bool) -> u8
 }
 
 // An event: its code, or 9 for none; the sample that makes it, and the next sample that may make one.
-#[derive(Drop)]
+#[derive(Clone, Copy)]
 pub(crate) struct Next {
     pub code: u8,
     pub at: usize,

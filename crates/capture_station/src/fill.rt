@@ -2,7 +2,7 @@
 // capture_promises). A run of more than 65,535 takes several entries, which are repeated samples again.
 
 // Where reading stopped.
-#[derive(Drop)]
+#[derive(Clone, Copy)]
 pub enum Halt {
     Nowhere,
     Full,
@@ -13,7 +13,7 @@ pub enum Halt {
 // How far a file is read: the bytes of the chunk from `at` to before `got` are not looked at yet; `n` entries of the buffer are filled,
 // and `first` is the number of the first one's first sample; `all` bytes were taken out of chunks; `text`: the file begins with a line of
 // text.
-#[derive(Drop)]
+#[derive(Clone, Copy)]
 pub struct Source {
     pub fd: i32,
     pub at: usize,
@@ -26,14 +26,14 @@ pub struct Source {
 }
 
 // Which bits of a byte are clock and data, where not the two lowest.
-#[derive(Drop)]
+#[derive(Clone, Copy)]
 pub struct Bits {
     pub picks: bool,
     pub scl: u8,
     pub sda: u8,
 }
 
-#[derive(Drop)]
+#[derive(Clone, Copy)]
 struct Packed {
     at: usize,
     n: usize,

@@ -1,6 +1,7 @@
 // The command `capture`: what a logic analyser saw of the two wires, run on the model, one file after another on one chip. A capture of any
 // length goes through, in pieces that end with a Stop: the pieces one after another are the whole (PiecesJoin and TallyJoins of the crate
 // capture_promises).
+#![tactic(auto)]
 mod boards;
 mod fill;
 mod show;
@@ -13,7 +14,7 @@ use show::{Figures, Spot, Sums};
 use wear::Most;
 use words::{Job, answer};
 
-#[derive(Drop)]
+#[derive(Clone, Copy)]
 enum State {
     More,
     Done,
@@ -23,7 +24,7 @@ enum State {
 
 // A file as far as it was run; or its events are listed: then `told` says whether standard output took them. `pieces`: it is not all in the
 // buffer.
-#[derive(Drop)]
+#[derive(Clone, Copy)]
 struct Walked {
     figures: Figures,
     lists: bool,
@@ -34,7 +35,7 @@ struct Walked {
 }
 
 // The files so far; `ok` false: nothing more is to be told.
-#[derive(Drop)]
+#[derive(Clone, Copy)]
 struct All {
     sums: Sums,
     ok: bool,

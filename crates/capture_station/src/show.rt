@@ -5,7 +5,7 @@ use words::answer::{count, number, say};
 use words::{answer, status};
 
 // A clock in its byte: how many clocks of the byte came before it, which byte behind the last Start, counted from 1, and the bits so far.
-#[derive(Drop)]
+#[derive(Clone, Copy)]
 pub struct Spot {
     pub place: u8,
     pub byte: usize,
@@ -13,7 +13,7 @@ pub struct Spot {
 }
 
 // What is told of one capture. `other`: whether the other reading of it has a mark.
-#[derive(Drop)]
+#[derive(Clone, Copy)]
 pub struct Figures {
     pub verdict: Verdict,
     pub samples: usize,
@@ -28,7 +28,7 @@ pub struct Figures {
 }
 
 // What is told of all files together.
-#[derive(Drop)]
+#[derive(Clone, Copy)]
 pub struct Sums {
     pub files: usize,
     pub differ: usize,

@@ -5,6 +5,7 @@
 // the part's own, and BAD puts the counter out of range. `d PART ENABLE BUS TURN : LETTERS` draws the wires of a run over the letters, turns
 // data at one sample, and runs what is drawn. `e BUS ROOM : SAMPLES` lists events. `t BUS STARTS STOPS BYTES MISSES : SAMPLES` counts: from
 // 60000 on a count is that much below the top as the number is below 65535.
+#![tactic(auto)]
 ghost use Rattle.std.specs.Prelude.{◌≡◌, length};
 
 use capture::{Mark, Seen, Stroke, Tally, Wires};
@@ -202,7 +203,7 @@ fn ran(line: &[u8]) {
 
 // ---- wires, drawn
 
-#[derive(Drop)]
+#[derive(Clone, Copy)]
 struct Laid {
     n: usize,
     wires: Wires,

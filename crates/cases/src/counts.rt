@@ -3,7 +3,7 @@
 const TOP: usize = 4294967295;
 
 // What was read of the entry under way.
-#[derive(Drop)]
+#[derive(Clone, Copy)]
 struct Entry {
     value: usize,
     group: usize,

@@ -1,6 +1,7 @@
 // Tries calls of the chip and of its images, one for each line of the input, and prints what each answers and whether a refused one left
 // everything. A line is a letter for the call (`call`), sixteen numbers and, after a colon, what is tried; the lines of `cuts` have events
 // behind a slash.
+#![tactic(auto)]
 mod cuts;
 mod images;
 
@@ -48,7 +49,7 @@ const FIRST: usize = 14;
 const SECOND: usize = 15;
 
 // What a call answered, 0 where it was taken, and whether state and buffers are as before.
-#[derive(Drop)]
+#[derive(Clone, Copy)]
 struct Tried {
     number: u8,
     // The place of refusal 5.

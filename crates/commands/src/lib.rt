@@ -1,4 +1,5 @@
 // The commands by their words: what stands behind the program's name is run here, by the program and by the trying of commands.
+#![tactic(auto)]
 
 fn put(text: &[u8]) -> bool {
     words::answer::say(true, text)

@@ -1,4 +1,5 @@
 // The driver of document 01: a value that is asked for one event a step and told the level of the last clock.
+#![tactic(auto)]
 ghost use Rattle.std.specs.Prelude.{◌≡◌, true, ◌+◌, ◌*◌, ◌≤◌, ◌<◌, length, get_or};
 ghost use Rattle.driver.specs.Split.{to_page_end_of, pages_met_of};
 ghost use Rattle.driver.specs.Request.{
@@ -18,14 +19,14 @@ ghost use Rattle.driver.specs.Step.{select_name_of, select_at, wire_of, slot_byt
 use parts::{ArrayAddress, Facts, IdLocation, Refusal, Verdict};
 
 // What a request is for: each of the two numberings with its own type.
-#[derive(Drop)]
+#[derive(Clone, Copy)]
 pub enum Place {
     Array(ArrayAddress),
     Ident(IdLocation),
 }
 
 // A write of `length` bytes, or a read. The budget is the polls allowed for a page, for writes only.
-#[derive(Drop)]
+#[derive(Clone, Copy)]
 pub struct Request {
     pub part: u8,
     pub enable: u8,
@@ -36,7 +37,7 @@ pub struct Request {
 }
 
 // The bytes that are on the bus.
-#[derive(Drop)]
+#[derive(Clone, Copy)]
 pub enum Slot {
     Select,
     // The first of two address bytes.
@@ -54,7 +55,7 @@ pub enum Slot {
 }
 
 // At which byte a driver was refused.
-#[derive(Drop)]
+#[derive(Clone, Copy)]
 pub enum Failed {
     // The select of a part, or either select of a read.
     AtSelect,
@@ -67,7 +68,7 @@ pub enum Failed {
     AtPolls,
 }
 
-#[derive(Drop)]
+#[derive(Clone, Copy)]
 pub enum Phase {
     // Before the Start of a part or a read, or all done.
     Ready,
@@ -81,7 +82,7 @@ pub enum Phase {
     Over(Failed),
 }
 
-#[derive(Drop)]
+#[derive(Clone, Copy)]
 pub struct Counts {
     // Data bytes sent, or got.
     pub at: usize,
@@ -94,14 +95,14 @@ pub struct Counts {
     pub byte: u8,
 }
 
-#[derive(Drop)]
+#[derive(Clone, Copy)]
 pub struct Driver {
     pub request: Request,
     pub phase: Phase,
     pub counts: Counts,
 }
 
-#[derive(Drop)]
+#[derive(Clone, Copy)]
 pub enum Answer {
     // An event to send: 0 and 1 a clock with that level, 2 Start, 3 Stop.
     Send(u8),
@@ -111,20 +112,20 @@ pub enum Answer {
     Refused(Refusal, usize, usize),
 }
 
-#[derive(Drop)]
+#[derive(Clone, Copy)]
 pub struct Asked {
     pub answer: Answer,
     pub driver: Driver,
 }
 
-#[derive(Drop)]
+#[derive(Clone, Copy)]
 pub struct Begun {
     pub verdict: Verdict,
     pub driver: Driver,
 }
 
 // A step of the driver, without its request.
-#[derive(Drop)]
+#[derive(Clone, Copy)]
 pub struct Move {
     pub answer: Answer,
     pub phase: Phase,
@@ -132,7 +133,7 @@ pub struct Move {
 }
 
 // The bytes that a part can send.
-#[derive(Drop)]
+#[derive(Clone, Copy)]
 pub struct Wire {
     pub select: u8,
     pub high: u8,

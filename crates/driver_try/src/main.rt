@@ -1,4 +1,5 @@
 // Runs the driver on requests, limits and values out of range, and prints what it answers.
+#![tactic(auto)]
 ghost use Rattle.std.specs.Prelude.{◌≤◌};
 
 use driver::{Answer, Counts, Driver, Failed, Phase, Place, Request, Slot};
@@ -6,7 +7,7 @@ use parts::{ArrayAddress, IdLocation, Verdict};
 use text::{say, say_number};
 
 // How a run ended: 0 done, the refusal's number and its page or index, or 255 for no end.
-#[derive(Drop)]
+#[derive(Clone, Copy)]
 struct Tally {
     pub number: u8,
     pub place: usize,

@@ -1,5 +1,6 @@
 // A trace told for people: one line a byte, and one for each cycle begun or ended. It drives the proved chip, event by event, and gathers the
 // answer of `trace` as it goes: that is proved. What it prints on the way is promised nowhere.
+#![tactic(auto)]
 ghost use Rattle.std.specs.Prelude.{◌≡◌, ◌<◌, ◌≤◌, false, length};
 ghost use Rattle.parts.specs.Table.{facts_of, id_size_of};
 ghost use Rattle.parts.specs.declared.Verdict.TheVariants.{Fine};
@@ -19,7 +20,7 @@ use text::{say, say_address, say_byte, say_number};
 use trace::Traced;
 
 // The clocks since the last Start, Stop or whole byte.
-#[derive(Drop)]
+#[derive(Clone, Copy)]
 struct Note {
     // Where the first of them stands.
     first: usize,
@@ -29,7 +30,7 @@ struct Note {
     seen: u8,
 }
 
-#[derive(Drop)]
+#[derive(Clone, Copy)]
 struct Told {
     stepped: Stepped,
     note: Note,

@@ -1,5 +1,6 @@
 // Stored chips: an image, an Intel HEX file or raw bytes that are read, and each of them written into a file that is there whole or not at
 // all. A chip is held as its bytes.
+#![tactic(auto)]
 pub mod counts;
 pub mod lost;
 mod saved;
@@ -19,14 +20,14 @@ use words::{Job, Number, form, status};
 
 // What became of a chip before its run: it was judged, whether its file has the counts of its wear, and the worst of the counts; or standard
 // error has the reason.
-#[derive(Drop)]
+#[derive(Clone, Copy)]
 pub enum Ready {
     Told,
     Judged(Verdict, bool, Most),
 }
 
 // What became of a HEX file; of one that was read and refused, standard error has the reason too.
-#[derive(Drop)]
+#[derive(Clone, Copy)]
 pub enum HexReady {
     Told,
     Read(HexRead),

@@ -5,7 +5,7 @@ use words::status;
 
 // A file under way: its descriptor, below 0 where it cannot be written, which was said; and how many bytes of the name beside are its own for
 // now, 0 where it is written where it is.
-#[derive(Drop)]
+#[derive(Clone, Copy)]
 pub struct Begun {
     pub fd: i32,
     pub n: usize,

@@ -3,13 +3,13 @@ use crate::tell::{name, number, say};
 use parts::{Refusal, Verdict};
 
 // The lowest address that two records name, and the line of the earlier one; line 0 for none.
-#[derive(Drop)]
+#[derive(Clone, Copy)]
 struct Lap {
     line: usize,
     at: usize,
 }
 
-#[derive(Drop)]
+#[derive(Clone, Copy)]
 struct Span {
     from: usize,
     end: usize,

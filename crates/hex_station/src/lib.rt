@@ -1,4 +1,5 @@
 // The command `hex`: Intel HEX files looked at, made into images of a chip, and made of one.
+#![tactic(auto)]
 use files::HexReady;
 use hexfile::HexRead;
 use parts::{Refusal, Verdict};

@@ -1,4 +1,5 @@
 // Intel HEX: an array read from a text, and written as one. Nobody has to check first.
+#![tactic(auto)]
 mod reading;
 mod writing;
 
@@ -11,7 +12,7 @@ ghost use Rattle.hexfile.specs.Written.{text_length_of};
 use parts::{Refusal, Verdict};
 use reading::Scan;
 
-#[derive(Drop)]
+#[derive(Clone, Copy)]
 pub struct HexRead {
     pub verdict: Verdict,
     // How many data records there were, and how many bytes of the array they name; 0 where the call is refused.
@@ -19,7 +20,7 @@ pub struct HexRead {
     pub named: usize,
 }
 
-#[derive(Drop)]
+#[derive(Clone, Copy)]
 pub struct HexWritten {
     pub verdict: Verdict,
     // Bytes of the text; 0 where the call is refused.

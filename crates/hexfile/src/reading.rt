@@ -8,7 +8,7 @@ ghost use Rattle.hexfile.specs.Steps.{found_of, taken_of, Left, is_taken, all_fo
 use parts::{Refusal, Verdict};
 
 // What a line is, to the cells that it is read into.
-#[derive(Drop)]
+#[derive(Clone, Copy)]
 pub(crate) enum Found {
     Malformed,
     WrongSum,
@@ -19,7 +19,7 @@ pub(crate) enum Found {
 }
 
 // The first four bytes of a record, and their sum. Where `good` is false, not all of them are bytes.
-#[derive(Drop)]
+#[derive(Clone, Copy)]
 struct Head {
     good: bool,
     count: usize,
@@ -29,20 +29,20 @@ struct Head {
 }
 
 // A row of digits: whether all are bytes; whether the cells they went to were free; their sum.
-#[derive(Drop)]
+#[derive(Clone, Copy)]
 struct Row {
     good: bool,
     free: bool,
     sum: usize,
 }
 
-#[derive(Drop)]
+#[derive(Clone, Copy)]
 struct Line {
     found: Found,
     next: usize,
 }
 
-#[derive(Drop)]
+#[derive(Clone, Copy)]
 pub(crate) struct Scan {
     pub(crate) verdict: Verdict,
     pub(crate) records: usize,

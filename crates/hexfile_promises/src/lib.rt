@@ -1,1 +1,2 @@
 // What is promised of Intel HEX: laws alone, no code.
+#![tactic(auto)]

@@ -1,6 +1,7 @@
 // Intel HEX, by lines of standard input. `t PART LENGTH TEXT` reads a text: `/` is LF, `~` CR, `@` the byte 0 and `^` the byte 200. `g` reads a
 // text made of records, `w` writes an array and reads it back: the numbers of both are said below. Every buffer is filled first, so that each
 // answer also tells what was left alone.
+#![tactic(auto)]
 ghost use Rattle.std.specs.Prelude.{◌≡◌, ◌<◌, length};
 
 use cases::mixed;

@@ -1,4 +1,5 @@
 // The stored image of a chip: saved into a lent buffer, loaded from one. Nobody has to check first.
+#![tactic(auto)]
 ghost use Rattle.std.specs.Prelude.{◌≡◌, ◌+◌, ◌≤◌, length, drop, ◌++◌};
 ghost use Rattle.parts.specs.Table.{facts_of};
 ghost use Rattle.chip.specs.Memory.{mem};
@@ -10,14 +11,14 @@ use state::Chip;
 
 const VERSION: u8 = 1;
 
-#[derive(Drop)]
+#[derive(Clone, Copy)]
 pub struct Saved {
     pub verdict: Verdict,
     // Bytes of the image; 0 where the call is refused.
     pub length: usize,
 }
 
-#[derive(Drop)]
+#[derive(Clone, Copy)]
 pub struct Loaded {
     pub verdict: Verdict,
     pub part: u8,

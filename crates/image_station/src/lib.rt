@@ -1,4 +1,5 @@
 // The command `image`: what a stored image holds, and an image of one version made into one of the other.
+#![tactic(auto)]
 pub mod show;
 
 use files::shape;

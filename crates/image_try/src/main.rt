@@ -1,6 +1,7 @@
 // Tries calls of `image_worn`, and the reader of version 1 on images of either version, one for each line of the input, and prints what each answers
 // and a number for all that it was lent to write into. A line is a letter for the call (`call`), sixteen numbers and, after a colon, what is tried;
 // behind a slash the counts that stand before the call.
+#![tactic(auto)]
 use cases::{behind, counts, cut, front};
 use image::{Loaded, Saved};
 use libc::STDIN_FILENO;

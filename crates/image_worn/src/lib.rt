@@ -1,5 +1,6 @@
 // The stored image of a chip with the counts of its wear, version 0002h: saved into a lent buffer, loaded from one, made of an image without
 // them and made into one. Nobody has to check first.
+#![tactic(auto)]
 ghost use Rattle.std.specs.Prelude.{◌≡◌, true, ◌++◌, ◌+◌, ◌*◌, ◌<◌, ◌≤◌, length, drop, replicate};
 ghost use Rattle.parts.specs.Bytes.{all_below_of, words_of};
 ghost use Rattle.parts.specs.Table.{facts_of, groups_of};
@@ -14,7 +15,7 @@ use state::Chip;
 use wear::Most;
 
 // What loading answers, and the worst of the counts that were loaded; group 0 with 0 where the call is refused.
-#[derive(Drop)]
+#[derive(Clone, Copy)]
 pub struct LoadedWorn {
     pub loaded: Loaded,
     pub worst: Most,

@@ -1,11 +1,12 @@
 // One bus event on the state of a chip, without its latches and its memory: they stand in the layer above.
+#![tactic(auto)]
 ghost use Rattle.std.specs.Prelude.{◌≡◌, ◌+◌, ◌*◌, ◌<◌};
 ghost use Rattle.parts.specs.Table.{facts_of};
 ghost use Rattle.line.specs.Rules.{is_high, at, given_up, roll_of, before_of, onward_of, enabled_of, named_of, decode_of, address_start_of, selected_of, array_address_of, location_of, asks_lock_of, load_array_of, load_id_of, loaded_of, refuses_of, latched_of, taken_of, filled_of, locked_by_of, ended_by_of, marked_in, received_of, receive_act_of, receive_level_of, released_in, moved_of, sent_of, send_level_of, clocked_of, clock_act_of, clock_level_of, started_of, start_act_of, asks_of, placed_of, due_of, stopped_of, stop_act_of, stop_begun_of, ended_of, end_act_of, pinned_of, lock_left, lock_cut, lock_at_reset, reset_of, opened, marked, quietly, move_of};
 
 use parts::{ArrayAddress, Event, IdLocation, Loss};
 
-#[derive(Drop)]
+#[derive(Clone, Copy)]
 pub enum Pin {
     // The part has no pin.
     Absent,
@@ -14,14 +15,14 @@ pub enum Pin {
     Floating,
 }
 
-#[derive(Drop)]
+#[derive(Clone, Copy)]
 pub enum Target {
     Array,
     Ident,
 }
 
 // What the byte that is being received is.
-#[derive(Drop)]
+#[derive(Clone, Copy)]
 pub enum Recv {
     Select,
     AddressHigh(Target),
@@ -34,13 +35,13 @@ pub enum Recv {
     LockTaken(bool),
 }
 
-#[derive(Drop)]
+#[derive(Clone, Copy)]
 pub enum Cycle {
     Writing(Target),
     Locking,
 }
 
-#[derive(Drop)]
+#[derive(Clone, Copy)]
 pub enum Phase {
     // Standby, or released until the next Start: nothing can tell them apart.
     Idle,
@@ -50,7 +51,7 @@ pub enum Phase {
 }
 
 // What outlives a byte, without the latches.
-#[derive(Drop)]
+#[derive(Clone, Copy)]
 pub struct Core {
     pub counter: u16,
     pub pin: Pin,
@@ -58,7 +59,7 @@ pub struct Core {
     pub locked: bool,
 }
 
-#[derive(Drop)]
+#[derive(Clone, Copy)]
 pub struct Line {
     pub core: Core,
     pub phase: Phase,
@@ -68,7 +69,7 @@ pub struct Line {
 }
 
 // What becomes of the latches.
-#[derive(Drop)]
+#[derive(Clone, Copy)]
 pub enum Act {
     Keep,
     Drop,
@@ -76,7 +77,7 @@ pub enum Act {
 }
 
 // What a whole received byte leaves.
-#[derive(Drop)]
+#[derive(Clone, Copy)]
 pub struct After {
     pub core: Core,
     pub phase: Phase,
@@ -84,19 +85,19 @@ pub struct After {
 }
 
 // What a select byte names, and whether it asks for a read.
-#[derive(Drop)]
+#[derive(Clone, Copy)]
 pub enum Selected {
     Miss,
     Hit(Target, bool),
 }
 
-#[derive(Drop)]
+#[derive(Clone, Copy)]
 pub enum CycleAsked {
     NoCycle,
     For(Cycle),
 }
 
-#[derive(Drop)]
+#[derive(Clone, Copy)]
 pub struct LineMove {
     pub line: Line,
     pub act: Act,

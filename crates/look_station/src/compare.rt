@@ -8,14 +8,14 @@ use words::report::{Ground, first_of, onward};
 use words::{Number, report, status};
 
 // How many bytes of a stretch differ, and the place of the first.
-#[derive(Drop)]
+#[derive(Clone, Copy)]
 struct Unlike {
     bytes: usize,
     first: usize,
 }
 
 // What differs up to a page, and whether it was told.
-#[derive(Drop)]
+#[derive(Clone, Copy)]
 struct Tally {
     ok: bool,
     pages: usize,

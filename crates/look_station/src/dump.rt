@@ -12,7 +12,7 @@ const WIDTH: usize = 79;
 const BAR: usize = 60;
 
 // Whether the lines were written, and whether the last one was left out.
-#[derive(Drop)]
+#[derive(Clone, Copy)]
 struct Seen {
     ok: bool,
     alike: bool,

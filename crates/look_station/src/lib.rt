@@ -1,4 +1,5 @@
 // The commands that look: a part's facts, what a file holds, its bytes, two files page by page, and the table of parts.
+#![tactic(auto)]
 mod compare;
 mod dump;
 mod facts;

@@ -1,4 +1,5 @@
 // Looks at pages of every part, in buffers of the right and of wrong lengths, and prints what each look shows.
+#![tactic(auto)]
 use cases::more;
 use page::Place;
 use parts::{ArrayAddress, Verdict};

@@ -1,4 +1,5 @@
 // The six parts, the two numberings, the bus events and the refusals of document 01.
+#![tactic(auto)]
 ghost use Rattle.std.specs.Prelude.{◌≡◌, ◌≤◌, ◌<◌, length, get_or, true, cond, ltb};
 ghost use Rattle.parts.specs.Table.{row_of, no_part, table_of, facts_of, name_of, id_size_of, buffers_right_of, address_bytes_of, enable_right_of};
 ghost use Rattle.parts.specs.Sound.{Sound};
@@ -7,21 +8,21 @@ ghost use Rattle.parts.specs.Refusals.{entry_of, number_of, rank_of, spot_of, pl
 ghost use Rattle.parts.specs.Bytes.{flag_of, all_below_of, up_of, copied_of, word_end, word_of, word_joined_of};
 
 // The address of a byte of the array.
-#[derive(Drop)]
+#[derive(Clone, Copy)]
 pub struct ArrayAddress(pub usize);
 // The place of a byte in the identification page.
-#[derive(Drop)]
+#[derive(Clone, Copy)]
 pub struct IdLocation(pub usize);
 
 // A part's name: its letters, and zeros behind them.
-#[derive(Drop)]
+#[derive(Clone, Copy)]
 pub struct Name {
     pub bytes: [u8; 11],
     pub length: usize,
 }
 
 // What the part table says of a part, beside its name.
-#[derive(Drop)]
+#[derive(Clone, Copy)]
 pub struct Facts {
     // Whether there is such a part.
     pub known: bool,
@@ -44,7 +45,7 @@ pub struct Facts {
 }
 
 // A row of the part table.
-#[derive(Drop)]
+#[derive(Clone, Copy)]
 struct Part {
     name: Name,
     facts: Facts,
@@ -186,7 +187,7 @@ pub fn enable_right(f: Facts, enable: u8) -> bool
 }
 
 // What a reset finds where it cuts a cycle (document 02, §5).
-#[derive(Drop)]
+#[derive(Clone, Copy)]
 pub enum Loss {
     // The old contents, and no lock: no page is lent.
     Old,
@@ -194,7 +195,7 @@ pub enum Loss {
     Lent(bool),
 }
 
-#[derive(Drop)]
+#[derive(Clone, Copy)]
 pub enum Event {
     Clock(bool),
     Start,
@@ -342,7 +343,7 @@ pub fn flag(on: bool) -> u8
     if on { 1 } else { 0 }
 }
 
-#[derive(Drop)]
+#[derive(Clone, Copy)]
 pub enum Refusal {
     NoPart,
     WrongEnable,
@@ -376,7 +377,7 @@ pub enum Refusal {
 }
 
 // The place that a refusal tells: of 5 the event's, of 9, 14 and 15 the page, of 10 the data byte's, of 16 to 19 the line, of 20 the sample's.
-#[derive(Drop)]
+#[derive(Clone, Copy)]
 pub enum Spot {
     Nowhere,
     At(usize),
@@ -384,7 +385,7 @@ pub enum Spot {
 
 // What document 01 says of a refusal: the number that is answered; its rank: of two refusals that apply to a call, the one of lower
 // rank is given; and the place.
-#[derive(Drop)]
+#[derive(Clone, Copy)]
 struct Entry(pub u8, pub u16, pub Spot);
 
 fn entry_of(r: Refusal) -> Entry
@@ -430,7 +431,7 @@ fn rank(r: Refusal) -> u16
     e.1
 }
 
-#[derive(Drop)]
+#[derive(Clone, Copy)]
 pub enum Verdict {
     Fine,
     Refused(Refusal),

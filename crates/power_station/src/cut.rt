@@ -5,7 +5,7 @@ use state::Chip;
 use words::{answer, report};
 
 // The cycle that a chip is in: none, that of a page of the array, that of the identification page, or a locking one.
-#[derive(Drop)]
+#[derive(Clone, Copy)]
 pub enum Under {
     Nothing,
     Page(usize),

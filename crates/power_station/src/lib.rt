@@ -1,5 +1,6 @@
 // The command `power`: which bytes a loss of power in each cycle of a write may spoil. Driver and model run the write on a part as delivered; at
 // each Stop that begins a cycle a copy of the chip loses its power. Also what `write --cut` shares with it.
+#![tactic(auto)]
 pub mod cut;
 
 ghost use Rattle.std.specs.Prelude.{◌≡◌, length};
@@ -16,7 +17,7 @@ use words::{Job, answer, report};
 pub const TAPE: usize = 393216;
 
 // What a run reports, and how many events it sent.
-#[derive(Drop)]
+#[derive(Clone, Copy)]
 pub struct Ended {
     pub verdict: Verdict,
     pub bytes: usize,
@@ -27,14 +28,14 @@ pub struct Ended {
 }
 
 // What a chip answers to an event, and whether that begins a cycle.
-#[derive(Drop)]
+#[derive(Clone, Copy)]
 pub struct Taken {
     pub level: u8,
     pub begins: bool,
 }
 
 // The bytes that a write asks for, and where.
-#[derive(Drop)]
+#[derive(Clone, Copy)]
 struct Asked {
     part: u8,
     enable: u8,
@@ -43,7 +44,7 @@ struct Asked {
 }
 
 // What was told: the pages, the bytes that may be spoiled, and those of them that are beside.
-#[derive(Drop)]
+#[derive(Clone, Copy)]
 struct Told {
     ok: bool,
     pages: usize,

@@ -17,7 +17,7 @@ use driver::{Answer, Driver, Place, Request};
 use parts::{ArrayAddress, IdLocation, Refusal, Verdict};
 
 // An answer of the driver as numbers.
-#[derive(Drop)]
+#[derive(Clone, Copy)]
 pub struct Told {
     pub number: u8,
     // 255 where no event is sent.

@@ -1,4 +1,5 @@
 // The state of a chip, and which states are in range (refusal 4).
+#![tactic(auto)]
 ghost use Rattle.std.specs.Prelude.{◌≡◌, ◌≤◌, drop};
 ghost use Rattle.parts.specs.Table.{facts_of};
 ghost use Rattle.state.specs.Range.{
@@ -24,7 +25,7 @@ ghost use Rattle.state.specs.Range.{
 use line::{Core, Cycle, Line, Phase, Pin, Recv, Target};
 
 // A chip without what it stores. A latch of 256 or more holds nothing.
-#[derive(Drop)]
+#[derive(Clone, Copy)]
 pub struct Chip {
     pub line: Line,
     pub latch: [u16; 64],

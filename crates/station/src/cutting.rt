@@ -10,7 +10,7 @@ use words::answer::{number, say};
 use words::{Job, answer, report};
 
 // The driver after some events of a tape; `level` is what it is told next. `worst` is the worst of the counts.
-#[derive(Drop)]
+#[derive(Clone, Copy)]
 struct Halted {
     driver: Driver,
     level: u8,
@@ -21,7 +21,7 @@ struct Halted {
 
 // What the cut found: the cycle that the chip was in, and what the driver had told by then: what it answers next, and its figures; and the worst
 // of the counts.
-#[derive(Drop)]
+#[derive(Clone, Copy)]
 struct Standing {
     under: Under,
     next: Answer,

@@ -1,5 +1,6 @@
 // One write or read at a bench, as the words of a command line ask for it: driver and model together, on a chip as delivered or
 // on a stored one.
+#![tactic(auto)]
 mod cutting;
 mod show;
 mod wires;
@@ -13,7 +14,7 @@ use words::answer::say;
 use words::{Job, answer, report};
 
 // The worst of the counts behind a run; and whether they bear the one out that stood before it.
-#[derive(Drop)]
+#[derive(Clone, Copy)]
 struct Counted {
     right: bool,
     worst: Most,

@@ -1,6 +1,7 @@
 // Commands as they are typed, one after the other: the words are those of the file args, with `then` between two commands. One more compares
 // two files that they left: `same A B`.
 // The limit is for the proof alone.
+#![tactic(auto)]
 fn after(i: usize) -> usize {
     if i < 4000 { i + 1 } else { i }
 }

@@ -1,6 +1,7 @@
 // What could not be tried on boards, run on the model and printed: a Stop at each clock of a page write, Write Control rising at
 // each place of it, the lock command, a chip that stays busy, a line that loses an acknowledge, power lost in a cycle, the most worn group
 // behind some writes, for any part of the table.
+#![tactic(auto)]
 use driver::{Answer, Driver, Place, Request};
 use parts::{ArrayAddress, Facts, Loss, Refusal, Spot};
 use state::Chip;
@@ -9,7 +10,7 @@ use wear::Most;
 use words::{answer, report};
 
 // A transfer: Start, some clocks of these bytes, Stop, and the cycle's end. Past the bytes the line is released.
-#[derive(Drop)]
+#[derive(Clone, Copy)]
 struct Script {
     bytes: [u8; 8],
     clocks: usize,
@@ -18,14 +19,14 @@ struct Script {
 }
 
 // What events did to a part as delivered.
-#[derive(Drop)]
+#[derive(Clone, Copy)]
 struct Played {
     cycles: usize,
     locked: bool,
 }
 
 // What a lock command did, and the write behind it: whether each began a cycle, and whether the page is locked.
-#[derive(Drop)]
+#[derive(Clone, Copy)]
 struct Locked {
     begun: bool,
     locked: bool,
@@ -33,7 +34,7 @@ struct Locked {
 }
 
 // What the driver reports of a write: the refusal's number, 0 for none.
-#[derive(Drop)]
+#[derive(Clone, Copy)]
 struct Told {
     number: u8,
     polls: usize,
@@ -42,7 +43,7 @@ struct Told {
 }
 
 // Driver and chip between two askings, on a line that loses an acknowledge: what the driver is told next, and the clocks sent.
-#[derive(Drop)]
+#[derive(Clone, Copy)]
 struct Lossy {
     driver: Driver,
     chip: Chip,
@@ -52,7 +53,7 @@ struct Lossy {
 }
 
 // A chip behind some writes, and the worst of its counts.
-#[derive(Drop)]
+#[derive(Clone, Copy)]
 struct Worn {
     chip: Chip,
     worst: Most,

@@ -1,11 +1,12 @@
 // The command `trace`: typed traces of files or of standard input, each run from delivery, as levels or byte by byte, and drawn.
+#![tactic(auto)]
 use libc::STDIN_FILENO;
 use parts::{Loss, Verdict};
 use words::answer::say;
 use words::tracing::{Role, Tracing};
 
 // How far the words are: whether all before was answered, and what the last word was.
-#[derive(Drop)]
+#[derive(Clone, Copy)]
 struct Turn {
     ok: bool,
     role: Role,

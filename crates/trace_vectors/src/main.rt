@@ -1,5 +1,6 @@
 // Runs the traces on standard input, each ended by `;`, and prints each answer. `@` in a trace stands for 32,767 letters `1`. A text that
 // begins with `#` is no trace: it names the next one, and is printed. A trace behind `?` is told byte by byte too.
+#![tactic(auto)]
 ghost use Rattle.std.specs.Prelude.{◌≤◌, ◌≡◌, length};
 ghost use Rattle.trace.specs.Trace.{trace_of, laying_of};
 

@@ -6,13 +6,14 @@
 // not show, the end of a cycle, the pin or a reset, takes as long as a clock, and the wires hold: a sample that repeats the one before it makes no
 // event (`RepeatsMakeNone`). What an event does to the pin and to a cycle is seen from its last sample on: a cycle begins where a Stop does, and
 // one that ends at once is seen for three microseconds.
+#![tactic(auto)]
 use capture::{Stroke, Wires};
 use line::{Line, Phase, Pin};
 use parts::Loss;
 use state::Chip;
 
 // What is seen at one time: a sample of the wires, and the other two as the dump writes them, where 0 stands for no pin.
-#[derive(Drop)]
+#[derive(Clone, Copy)]
 struct Shown {
     sample: u8,
     control: u8,
@@ -20,7 +21,7 @@ struct Shown {
 }
 
 // How far the dump is: whether all was written, the bytes that wait in the buffer, and what was seen last, at which time.
-#[derive(Drop)]
+#[derive(Clone, Copy)]
 struct Pen {
     ok: bool,
     waiting: usize,
@@ -29,7 +30,7 @@ struct Pen {
 }
 
 // What the next event is drawn from.
-#[derive(Drop)]
+#[derive(Clone, Copy)]
 struct Scene {
     chip: Chip,
     wires: Wires,

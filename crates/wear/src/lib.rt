@@ -1,5 +1,6 @@
 // Wear: how many completed or cut cycles touched each error-correction group of the array, counted beside the chip in a lent slice, and the
 // most worn group of them. Nobody has to check first.
+#![tactic(auto)]
 pub mod worst;
 
 ghost use Rattle.std.specs.Prelude.{◌≡◌, cond, ◌+◌, ◌≤◌, length, ltb};
@@ -21,7 +22,7 @@ use parts::{Loss, Refusal, Verdict};
 use state::Chip;
 
 // A group and its count.
-#[derive(Drop)]
+#[derive(Clone, Copy)]
 pub struct Most {
     pub group: usize,
     pub count: u32,
@@ -29,21 +30,21 @@ pub struct Most {
 
 // What a run of the chip answers, and a group. Of `run` it is the worst of the counts that the call left; of `go_on` the most worn of
 // the groups that it raised.
-#[derive(Drop)]
+#[derive(Clone, Copy)]
 pub struct Worn {
     pub ran: Ran,
     pub most: Most,
 }
 
 // What the walk along the counts finds; 0 and 0 where the call is refused.
-#[derive(Drop)]
+#[derive(Clone, Copy)]
 pub struct Found {
     pub verdict: Verdict,
     pub worst: Most,
 }
 
 // The sum of the counts, and the group with most; 0, 0 and 0 where the call is refused.
-#[derive(Drop)]
+#[derive(Clone, Copy)]
 pub struct Reported {
     pub verdict: Verdict,
     pub total: u64,

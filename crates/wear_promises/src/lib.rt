@@ -1,1 +1,2 @@
 // The promises of wear: no code, only statements (specs/) and their proofs (proofs/).
+#![tactic(auto)]

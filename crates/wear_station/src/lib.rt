@@ -1,5 +1,6 @@
 // The command `wear`: how many ended or cut cycles touched each group of the array, over traces that are run one after another, each from
 // delivery, over files of counts, and from the counts of an image on.
+#![tactic(auto)]
 mod imaged;
 mod list;
 mod show;

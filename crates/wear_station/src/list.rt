@@ -3,7 +3,7 @@ use crate::{tell, work};
 use work::Worn;
 
 // How far a list is read: how many bytes of the line are kept, the line's number, and whether no more is to be read.
-#[derive(Drop)]
+#[derive(Clone, Copy)]
 struct Listed {
     worn: Worn,
     n: usize,

@@ -9,7 +9,7 @@ use words::wearing::Role;
 
 // The work so far. `ok` false: standard error has the reason, and nothing is to be told or saved. `part` is `NO_PART` until something named
 // one; `role` is what the last word was; `worst` is the worst of the counts: nothing looks for it again after a trace.
-#[derive(Drop)]
+#[derive(Clone, Copy)]
 pub struct Worn {
     pub ok: bool,
     pub role: Role,

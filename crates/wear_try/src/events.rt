@@ -3,7 +3,7 @@
 use cases::more;
 
 // How far the list has come, and what was read of a byte.
-#[derive(Drop)]
+#[derive(Clone, Copy)]
 struct Laid {
     n: usize,
     inside: bool,

@@ -1,6 +1,7 @@
 // Tries calls of `wear`, one for each line of the input, and prints what each answers. A line is a letter for the call (`call`), its numbers and,
 // after a colon, what is tried; behind a slash the counts that stand before the call (`cases::counts`), and behind another the events (`events`) or the
 // counts that are joined to them.
+#![tactic(auto)]
 mod counts;
 mod events;
 mod runs;

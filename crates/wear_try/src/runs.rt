@@ -172,7 +172,7 @@ fn tell_answers(levels: &[u8], n: usize) {
 
 // ---- one run
 
-#[derive(Drop)]
+#[derive(Clone, Copy)]
 struct Told {
     verdict: Verdict,
     cycles: usize,

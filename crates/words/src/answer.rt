@@ -142,7 +142,7 @@ pub fn span(ok: bool, from: usize, end: usize) -> bool {
 }
 
 // How far two memories are looked through: the spans told, and where one is open that is not told yet.
-#[derive(Drop)]
+#[derive(Clone, Copy)]
 struct Seen {
     ok: bool,
     spans: usize,

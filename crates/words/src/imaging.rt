@@ -3,7 +3,7 @@ use crate::{IMAGE_WORD, MISSING, OPTION, TO, after, complain, is};
 
 // What is asked for; `ok` false: a word was wrong, and that was said. `file` and `out` are the words that name the files; `version` is the one
 // to convert to.
-#[derive(Drop)]
+#[derive(Clone, Copy)]
 pub struct Imaging {
     pub ok: bool,
     pub converts: bool,

@@ -1,5 +1,6 @@
 // The words of a command line, made into a job. What is wrong with a word is said on standard error at once. And the words that more than
 // one command answers with.
+#![tactic(auto)]
 pub mod answer;
 pub mod form;
 pub mod imaging;
@@ -18,7 +19,7 @@ use libc::{STDERR_FILENO, STDIN_FILENO};
 use parts::Refusal;
 
 // What a command asks for. `ok` false: a word was wrong, and that was said.
-#[derive(Drop)]
+#[derive(Clone, Copy)]
 pub struct Job {
     pub ok: bool,
     pub part: u8,
@@ -65,7 +66,7 @@ pub struct Job {
 
 // How far the words are read: the one that is looked at next, where they end, the command that they are of, and what each kind of word
 // said.
-#[derive(Drop)]
+#[derive(Clone, Copy)]
 struct Read {
     ok: bool,
     next: usize,
@@ -74,7 +75,7 @@ struct Read {
     said: [usize; 28],
 }
 
-#[derive(Drop)]
+#[derive(Clone, Copy)]
 pub struct Number {
     pub ok: bool,
     pub n: usize,

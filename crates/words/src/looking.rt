@@ -7,7 +7,7 @@ use help::{COMPARE, DUMP, INFO, options};
 
 // What is asked for; `ok` false: a word was wrong, and that was said. `named`: whether there is a part. `one` and `two` are the words that name
 // files, or 0.
-#[derive(Drop)]
+#[derive(Clone, Copy)]
 pub struct Looking {
     pub ok: bool,
     pub named: bool,

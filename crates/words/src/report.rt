@@ -5,7 +5,7 @@ use crate::answer::{address, bytes, count, number, say};
 use parts::{Refusal, Verdict};
 
 // Where the bytes of a request lie: the bytes of a page, which of the two memories, and the first place.
-#[derive(Drop)]
+#[derive(Clone, Copy)]
 pub struct Ground {
     pub page: usize,
     pub ident: bool,

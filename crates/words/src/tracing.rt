@@ -3,7 +3,7 @@ use crate::{MISSING, OPTION, after, complain, dashed_at, is, is_input, trouble};
 use help::TRACE;
 
 // What a word is.
-#[derive(Drop)]
+#[derive(Clone, Copy)]
 pub enum Role {
     File,
     Bytes,
@@ -15,7 +15,7 @@ pub enum Role {
 
 // What is asked for; `ok` false: a word was wrong, and that was said. `files`: how many there are, the last of them at the word `last`;
 // `vcd`: the word that names the file that is drawn, or 0.
-#[derive(Drop)]
+#[derive(Clone, Copy)]
 pub struct Tracing {
     pub ok: bool,
     pub bytes: bool,

@@ -2,7 +2,7 @@
 use crate::{MISSING, OPTION, SOURCES, after, complain, dashed_at, is, is_input, trouble};
 
 // What a word is.
-#[derive(Drop)]
+#[derive(Clone, Copy)]
 pub enum Role {
     Trace,
     // The names of options behind which a file stands, and that file.
@@ -20,7 +20,7 @@ pub enum Role {
 
 // What is asked for; `ok` false: a word was wrong, and that was said. `image` and `save` are the words that name the
 // files, or 0 for none.
-#[derive(Drop)]
+#[derive(Clone, Copy)]
 pub struct Wear {
     pub ok: bool,
     pub image: usize,
@@ -29,7 +29,7 @@ pub struct Wear {
 }
 
 // How far the words are looked at: what the last one was, and how many name what is read, and standard input.
-#[derive(Drop)]
+#[derive(Clone, Copy)]
 struct Taken {
     ok: bool,
     role: Role,
