@@ -1,0 +1,4 @@
+use Rattle.driver.proofs.begin.Goals as goal
+
+pub returns : goal.returns
+returns c = cc

@@ -1,0 +1,4 @@
+use Rattle.fitted.proofs.id.Goals as goal
+
+pub returns : goal.returns
+returns c = cc

@@ -1,0 +1,4 @@
+use Rattle.page.proofs.outside.Goals as goal
+
+pub returns-in-Array : goal.returns-in-Array
+returns-in-Array c = simp c.in-Array.is
