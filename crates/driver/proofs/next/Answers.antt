@@ -9,8 +9,8 @@ step-asked-requires c = fit _ _ (sym c.in_range.ensures ∙ c.if-in_range.true)
 pub returns-then-in_range : goal.returns-then-in_range
 unfolding driver_next_of buffer_of
 returns-then-in_range c =
-    let all = simp (sym c.in_range.ensures ∙ c.if-in_range.true, ← c.peek.ensures) (c.step-asked.ensures, c.keep.ensures) in record { value = all.0; buffer_after = all.1 }
+    record { value = simp (sym c.in_range.ensures ∙ c.if-in_range.true, ← c.peek.ensures) (c.step-asked.ensures); buffer_after = simp (sym c.in_range.ensures ∙ c.if-in_range.true, ← c.peek.ensures) (c.keep.ensures) }
 
 pub returns : goal.returns
 unfolding driver_next_of buffer_of
-returns c = let all = simp (sym c.in_range.ensures ∙ c.if-in_range.false) (c.unfit.ensures, refl) in record { value = all.0; buffer_after = all.1 }
+returns c = record { value = simp (sym c.in_range.ensures ∙ c.if-in_range.false) (c.unfit.ensures); buffer_after = simp (sym c.in_range.ensures ∙ c.if-in_range.false) (refl) }
