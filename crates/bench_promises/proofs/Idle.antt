@@ -271,12 +271,12 @@ pub constant_run_breaks : ConstantRunBreaks
 constant_run_breaks =
     record {
       low_reads = λ p. omega (arith, computed.low_byte, read_there (constant 0) p (Done 0 1) computed.low_read);
-      low_writes = λ p. omega (arith, computed.low-stored, stored_there (constant 0) p 2 1 late computed.low-written);
+      low_writes = λ p. omega (arith, computed.low_stored, stored_there (constant 0) p 2 1 late computed.low_written);
       high_reads = λ p.
           refused (NoSelect 0) _ (ap (λ (x : Report). x.verdict) (ran_report (constant 1) true 1 (Refused (NoSelect 0) 0 0) reads computed.high_read))
           (read_done (bench_under our_driver (constant 1)) p);
       high_ends = λ p.
-          refused (NoSelect 0) _ (ap (λ (x : Report). x.verdict) (ran_report (constant 1) false 1 (Refused (NoSelect 0) 0 0) writes computed.high-written))
+          refused (NoSelect 0) _ (ap (λ (x : Report). x.verdict) (ran_report (constant 1) false 1 (Refused (NoSelect 0) 0 0) writes computed.high_written))
           (ended (bench_under our_driver (constant 1)) p).0;
     }
 
@@ -307,13 +307,13 @@ module _ (p : ReadsBackKept forgets) where
   read_other : get_or (again.buffer ++ []) 0 0 ≡ 90
   read_other =
       ap (λ (l : List ℕ). get_or l 0 0)
-      (sym (buffer_is our_driver forgetful (one true) 1 (ran forgetful false 1).chip (ran forgetful false 1).mem byte 45 computed.again-fine (omega arith) computed.again-rests) ∙ read_back)
+      (sym (buffer_is our_driver forgetful (one true) 1 (ran forgetful false 1).chip (ran forgetful false 1).mem byte 45 computed.again_fine (omega arith) computed.again_rests) ∙ read_back)
 
 pub forgetful_run_breaks : ForgetfulRunBreaks
 forgetful_run_breaks =
     record {
       writes = λ p. omega (arith, computed.nothing_stored, stored_there forgetful p 1 1 writes computed.forgotten);
-      reads_back = λ p. omega (arith, computed.again-byte, read_other p);
+      reads_back = λ p. omega (arith, computed.again_byte, read_other p);
     }
 
 -- ---- invented counts

@@ -96,7 +96,7 @@ module _ (g : Given) (s : Sane g) (shut : refusing (T g) g.pin g.locked ≡ true
   no_ack ch m c v z (inl q) = false≢true (sym q.free ∙ shut)
   no_ack ch m c v z (inr (q, h)) = omega arith
 
-  blocks : (ch : Chip) (m : Mem) {c : Counts} {ys zs : List ℕ} {v : ℕ} {p : Phase} {mv : Move} → Inv r p c → Rel g p c ys ch.line ch.latch m v → Blocked p c → Way r c v ys p mv zs → Blocked mv.phase mv.counts
+  blocks : (ch : Chip) (m : Mem) {c : Counts} {ys : List ℕ} {v : ℕ} {zs : List ℕ} {p : Phase} {mv : Move} → Inv r p c → Rel g p c ys ch.line ch.latch m v → Blocked p c → Way r c v ys p mv zs → Blocked mv.phase mv.counts
   blocks ch m i o t (w_done e) = t
   blocks ch m i o t (w_open n) = same t refl refl tt
   blocks ch m {c} {v = v} i o t (w_bit sl b h) = taken_elim (λ (d : Counts). Blocked (Bits sl (b + 1)) d) sl c v (λ x. same t refl refl t.place)

@@ -40,11 +40,11 @@ one_reading list one joins back =
     let n : ◌≡◌ {A = ℕ} 3 0 = ap (λ (a : ListLeft). get_or a.out 1 0) both in
     omega arith
 
-by_letter : ByLetterBreaks
-by_letter back = one_reading by_letter (λ ss out. refl) letter_joins back
+by_letter_lem : ByLetterBreaks
+by_letter_lem back = one_reading by_letter (λ ss out. refl) letter_joins back
 
-by_bus : ByBusBreaks
-by_bus joins = one_reading by_bus (λ ss out. refl) joins drawn_back
+by_bus_lem : ByBusBreaks
+by_bus_lem joins = one_reading by_bus (λ ss out. refl) joins drawn_back
 
 finds_none : FindsNoneBreaks
 finds_none list none back =
@@ -91,8 +91,8 @@ pub wrong_readers : WrongReaders
 wrong_readers =
     record {
       one_reading = one_reading;
-      by_letter = by_letter;
-      by_bus = by_bus;
+      by_letter = by_letter_lem;
+      by_bus = by_bus_lem;
       finds_none = finds_none;
       blind = blind;
       like_ours = like_ours;

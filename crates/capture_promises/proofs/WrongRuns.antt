@@ -36,7 +36,7 @@ use Rattle.capture_promises.specs.Machines.{Seeing}
 use Rattle.capture_promises.specs.Running.{EndsRight, MarkFirst}
 use Rattle.capture_promises.specs.Good.{on_line, Releases, Mastered, wires_of}
 use Rattle.capture_promises.specs.Worked.{byte_written, selected, over}
-use Rattle.capture_promises.specs.WrongRuns.{Accepts, NeverMarksBreaks, AlwaysMarksBreaks, EndsNothingBreaks, KeepsChipBreaks, KeepsBytesBreaks, OneReadingBreaks, viewed_by, first_mark, ViewedIsOurs, ViewedAccepts, ends_every, EndsEveryBreaks, ends_at_once, EndsAtOnceBreaks, compares_all, ComparesAllBreaks, ComparesAllMarksGood, counts_from_one, CountsFromOneBreaks, WrongRuns}
+use Rattle.capture_promises.specs.WrongRuns.{Accepts, NeverMarksBreaks, AlwaysMarksBreaks, EndsNothingBreaks, KeepsChipBreaks, KeepsBytesBreaks, OneReadingBreaks, viewed_by, first_mark, every_end_of, at_once_of, every_mark, one_later, ViewedIsOurs, ViewedAccepts, ends_every, EndsEveryBreaks, ends_at_once, EndsAtOnceBreaks, compares_all, ComparesAllBreaks, ComparesAllMarksGood, counts_from_one, CountsFromOneBreaks, WrongRuns}
 use Rattle.capture_promises.proofs.Drawn.{drawn_low}
 use Rattle.capture_promises.proofs.Ends.{ends_one_way, with_placed}
 use Rattle.capture_promises.proofs.Marks.{mark_one}
@@ -192,22 +192,22 @@ like_ours part en c m bus ss = go (seen_verdict_of part en c (length m.cells) (l
 refuse_as_ours : ViewedAccepts
 refuse_as_ours v part en c m bus ss r h = ap (λ (w : Verdict). (viewed_by v (ours (facts_of part) en) c m bus ss w).answer.verdict) (seen_fine part en c m bus ss r h)
 
-ends_every : EndsEveryBreaks
-ends_every right =
-    let z : ◌≡◌ {A = ℕ} 1 0 = sym computed.every ∙ (same_run ends_every (refuse_as_ours _) true (byte_written ++ selected true) right).0 ∙ worked.poll_ends in
+ends_every_lem : EndsEveryBreaks
+ends_every_lem right =
+    let z : ◌≡◌ {A = ℕ} 1 0 = sym computed.every ∙ (same_run ends_every (refuse_as_ours (record { with_ends = every_end_of; mark_of = first_mark })) true (byte_written ++ selected true) right).0 ∙ worked.poll_ends in
     omega arith
 
-ends_at_once : EndsAtOnceBreaks
-ends_at_once right =
-    let z : ◌≡◌ {A = ℕ} 1 0 = sym computed.at_once ∙ (same_run ends_at_once (refuse_as_ours _) true byte_written right).0 ∙ worked.ends in
+ends_at_once_lem : EndsAtOnceBreaks
+ends_at_once_lem right =
+    let z : ◌≡◌ {A = ℕ} 1 0 = sym computed.at_once ∙ (same_run ends_at_once (refuse_as_ours (record { with_ends = at_once_of; mark_of = first_mark })) true byte_written right).0 ∙ worked.ends in
     omega arith
 
-compares_all : ComparesAllBreaks
-compares_all first = apart (sym worked.mark ∙ sym (same_mark compares_all (refuse_as_ours _) true byte_written first) ∙ computed.all)
+compares_all_lem : ComparesAllBreaks
+compares_all_lem first = apart (sym worked.mark ∙ sym (same_mark compares_all (refuse_as_ours (record { with_ends = with_ends_of; mark_of = λ M c m rises xs. every_mark M c m 0 rises xs })) true byte_written first) ∙ computed.all)
 
-counts_from_one : CountsFromOneBreaks
-counts_from_one first =
-    let e : At 29 8 1 ≡ At 28 8 1 = sym computed.from_one ∙ same_mark counts_from_one (refuse_as_ours _) true (selected true) first ∙ worked.unacknowledged in
+counts_from_one_lem : CountsFromOneBreaks
+counts_from_one_lem first =
+    let e : At 29 8 1 ≡ At 28 8 1 = sym computed.from_one ∙ same_mark counts_from_one (refuse_as_ours (record { with_ends = with_ends_of; mark_of = λ M c m rises xs. one_later (first_mark M c m rises xs) })) true (selected true) first ∙ worked.unacknowledged in
     let z : ◌≡◌ {A = ℕ} 29 28 = cc in
     omega arith
 
@@ -244,9 +244,9 @@ wrong_runs =
       one_reading = one_reading;
       like_ours = like_ours;
       refuse_as_ours = refuse_as_ours;
-      ends_every = ends_every;
-      ends_at_once = ends_at_once;
-      compares_all = compares_all;
+      ends_every = ends_every_lem;
+      ends_at_once = ends_at_once_lem;
+      compares_all = compares_all_lem;
       compares_all_good = compares_all_good;
-      counts_from_one = counts_from_one;
+      counts_from_one = counts_from_one_lem;
     }

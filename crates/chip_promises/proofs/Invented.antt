@@ -23,7 +23,7 @@ same_levels : (count : Chip → ℕ → ℕ) (f : Facts) (en : ℕ) (c : Chip) (
     → levels_of (inventing_model count f en) c m es ≡ levels_of (ours f en) c m es
 unfolding levels_of
 same_levels count f en c m [] = refl
-same_levels count f en c m (e ∷ es) = rw (same_levels count f en _ _ es)
+same_levels count f en c m (e ∷ es) = rw (same_levels count f en ((ours f en).next c e) ((ours f en).store c m e) es)
 
 pub invents_nothing : InventsNothing
 invents_nothing count kept f en c es h =

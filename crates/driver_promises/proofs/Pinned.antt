@@ -189,9 +189,9 @@ module _ (r : Request) (xs ls : List ℕ) where
   reads_some h = ap (λ (t : Bool). cond t (ends_done []) (head_out [] 0 (ask turned (ends_done (read_plan r)) (ends_refused (NoSelect (page_at r 0)) turned 0)))) (ne_eqb r.length 0 (λ z. omega arith))
 
   -- a run of a byte or more ends where its head does
-  pub head_out : 0 < r.length → (o : Out) → ((on : Out) → head_out [] 0 on ≡ o) → (b : Bool) → out b ≡ o
-  head_out h o f true = reads_some h ∙ f _
-  head_out h o f false = ap (λ (i : ℕ). parts_out i [] 0) (sym (left_all r) ∙ left_cut r 0 h) ∙ f _
+  pub head_out_lem : 0 < r.length → (o : Out) → ((on : Out) → head_out [] 0 on ≡ o) → (b : Bool) → out b ≡ o
+  head_out_lem h o f true = reads_some h ∙ f _
+  head_out_lem h o f false = ap (λ (i : ℕ). parts_out i [] 0) (sym (left_all r) ∙ left_cut r 0 h) ∙ f _
 
   stopped_out : (f : Refusal) (m q : ℕ) (es : List ℕ) → (r.reads ≡ false → 1 ≤ allowed_of r) → (r.reads ≡ true → m ≡ 0) → (s : Stopped r xs f m q es ls) → out r.reads ≡ ends_refused f (then_byte s.before s.byte 1) m
   stopped_out f m q es b z s = go r.reads refl s.parts

@@ -39,7 +39,7 @@ use Rattle.driver_promises.proofs.Inv.{wide}
 use Rattle.driver_promises.proofs.Grow.{A, bit_lt, two_bytes, one_byte}
 use Rattle.driver_promises.proofs.Story.{odd_more}
 use Rattle.driver_promises.proofs.Promises.{promises}
-use Rattle.driver_promises.proofs.Pinned.{Out, ends_refused, last_by, head_out, out, select_no, high_no, last_no, head_out, whole, ends_as}
+use Rattle.driver_promises.proofs.Pinned.{Out, ends_refused, last_by, head_out, out, select_no, high_no, last_no, head_out_lem, whole, ends_as}
 
 no_stop : (v n : ℕ) → eqb (bit_of v n) 3 ≡ false
 no_stop v n = ne_eqb (bit_of v n) 3 (λ e. (let k = bit_lt v n in omega arith))
@@ -307,7 +307,7 @@ module _ (r : Request) (xs : List ℕ) (a : Accepted r xs) (h : 0 < r.length) (n
   answer_is : (k : ℕ) (f : Refusal) (es : List ℕ) → ((on : Out) → head_out r xs (failing k n) [] 0 on ≡ ends_refused r xs (failing k n) f es 0) → NoStops es → answers our_driver r xs (failing k n) l ≡ Refused f 0 0
   answer_is k f es g z =
       let d : bound_of r < length (failing k n) = omega (arith, length-append {A = ℕ} (replicate k 0) (replicate n 1), length-replicate {A = ℕ} n 1) in
-      ap (λ (o : Out). o.answer) (ends_as r xs (failing k n) our_driver l promises a ((promises.one_each r xs a (failing k n) l).bound d) ∙ head_out r xs (failing k n) h _ g r.reads)
+      ap (λ (o : Out). o.answer) (ends_as r xs (failing k n) our_driver l promises a ((promises.one_each r xs a (failing k n) l).bound d) ∙ head_out_lem r xs (failing k n) h _ g r.reads)
       ∙ ap (λ (q : ℕ). Refused f q 0) (no_polls es z)
 
   stops_select : NoStops (then_select r [] 0)

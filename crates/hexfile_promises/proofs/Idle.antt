@@ -21,7 +21,7 @@ use Rattle.hexfile.specs.Written.{line_of, text_length_of}
 use Rattle.hexfile.specs.Calls.{AfterRead, array_verdict_of, got_of, read_by, reading_of}
 use Rattle.hexfile_promises.specs.Files.{Digit, figure, small, none, byte, EndLine, rest, missing, IsFile}
 use Rattle.hexfile_promises.specs.Promises.{Reading, Writing, size_of, Lent, text_in_lem, GivesBack, AcceptsOnly}
-use Rattle.hexfile_promises.specs.Idle.{View, BlankBreaks, RefusesAllBreaks, end_alone, EndAloneBreaks, viewed_turn, viewed_at, viewed_by, viewed, ViewedIsOurs, SkipsSumsBreaks, LaterWinsBreaks, StopsAtEndBreaks, wants_upper, WantsUpperBreaks, WrongHex}
+use Rattle.hexfile_promises.specs.Idle.{View, BlankBreaks, RefusesAllBreaks, end_alone, EndAloneBreaks, viewed_turn, viewed_at, viewed_by, viewed, ViewedIsOurs, skips_sums, SkipsSumsBreaks, later_wins, LaterWinsBreaks, stops_at_end, StopsAtEndBreaks, wants_upper, WantsUpperBreaks, WrongHex}
 use Rattle.hexfile_promises.proofs.Calls.{is_lent}
 use Rattle.hexfile_promises.proofs.Kept.{accepts_all}
 
@@ -102,17 +102,13 @@ module _ (text : List ℕ) (r : Refusal) (ours-refuses : read_of (size_of 0) tex
       let n : (reading_of 0 text (all 0)).answer.verdict ≡ Refused r = rw (is_lent 0 (all 0) (lent 0), ours-refuses) refl in
       refused_not (sym n ∙ ap (λ (a : HexRead). a.verdict) (accepts_all 0 text (all 0) x.records x.lent x.file x.placed))
 
-  -- and one of the views does
-  accepted : (v : View) (cells : List ℕ) (k : ℕ) → AcceptsOnly (viewed v) → viewed_at v (replicate (size_of 0) 256) 0 (lines_of text) ≡ gets cells k → ⊥
-  accepted v cells k only fine = not_ours (viewed v) only (rw (is_lent 0 (all 0) (lent 0), fine) refl)
-
 -- `:0000000001` and the end record
 no_sum : List ℕ
 no_sum = 58 ∷ 48 ∷ 48 ∷ 48 ∷ 48 ∷ 48 ∷ 48 ∷ 48 ∷ 48 ∷ 48 ∷ 49 ∷ 10 ∷ line_of end_bytes
 
-skips_sums : SkipsSumsBreaks
+skips_sums_lem : SkipsSumsBreaks
 unfolding read_of record_in formed_of typed_of same_of pair_of pair_at value_of hex_digit_of fits_of entered_of facts_of no_sum
-skips_sums only = accepted no_sum (BadSum 1) refl _ _ _ only refl
+skips_sums_lem only = not_ours no_sum (BadSum 1) refl skips_sums only (rw (is_lent 0 (all 0) (lent 0)) refl)
 
 -- `:0100000000FF` twice, and the end record
 twice : List ℕ
@@ -121,17 +117,17 @@ twice = once ++ once ++ line_of end_bytes
     once : List ℕ
     once = line_of (1 ∷ 0 ∷ 0 ∷ 0 ∷ 0 ∷ 255 ∷ [])
 
-later_wins : LaterWinsBreaks
+later_wins_lem : LaterWinsBreaks
 unfolding read_of record_in formed_of typed_of same_of pair_of pair_at value_of hex_digit_of fits_of entered_of facts_of twice
-later_wins only = accepted twice (Misplaced 2) refl _ _ _ only refl
+later_wins_lem only = not_ours twice (Misplaced 2) refl later_wins only (rw (is_lent 0 (all 0) (lent 0)) refl)
 
 -- the end record and an empty line
 line_after : List ℕ
 line_after = line_of end_bytes ++ (10 ∷ [])
 
-stops_at_end : StopsAtEndBreaks
+stops_at_end_lem : StopsAtEndBreaks
 unfolding read_of record_in formed_of typed_of same_of pair_of pair_at value_of hex_digit_of fits_of entered_of facts_of line_after
-stops_at_end only = accepted line_after (NoEnd 2) refl _ _ _ only refl
+stops_at_end_lem only = not_ours line_after (NoEnd 2) refl stops_at_end only (rw (is_lent 0 (all 0) (lent 0)) refl)
 
 -- `:00000001ff`
 lower : List ℕ
@@ -159,9 +155,9 @@ lower_file : IsFile lower []
 unfolding lower
 lower_file = record { line = lower; stop = []; begins = rest; end = lower_end; ends = missing }
 
-wants_upper : WantsUpperBreaks
+wants_upper_lem : WantsUpperBreaks
 unfolding lower
-wants_upper all_read =
+wants_upper_lem all_read =
     let n : (wants_upper 0 lower (all 0)).answer.verdict ≡ Refused (BadRecord 1) = rw (is_lent 0 (all 0) (lent 0)) refl in
     refused_not (sym n ∙ ap (λ (a : HexRead). a.verdict) (all_read 0 lower (all 0) [] (lent 0) lower_file tt))
 
@@ -174,8 +170,8 @@ wrong_hex =
       refuses_all = refuses_all_breaks;
       end_alone = end_alone_breaks;
       like_ours = like_ours;
-      skips_sums = skips_sums;
-      later_wins = later_wins;
-      stops_at_end = stops_at_end;
-      wants_upper = wants_upper;
+      skips_sums = skips_sums_lem;
+      later_wins = later_wins_lem;
+      stops_at_end = stops_at_end_lem;
+      wants_upper = wants_upper_lem;
     }

@@ -110,7 +110,7 @@ end_alone {t} (by_cr_lf {l = l} {b = b} e n) g z =
 end_alone {t} (by_end n h) g z = record { line = t; stop = []; begins = subst (λ (u : List ℕ). Begins t [] u) (sym (append-nil t)) rest; end = g; ends = missing }
 
 module _ {cells t l b : List ℕ} {k : ℕ} (f : FirstLine t l b) where
-  outcome_more : {g : Got} (p : Piece) → GoodLine l p.at p.bytes → fit cells p ≡ true → Outcome (enter cells p) (suc k) b g → Outcome cells k t g
+  outcome_more : (p : Piece) {g : Got} → GoodLine l p.at p.bytes → fit cells p ≡ true → Outcome (enter cells p) (suc k) b g → Outcome cells k t g
   outcome_more p h e (done i s) =
       done record { line = i.line; stop = i.stop; begins = begins_more f h i.begins; end = i.end; ends = i.ends } (e, s)
   outcome_more p h e (stopped s w x) = stopped (begins_more f h s) (e, w) x

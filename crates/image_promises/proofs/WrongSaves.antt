@@ -67,7 +67,8 @@ module _ (lock : Bool) (m : Mem) (r s : List ℕ) where
 low_first_breaks : LayoutWritten low_first → ⊥
 unfolding worn_image_of front
 low_first_breaks kept =
-    low_apart fresh.line.core.locked (all 0) (drop (worn_length_of (facts_of 0)) buffer) (drop (worn_length_of (facts_of 0)) buffer) (same _ worn_length_of 0 1 kept).1
+    low_apart fresh.line.core.locked (all 0) (drop (worn_length_of (facts_of 0)) buffer) (drop (worn_length_of (facts_of 0)) buffer)
+    (same (λ part lock m counts. ((head_of 0x02 part lock ++ m.cells) ++ m.ident) ++ low_words_of counts) worn_length_of 0 1 kept).1
 
 -- ---- behind the array: 0, and 255 where the identification page comes first
 
@@ -86,7 +87,7 @@ counts_first_breaks : LayoutWritten counts_first → ⊥
 unfolding worn_image_of array all
 counts_first_breaks kept =
     page_apart fresh.line.core.locked (replicate 2048 255) (replicate 15 255) (drop (worn_length_of (facts_of 0)) buffer) (drop (worn_length_of (facts_of 0)) buffer)
-    (same _ worn_length_of 255 0 kept).1
+    (same (λ part lock m counts. ((head_of 0x02 part lock ++ m.cells) ++ words_of counts) ++ m.ident) worn_length_of 255 0 kept).1
 
 pub wrong_worn : WrongWorn
 wrong_worn =

@@ -211,7 +211,7 @@ module _ (l : List ℕ) (b : AllBelow 256 l) (h : holds_chip_of l ≡ true) wher
   fits =
       record {
         counter = omega (arith, below_at l b 0, below_at l b 1);
-        high = rw (high_again (get_or l 5 0) (get_or l 6 0) codes.code-low codes.high-kept) (below_at l b 6);
+        high = rw (high_again (get_or l 5 0) (get_or l 6 0) codes.code_low codes.high_kept) (below_at l b 6);
         left = below_at l b 7;
         shift = below_at l b 8;
         latches = rw (row_length, rest_length) refl;
@@ -225,7 +225,7 @@ module _ (l : List ℕ) (b : AllBelow 256 l) (h : holds_chip_of l ≡ true) wher
       let first : pair_joined_of (get_or l 0 0) (get_or l 1 0) / 256 ≡ get_or l 0 0 = omega arith in
       let second : pair_joined_of (get_or l 0 0) (get_or l 1 0) % 256 ≡ get_or l 1 0 = omega arith in
       let even : length (drop 9 l) % 2 ≡ 0 = rw rest_length refl in
-      rw (first, second, pin_again (get_or l 2 0) codes.pin-low, flag_in (get_or l 3 0) codes.inhibited-low, flag_in (get_or l 4 0) codes.locked-low, code_again (get_or l 5 0) (get_or l 6 0) codes.code-low, high_again (get_or l 5 0) (get_or l 6 0) codes.code-low codes.high-kept, pairs_of_row (drop 9 l) (below_drop 256 9 l b) even)
+      rw (first, second, pin_again (get_or l 2 0) codes.pin_low, flag_in (get_or l 3 0) codes.inhibited_low, flag_in (get_or l 4 0) codes.locked_low, code_again (get_or l 5 0) (get_or l 6 0) codes.code_low, high_again (get_or l 5 0) (get_or l 6 0) codes.code_low codes.high_kept, pairs_of_row (drop 9 l) (below_drop 256 9 l b) even)
       (nine l (holds_long l h))
 
 pub chip_unpacks_back : ChipUnpacksBack packed_chip_of unpacked_chip_of

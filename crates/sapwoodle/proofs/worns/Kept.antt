@@ -17,7 +17,7 @@ use Rattle.pack_chip.specs.Layout.{chip_length, pack_chip_into, unpacked_chip_of
 use Rattle.pack_chip.proofs.Kept.{chip_packs_back}
 use Rattle.image.specs.Layout.{image_length_of, part_in, lock_in}
 use Rattle.image_worn.specs.Layout.{worn_length_of}
-use Rattle.image_worn.specs.Calls.{save_worn_verdict_of, load_worn_verdict_of, to_worn_verdict_of, to_plain_verdict_of}
+use Rattle.image_worn.specs.Calls.{save_worn_verdict_of, load_worn_verdict_of, load_worn_by, to_worn_verdict_of, to_plain_verdict_of}
 use Rattle.sapwoodle.specs.Images.{looks_of}
 use Rattle.sapwoodle.specs.Worns.{load_worn_verdict_in, saving_worn_bytes, loading_worn_bytes, to_worn_bytes, to_plain_bytes}
 use Rattle.sapwoodle.specs.Promises.{SaveWornKeeps, LoadWornKeeps, ConvertKeeps, WornBytesKept, SaveWornIsImages, LoadWornHolds, LoadWornFinds}
@@ -40,7 +40,7 @@ load_worn_keeps : LoadWornKeeps loading_worn_bytes
 load_worn_keeps l enable s m counts worst h =
     let o : (load_worn_verdict_in l enable s m counts ≡ Fine → ⊥) = λ e. h (rw e refl) in
     let k = loads_nothing l _ s m counts (load_worn_verdict_in l enable s m counts) o in
-    (k.0, k.1, k.2, worst_held worst _ (load_worn_verdict_in l enable s m counts) o, refl)
+    (k.0, k.1, k.2, worst_held worst (load_worn_by l m counts (load_worn_verdict_in l enable s m counts)).counts (load_worn_verdict_in l enable s m counts) o, refl)
 
 pub worn_bytes_kept : WornBytesKept
 worn_bytes_kept = record { save = save_worn_keeps; load = load_worn_keeps; to_worn = to_worn_keeps; to_plain = to_plain_keeps }
