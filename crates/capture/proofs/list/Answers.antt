@@ -8,15 +8,6 @@ use Rattle.capture.specs.Steps.{left_of}
 use Rattle.capture.proofs.Sampled.{left_start, left_end, one_made, none_made, put_before, put_behind, put_all}
 use Rattle.capture.proofs.list.Goals as goal
 
--- an event is left, so there is room for it
-room : (c : tie.Then1 invariant-loop decreases-loop) → c.before.before.before.before.loop.n < length c.before.before.before.before.loop.out
-room c =
-    let e = c.before.before.next-event in
-    let l = c.before.before.before.before.loop in
-    let a = c.before.before.before.before.before.before.before.args in
-    let left = left_of a.bus a.samples.now e.result.next in
-    omega (arith, l.invariant.1, l.invariant.2, c.before.before.before.before.before.before.before.requires.1, ap length (e.ensures.events ∙ one_made e.result.code left c.if1.true))
-
 pub loop-i-init : goal.loop-i-init
 loop-i-init c =
     let a = c.args in
@@ -27,7 +18,11 @@ pub next_event-next-requires : goal.next_event-next-requires
 next_event-next-requires c = (omega arith, omega arith, c.requires.0)
 
 pub bounds-out-n : goal.bounds-out-n
-bounds-out-n c = room c
+bounds-out-n c =
+    let e = c.next_event-next in
+    let l = c.loop-i in
+    let left = left_of c.args.bus c.args.samples.now e.result.next in
+    omega (arith, l.invariant.1, l.invariant.2, c.requires.1, ap length (e.ensures.events ∙ one_made e.result.code left c.if-next-lt4.true))
 
 pub loop-i-smaller-then-next-lt4 : goal.loop-i-smaller-then-next-lt4
 loop-i-smaller-then-next-lt4 c = omega (arith, c.next_event-next.ensures.moves (omega arith))
@@ -42,7 +37,7 @@ loop-i-preserved-then-next-lt4 c =
       omega (arith, e.ensures.moves (omega arith)),
       length-set l.out l.n e.result.code ∙ l.invariant.1,
       omega (arith, l.invariant.2, ap length more),
-      put_before l.out (events_of a.bus a.samples.now) l.n e.result.code left (room c) (ap (λ (k : List ℕ). take l.n l.out ++ k) (sym more) ∙ l.invariant.3),
+      put_before l.out (events_of a.bus a.samples.now) l.n e.result.code left (omega (arith, l.invariant.1, l.invariant.2, c.requires.1, ap length more)) (ap (λ (k : List ℕ). take l.n l.out ++ k) (sym more) ∙ l.invariant.3),
       put_behind l.out a.out.now l.n e.result.code l.invariant.4,
     )
 

@@ -1,0 +1,11 @@
+use mathlib.Core.Path.{◌∙◌, sym, ap}
+use Rattle.wear.specs.Worst.{worse_of}
+use Rattle.wear.proofs.Grown.{raised_same}
+use Rattle.wear.proofs.Stretches.{worn_open, worn_close}
+use Rattle.wear.proofs.note.Goals as goal
+
+pub returns-then-closes : goal.returns-then-closes
+returns-then-closes c = record { counts = c.mark_line.ensures.counts ∙ sym (worn_close _ _ _ _ (sym c.closes-closes.ensures ∙ c.if-closes.true)); raised = c.worse.ensures ∙ ap (worse_of c.args.best) c.mark_line.ensures.raised }
+
+pub returns : goal.returns
+returns c = record { counts = sym (worn_open _ _ _ _ (sym c.closes-closes.ensures ∙ c.if-closes.false)); raised = c.worse-2.ensures ∙ ap (worse_of c.args.best) (c.none.ensures ∙ sym (raised_same _)) }
