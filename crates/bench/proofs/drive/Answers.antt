@@ -1,0 +1,22 @@
+use mathlib.Core.Path.{refl}
+use Rattle.bench.proofs.Laws.{driven}
+use Rattle.bench.proofs.Taped.{taped}
+use Rattle.bench.proofs.drive.Goals as goal
+
+pub begin-begun-requires : goal.begin-begun-requires
+begin-begun-requires c = tt
+
+pub go-gone-requires : goal.go-gone-requires
+go-gone-requires c = let all = (c.requires.0, ((refl, refl), c.requires.1)) in record { fit = all.0; none = all.1.0; first = all.1.1.0; worst = all.1.1.1 }
+
+pub reported-report-requires : goal.reported-report-requires
+reported-report-requires c = tt
+
+pub returns : goal.returns
+returns c =
+    let a = c.args in
+    let g = c.begin-begun in
+    let w = c.go-gone in
+    let x = driven _ _ _ _ a.request a.chip _ _ _ _ g.result a.worst w.result.held _ w.result.answer c.reported-report.result g.ensures w.ensures.together w.ensures.last c.reported-report.ensures in
+    let y = taped _ _ _ _ a.request a.chip _ _ g.result a.worst g.ensures _ _ _ _ _ _ _ w.ensures.sent w.ensures.events w.ensures.levels w.ensures.counts in
+    record { answer = x.0; stored = x.1.0; bytes = x.1.1; sent = y.0; events = y.1.0; levels = y.1.1.0; counts = y.1.1.1; worst = w.ensures.worst }

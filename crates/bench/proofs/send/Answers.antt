@@ -1,0 +1,27 @@
+use native.Mathlib.Omega.{arith}
+use Rattle.bench.proofs.Laws.{fine_step, one_cycle, clock_most, sent_is, stored_is}
+use Rattle.bench.proofs.send.Goals as goal
+
+pub step-s-requires : goal.step-s-requires
+step-s-requires c = tt
+
+pub overflow_add-result : goal.overflow_add-result
+overflow_add-result c =
+    let st = c.step-s in
+    let a = c.args in
+    omega (arith, one_cycle _ _ a.held _ a.code st.result _ (fine_step _ _ _ _ _ c.requires.0 c.args.code (omega (arith, c.requires.1.0))) st.ensures.answer, c.requires.1.1.0)
+
+pub clock-requires : goal.clock-requires
+clock-requires c = tt
+
+pub overflow_add-result-2 : goal.overflow_add-result-2
+overflow_add-result-2 c =
+    let a = c.args in
+    omega (arith, c.clock.ensures, clock_most a.code, c.requires.1.1.1)
+
+pub returns : goal.returns
+returns c =
+    let st = c.step-s in
+    let a = c.args in
+    let v = fine_step _ _ _ _ _ c.requires.0 c.args.code (omega (arith, c.requires.1.0)) in
+    record { answer = sent_is _ _ a.held _ a.code st.result _ v st.ensures.answer _ _ c.clock.ensures; stored = stored_is _ _ _ a.code _ _ _ v st.ensures.cells st.ensures.ident }
