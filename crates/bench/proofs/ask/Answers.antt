@@ -10,7 +10,7 @@ next-asked-requires c = tt
 pub send-sent-requires : goal.send-sent-requires
 send-sent-requires c =
     let nx = c.next-asked in
-    record { fit = c.requires.0; code = sent_small _ _ _ nx.result nx.ensures.value _ c.in-Send.is; few = c.requires.1 }
+    record { fit = c.requires.fit; code = sent_small _ _ _ nx.result nx.ensures.value _ c.in-Send.is; few = c.requires.few }
 
 pub returns-in-Send : goal.returns-in-Send
 returns-in-Send c =

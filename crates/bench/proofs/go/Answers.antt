@@ -9,12 +9,12 @@ use Rattle.bench.proofs.Worn.{worn_on, worn_still, worn_end}
 use Rattle.bench.proofs.go.Goals as goal
 
 pub loop-left-init : goal.loop-left-init
-loop-left-init c = (omega arith, refl, refl, refl, (omega (arith, c.requires.1.0), omega (arith, c.requires.1.0)), c.requires.0, refl, refl, refl, omega arith, left_start _ _ _ _ _ _ _, refl, refl, refl, c.requires.1.1.1)
+loop-left-init c = (omega arith, refl, refl, refl, (omega (arith, c.requires.none), omega (arith, c.requires.none)), c.requires.fit, refl, refl, refl, omega arith, left_start _ _ _ _ _ _ _, refl, refl, refl, c.requires.worst)
 
 pub turn-t-requires : goal.turn-t-requires
 turn-t-requires c =
     let l = c.loop-left in
-    record { fit = rw (l.invariant.1, l.invariant.2) l.invariant.5; few = (omega (arith, l.invariant.4, c.loop-left-test.true), omega (arith, l.invariant.4, c.loop-left-test.true)); first = c.requires.1.1.0; worst = l.invariant.14 }
+    record { fit = rw (l.invariant.1, l.invariant.2) l.invariant.5; few = (omega (arith, l.invariant.4, c.loop-left-test.true), omega (arith, l.invariant.4, c.loop-left-test.true)); first = c.requires.first; worst = l.invariant.14 }
 
 pub sends-there-requires : goal.sends-there-requires
 sends-there-requires c = tt

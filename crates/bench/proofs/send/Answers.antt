@@ -9,7 +9,7 @@ pub overflow_add-result : goal.overflow_add-result
 overflow_add-result c =
     let st = c.step-s in
     let a = c.args in
-    omega (arith, one_cycle _ _ a.held _ a.code st.result _ (fine_step _ _ _ _ _ c.requires.0 c.args.code (omega (arith, c.requires.1.0))) st.ensures.answer, c.requires.1.1.0)
+    omega (arith, one_cycle _ _ a.held _ a.code st.result _ (fine_step _ _ _ _ _ c.requires.fit c.args.code (omega (arith, c.requires.code))) st.ensures.answer, c.requires.few.0)
 
 pub clock-requires : goal.clock-requires
 clock-requires c = tt
@@ -17,11 +17,11 @@ clock-requires c = tt
 pub overflow_add-result-2 : goal.overflow_add-result-2
 overflow_add-result-2 c =
     let a = c.args in
-    omega (arith, c.clock.ensures, clock_most a.code, c.requires.1.1.1)
+    omega (arith, c.clock.ensures, clock_most a.code, c.requires.few.1)
 
 pub returns : goal.returns
 returns c =
     let st = c.step-s in
     let a = c.args in
-    let v = fine_step _ _ _ _ _ c.requires.0 c.args.code (omega (arith, c.requires.1.0)) in
+    let v = fine_step _ _ _ _ _ c.requires.fit c.args.code (omega (arith, c.requires.code)) in
     record { answer = sent_is _ _ a.held _ a.code st.result _ v st.ensures.answer _ _ c.clock.ensures; stored = stored_is _ _ _ a.code _ _ _ v st.ensures.cells st.ensures.ident }

@@ -8,17 +8,17 @@ pub allowed-most-requires : goal.allowed-most-requires
 allowed-most-requires c = tt
 
 pub due-ended-requires : goal.due-ended-requires
-due-ended-requires c = c.requires.1.1.0
+due-ended-requires c = c.requires.first
 
 pub end-ready-requires : goal.end-ready-requires
-end-ready-requires c = record { fit = c.requires.0; worst = c.requires.1.1.1 }
+end-ready-requires c = record { fit = c.requires.fit; worst = c.requires.worst }
 
 pub ask-requires : goal.ask-requires
 ask-requires c =
     let en = c.end-ready in
     let b = c.args in
     let p = c.requires in
-    record { fit = fit_ended _ _ c.due-ended.result b.held en.result _ en.ensures.answer _ _ _ _ (search rules) (search rules) p.0; few = few_ended _ _ c.due-ended.result b.held en.result _ en.ensures.answer _ p.1.0 }
+    record { fit = fit_ended _ _ c.due-ended.result b.held en.result _ en.ensures.answer _ _ _ _ (search rules) (search rules) p.fit; few = few_ended _ _ c.due-ended.result b.held en.result _ en.ensures.answer _ p.few }
 
 pub returns : goal.returns
 returns c =
