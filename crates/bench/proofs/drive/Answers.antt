@@ -7,7 +7,7 @@ pub begin-begun-requires : goal.begin-begun-requires
 begin-begun-requires c = tt
 
 pub go-gone-requires : goal.go-gone-requires
-go-gone-requires c = record { fit = c.requires.fit; none = (refl, refl); first = c.requires.fit; worst = (c.requires.first, c.requires.worst) }
+go-gone-requires c = record { fit = c.requires.fit; none = (refl, refl); first = c.requires.first; worst = c.requires.worst }
 
 pub reported-report-requires : goal.reported-report-requires
 reported-report-requires c = tt

@@ -1,12 +1,14 @@
 use mathlib.Core.Path.{refl}
 use native.Mathlib.Omega.{arith}
-use borrow.Author.Tests.{not-false}
 use Rattle.bench.proofs.Laws.{fine_step, ended_is, stored_is}
 use Rattle.bench.proofs.Worn.{end_worst}
+use Rattle.chip.specs.Model.{ours}
+use Rattle.chip.specs.Memory.{mem}
+use Rattle.parts.specs.Table.{facts_of}
 use Rattle.bench.proofs.end.Goals as goal
 
 pub returns-then-not-due : goal.returns-then-not-due
-returns-then-not-due c = record { answer = rw (c.if-not-due.true) (refl); stored = rw (c.if-not-due.true) (refl); counts = rw (c.if-not-due.true) (refl); worst = rw (c.if-not-due.true) (c.requires.worst) }
+returns-then-not-due c = record { answer = rw c.if-not-due.true refl; stored = rw c.if-not-due.true refl; counts = rw c.if-not-due.true refl; worst = c.requires.worst }
 
 pub mark-raised-requires : goal.mark-raised-requires
 mark-raised-requires c = tt
@@ -22,4 +24,4 @@ returns c =
     let st = c.step-s in
     let a = c.args in
     let v = fine_step _ _ _ _ _ c.requires.fit 4 (omega arith) in
-    record { answer = rw (not-false a.due c.if-not-due.false) (ended_is _ _ a.held _ 4 st.result _ v st.ensures.answer _ refl); stored = rw (not-false a.due c.if-not-due.false) (stored_is _ _ _ 4 _ _ _ v st.ensures.cells st.ensures.ident); counts = rw (not-false a.due c.if-not-due.false) (c.mark-raised.ensures.counts); worst = rw (not-false a.due c.if-not-due.false) (end_worst _ _ _ _ _ _ _ c.requires.worst c.mark-raised.ensures.counts c.mark-raised.ensures.raised c.worse-worst.ensures) }
+    record { answer = rw c.if-not-due.false (ended_is _ _ a.held _ 4 st.result _ v st.ensures.answer _ refl); stored = rw c.if-not-due.false (stored_is (ours (facts_of a.part) a.enable) a.held.chip (mem a.array.now a.id.now) 4 _ _ _ v st.ensures.cells st.ensures.ident); counts = rw c.if-not-due.false (c.mark-raised.ensures.counts); worst = (end_worst _ _ _ _ _ _ _ c.requires.worst c.mark-raised.ensures.counts c.mark-raised.ensures.raised c.worse-worst.ensures) }

@@ -34,8 +34,7 @@ unfolding final_of
 returns-in-Fine c =
     let v = (sym c.judge-verdict.ensures ∙ c.in-Fine.is) in
     let t = c.drive-driven.ensures in
-    let z = (t.sent, (t.events, (t.levels, (t.counts, t.worst)))) in
-    let all = (rw v t.answer, (rw v t.stored, (rw (v, t.bytes) refl, rw v (z.0, (z.1.0, z.1.1.0))))) in record { answer = all.0; stored = all.1.0; bytes = all.1.1.0; sent = all.1.1.1.0; events = all.1.1.1.1.0; levels = all.1.1.1.1.1 }
+    record { answer = rw v t.answer; stored = rw v t.stored; bytes = rw (v, t.bytes) refl; sent = rw v t.sent; events = rw v t.events; levels = rw v t.levels }
 
 pub returns-in-Refused : goal.returns-in-Refused
 returns-in-Refused c =

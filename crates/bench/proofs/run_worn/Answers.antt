@@ -36,8 +36,7 @@ unfolding final_of tape_worn_of
 returns-in-Fine c =
     let w = sym c.judge_worn-verdict.ensures ∙ c.in-Fine.is in
     let t = c.drive-driven.ensures in
-    let k = (t.counts, t.worst) in
-    record { answer = rw w t.answer; stored = rw w t.stored; bytes = rw (w, t.bytes) refl; counts = rw w k.0; worst = rw w (k.1 ∙ ap most_of k.0) }
+    record { answer = rw w t.answer; stored = rw w t.stored; bytes = rw (w, t.bytes) refl; counts = rw w t.counts; worst = rw w (t.worst ∙ ap most_of t.counts) }
 
 pub returns-in-Refused : goal.returns-in-Refused
 returns-in-Refused c =

@@ -1,5 +1,8 @@
 use native.Mathlib.Omega.{arith}
 use Rattle.bench.proofs.Laws.{fine_step, one_cycle, clock_most, sent_is, stored_is}
+use Rattle.chip.specs.Model.{ours}
+use Rattle.chip.specs.Memory.{mem}
+use Rattle.parts.specs.Table.{facts_of}
 use Rattle.bench.proofs.send.Goals as goal
 
 pub step-s-requires : goal.step-s-requires
@@ -24,4 +27,4 @@ returns c =
     let st = c.step-s in
     let a = c.args in
     let v = fine_step _ _ _ _ _ c.requires.fit c.args.code (omega (arith, c.requires.code)) in
-    record { answer = sent_is _ _ a.held _ a.code st.result _ v st.ensures.answer _ _ c.clock.ensures; stored = stored_is _ _ _ a.code _ _ _ v st.ensures.cells st.ensures.ident }
+    record { answer = sent_is _ _ a.held _ a.code st.result _ v st.ensures.answer a.driver c.clock.result c.clock.ensures; stored = stored_is (ours (facts_of a.part) a.enable) a.held.chip (mem a.array.now a.id.now) a.code _ _ _ v st.ensures.cells st.ensures.ident }
