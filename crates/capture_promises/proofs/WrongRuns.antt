@@ -194,20 +194,25 @@ refuse_as_ours v part en c m bus ss r h = ap (λ (w : Verdict). (viewed_by v (ou
 
 ends_every_lem : EndsEveryBreaks
 ends_every_lem right =
-    let z : ◌≡◌ {A = ℕ} 1 0 = sym computed.every ∙ (same_run ends_every (refuse_as_ours (record { with_ends = every_end_of; mark_of = first_mark })) true (byte_written ++ selected true) right).0 ∙ worked.poll_ends in
+    let accepts = refuse_as_ours (record { with_ends = every_end_of; mark_of = first_mark }) in
+    let z : ◌≡◌ {A = ℕ} 1 0 = sym computed.every ∙ (same_run ends_every accepts true (byte_written ++ selected true) right).0 ∙ worked.poll_ends in
     omega arith
 
 ends_at_once_lem : EndsAtOnceBreaks
 ends_at_once_lem right =
-    let z : ◌≡◌ {A = ℕ} 1 0 = sym computed.at_once ∙ (same_run ends_at_once (refuse_as_ours (record { with_ends = at_once_of; mark_of = first_mark })) true byte_written right).0 ∙ worked.ends in
+    let accepts = refuse_as_ours (record { with_ends = at_once_of; mark_of = first_mark }) in
+    let z : ◌≡◌ {A = ℕ} 1 0 = sym computed.at_once ∙ (same_run ends_at_once accepts true byte_written right).0 ∙ worked.ends in
     omega arith
 
 compares_all_lem : ComparesAllBreaks
-compares_all_lem first = apart (sym worked.mark ∙ sym (same_mark compares_all (refuse_as_ours (record { with_ends = with_ends_of; mark_of = λ M c m rises xs. every_mark M c m 0 rises xs })) true byte_written first) ∙ computed.all)
+compares_all_lem first =
+    let accepts = refuse_as_ours (record { with_ends = with_ends_of; mark_of = λ M c m rises xs. every_mark M c m 0 rises xs }) in
+    apart (sym worked.mark ∙ sym (same_mark compares_all accepts true byte_written first) ∙ computed.all)
 
 counts_from_one_lem : CountsFromOneBreaks
 counts_from_one_lem first =
-    let e : At 29 8 1 ≡ At 28 8 1 = sym computed.from_one ∙ same_mark counts_from_one (refuse_as_ours (record { with_ends = with_ends_of; mark_of = λ M c m rises xs. one_later (first_mark M c m rises xs) })) true (selected true) first ∙ worked.unacknowledged in
+    let accepts = refuse_as_ours (record { with_ends = with_ends_of; mark_of = λ M c m rises xs. one_later (first_mark M c m rises xs) }) in
+    let e : At 29 8 1 ≡ At 28 8 1 = sym computed.from_one ∙ same_mark counts_from_one accepts true (selected true) first ∙ worked.unacknowledged in
     let z : ◌≡◌ {A = ℕ} 29 28 = cc in
     omega arith
 

@@ -40,7 +40,8 @@ load_worn_keeps : LoadWornKeeps loading_worn_bytes
 load_worn_keeps l enable s m counts worst h =
     let o : (load_worn_verdict_in l enable s m counts ≡ Fine → ⊥) = λ e. h (rw e refl) in
     let k = loads_nothing l _ s m counts (load_worn_verdict_in l enable s m counts) o in
-    (k.0, k.1, k.2, worst_held worst (load_worn_by l m counts (load_worn_verdict_in l enable s m counts)).counts (load_worn_verdict_in l enable s m counts) o, refl)
+    let v = load_worn_verdict_in l enable s m counts in
+    (k.0, k.1, k.2, worst_held worst (load_worn_by l m counts v).counts v o, refl)
 
 pub worn_bytes_kept : WornBytesKept
 worn_bytes_kept = record { save = save_worn_keeps; load = load_worn_keeps; to_worn = to_worn_keeps; to_plain = to_plain_keeps }
