@@ -1,5 +1,5 @@
 use lib.ListN.{length}
-use Rattle.image_worn.specs.Calls.{load_worn_verdict_of, loading_worn}
+use Rattle.image_worn.specs.Calls.{load_worn_verdict_of, load_worn_by, loading_worn}
 use mathlib.Core.Path.{refl, sym, ◌∙◌, ap}
 use Rattle.chip.specs.Memory.{Mem, mem}
 use Rattle.image.specs.Layout.{part_in}
@@ -18,7 +18,7 @@ returns-then-not-looked c =
     let m = mem a.array.now a.id.now in
     let w = sym c.looks-looked.ensures ∙ c.if-not-looked.true in
     let p = c.part_in-own.ensures in
-    let g = worst_held (most a.group.now a.count.now) _ (unheld_worn_of (part_in a.image.now) a.enable m (length a.counts.now)) (unheld_worn_refused (part_in a.image.now) a.enable m (length a.counts.now)) in
+    let g = worst_held (most a.group.now a.count.now) (load_worn_by a.image.now m a.counts.now (unheld_worn_of (part_in a.image.now) a.enable m (length a.counts.now))).counts (unheld_worn_of (part_in a.image.now) a.enable m (length a.counts.now)) (unheld_worn_refused (part_in a.image.now) a.enable m (length a.counts.now)) in
     let k = loads_nothing a.image.now _ a.state.now m a.counts.now _ (unheld_worn_refused (part_in a.image.now) a.enable m (length a.counts.now)) in
     record { answer = rw (w, c.verdict_number.ensures, c.unheld-verdict.ensures, p) refl; state = rw w (sym k.0); cells = rw w (ap (λ (x : Mem). x.cells) (sym k.1)); ident = rw w (ap (λ (x : Mem). x.ident) (sym k.1)); counts = rw w (sym k.2); part = p; group = rw w (ap (λ (z : Most). z.group) (sym g)); count = rw w (ap (λ (z : Most). z.count) (sym g)) }
 
