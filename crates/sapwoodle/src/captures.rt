@@ -42,8 +42,7 @@ fn clock_in(mark: Mark) -> usize
 
 // The model over a capture. `level` gets the line's level at the first clock that differs, `sample` where it rises and `clock` its number; the
 // place is that of refusal 20.
-#[unsafe(no_mangle)]
-pub extern "C" fn sapwoodle_capture_run(
+pub fn sapwoodle_capture_run(
     part: u8,
     enable: u8,
     state: &mut [u8],
@@ -100,8 +99,7 @@ pub extern "C" fn sapwoodle_capture_run(
 }
 
 // The events of a capture, by their codes; `length` gets how many.
-#[unsafe(no_mangle)]
-pub extern "C" fn sapwoodle_capture_events(
+pub fn sapwoodle_capture_events(
     bus: u8,
     samples: &[u8],
     out: &mut [u8],
@@ -121,8 +119,7 @@ pub extern "C" fn sapwoodle_capture_events(
 }
 
 // The four counts go on by what a capture shows; each stays at 4,294,967,295.
-#[unsafe(no_mangle)]
-pub extern "C" fn sapwoodle_capture_tally(
+pub fn sapwoodle_capture_tally(
     bus: u8,
     samples: &[u8],
     starts: &mut u32,

@@ -7,8 +7,7 @@ use crate::answers;
 use parts::Loss;
 
 // A part as delivered.
-#[unsafe(no_mangle)]
-pub extern "C" fn sapwoodle_deliver(
+pub fn sapwoodle_deliver(
     part: u8,
     state: &mut [u8],
     array: &mut [u8],
@@ -43,8 +42,7 @@ pub(crate) fn loss_from(length: usize, lock: u8) -> Loss
 }
 
 // One event. A refused call answers level 2 and no cycles.
-#[unsafe(no_mangle)]
-pub extern "C" fn sapwoodle_step(
+pub fn sapwoodle_step(
     part: u8,
     enable: u8,
     page: &[u8],
@@ -74,8 +72,7 @@ pub extern "C" fn sapwoodle_step(
 }
 
 // A list of events, the levels into a lent answer buffer; the place is that of refusal 5.
-#[unsafe(no_mangle)]
-pub extern "C" fn sapwoodle_run(
+pub fn sapwoodle_run(
     part: u8,
     enable: u8,
     page: &[u8],

@@ -115,8 +115,7 @@ fn keep_begun(verdict: Verdict, begun: Driver, state: &mut [u8])
 }
 
 // A driver for a request, into a lent buffer.
-#[unsafe(no_mangle)]
-pub extern "C" fn sapwoodle_driver_begin(
+pub fn sapwoodle_driver_begin(
     part: u8,
     enable: u8,
     what: u8,
@@ -181,8 +180,7 @@ fn keep(number: u8, next: Driver, state: &mut [u8])
 }
 
 // One step: the event to send, or how the driver ended.
-#[unsafe(no_mangle)]
-pub extern "C" fn sapwoodle_driver_next(
+pub fn sapwoodle_driver_next(
     state: &mut [u8],
     level: u8,
     buffer: &mut [u8],

@@ -4,8 +4,7 @@ ghost use Rattle.sapwoodle.specs.Hexes.{hex_reading, hex_writing};
 
 // The array that a text names. `line` gets where the record stands that is refused, `records` how many data records there were and `named` how
 // many bytes of the array they name.
-#[unsafe(no_mangle)]
-pub extern "C" fn sapwoodle_hex_read(
+pub fn sapwoodle_hex_read(
     part: u8,
     text: &[u8],
     array: &mut [u8],
@@ -28,8 +27,7 @@ pub extern "C" fn sapwoodle_hex_read(
 }
 
 // The array as text into a lent buffer; `written` gets the length of the text.
-#[unsafe(no_mangle)]
-pub extern "C" fn sapwoodle_hex_write(
+pub fn sapwoodle_hex_write(
     part: u8,
     array: &[u8],
     out: &mut [u8],

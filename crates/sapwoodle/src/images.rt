@@ -6,8 +6,7 @@ ghost use Rattle.sapwoodle.specs.Images.{saving_bytes, looks_of, loading_bytes};
 use crate::answers;
 
 // The chip into a lent buffer; `written` gets the length of its image.
-#[unsafe(no_mangle)]
-pub extern "C" fn sapwoodle_save(
+pub fn sapwoodle_save(
     part: u8,
     state: &[u8],
     array: &[u8],
@@ -40,8 +39,7 @@ pub(crate) fn looks(state: usize, image: usize) -> bool
 }
 
 // A chip from an image and an enable for it; `part` gets its part byte.
-#[unsafe(no_mangle)]
-pub extern "C" fn sapwoodle_load(
+pub fn sapwoodle_load(
     image: &[u8],
     enable: u8,
     state: &mut [u8],

@@ -20,8 +20,7 @@ ghost use Rattle.sapwoodle.specs.Lengths.{array_length_of};
 
 // ---- lengths
 
-#[unsafe(no_mangle)]
-pub extern "C" fn sapwoodle_array_length(part: u8) -> usize
+pub fn sapwoodle_array_length(part: u8) -> usize
     ensures { result ≡ array_length_of (facts_of part) }
 {
     let f = parts::facts_of(part);
@@ -31,23 +30,20 @@ pub extern "C" fn sapwoodle_array_length(part: u8) -> usize
     0
 }
 
-#[unsafe(no_mangle)]
-pub extern "C" fn sapwoodle_id_length(part: u8) -> usize
+pub fn sapwoodle_id_length(part: u8) -> usize
     ensures { result ≡ id_size_of (facts_of part) }
 {
     let f = parts::facts_of(part);
     parts::id_size(f)
 }
 
-#[unsafe(no_mangle)]
-pub extern "C" fn sapwoodle_state_length() -> usize
+pub fn sapwoodle_state_length() -> usize
     ensures { result ≡ chip_length }
 {
     pack_chip::LENGTH
 }
 
-#[unsafe(no_mangle)]
-pub extern "C" fn sapwoodle_driver_length() -> usize
+pub fn sapwoodle_driver_length() -> usize
     ensures { result ≡ driver_length }
 {
     pack_driver::LENGTH
@@ -55,8 +51,7 @@ pub extern "C" fn sapwoodle_driver_length() -> usize
 
 // ---- a trace
 
-#[unsafe(no_mangle)]
-pub extern "C" fn sapwoodle_trace(text: &[u8], out: &mut [u8], length: &mut usize) -> u8
+pub fn sapwoodle_trace(text: &[u8], out: &mut [u8], length: &mut usize) -> u8
     ensures answer { result ≡ verdict_number_of (laying_of out.old (trace_of text.now)).answer.verdict }
     ensures text { out.new ≡ (laying_of out.old (trace_of text.now)).out }
     ensures length { length.new ≡ (laying_of out.old (trace_of text.now)).answer.length }

@@ -18,8 +18,7 @@ pub(crate) fn keep(state: &mut [u8], chip: Chip)
 
 // A request on a chip with an enable of its own, each cycle ending just before its poll number d. The buffer holds the bytes to write,
 // or takes the bytes read.
-#[unsafe(no_mangle)]
-pub extern "C" fn sapwoodle_bench_run(
+pub fn sapwoodle_bench_run(
     part: u8,
     enable: u8,
     what: u8,

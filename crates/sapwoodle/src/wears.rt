@@ -11,16 +11,14 @@ use crate::{answers, chips, drivers, runs};
 use wear::Most;
 
 // How many counts a part has; 0 where there is no such part.
-#[unsafe(no_mangle)]
-pub extern "C" fn sapwoodle_groups(part: u8) -> usize
+pub fn sapwoodle_groups(part: u8) -> usize
     ensures { result ≡ group_count_of (facts_of part) }
 {
     wear::groups(part)
 }
 
 // `sapwoodle_run`, and the counts go on by the cycles that end or are cut; the worst of them, `group` and `count`, goes in and comes back.
-#[unsafe(no_mangle)]
-pub extern "C" fn sapwoodle_wear_run(
+pub fn sapwoodle_wear_run(
     part: u8,
     enable: u8,
     page: &[u8],
@@ -85,8 +83,7 @@ pub extern "C" fn sapwoodle_wear_run(
 }
 
 // The worst of the counts, found by a walk: for who begins.
-#[unsafe(no_mangle)]
-pub extern "C" fn sapwoodle_worst(
+pub fn sapwoodle_worst(
     part: u8,
     counts: &[u32],
     group: &mut usize,
@@ -105,8 +102,7 @@ pub extern "C" fn sapwoodle_worst(
 }
 
 // The sum of the counts, and the group with most.
-#[unsafe(no_mangle)]
-pub extern "C" fn sapwoodle_wear_report(
+pub fn sapwoodle_wear_report(
     part: u8,
     counts: &[u32],
     total: &mut u64,
@@ -127,8 +123,7 @@ pub extern "C" fn sapwoodle_wear_report(
 }
 
 // The counts of two heaps of traces together, into the first.
-#[unsafe(no_mangle)]
-pub extern "C" fn sapwoodle_wear_join(part: u8, counts: &mut [u32], more: &[u32]) -> u8
+pub fn sapwoodle_wear_join(part: u8, counts: &mut [u32], more: &[u32]) -> u8
     ensures answer { result ≡ (joining part counts.old more.now).number }
     ensures counts { counts.new ≡ (joining part counts.old more.now).counts }
 {
@@ -137,8 +132,7 @@ pub extern "C" fn sapwoodle_wear_join(part: u8, counts: &mut [u32], more: &[u32]
 }
 
 // `sapwoodle_bench_run`, and the counts go on by the cycles that end in it; the worst of them goes in and comes back.
-#[unsafe(no_mangle)]
-pub extern "C" fn sapwoodle_wear_bench_run(
+pub fn sapwoodle_wear_bench_run(
     part: u8,
     enable: u8,
     what: u8,

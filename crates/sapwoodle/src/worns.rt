@@ -9,8 +9,7 @@ use parts::Verdict;
 use wear::Most;
 
 // The chip and the counts beside it into a lent buffer; `written` gets the length of their image.
-#[unsafe(no_mangle)]
-pub extern "C" fn sapwoodle_save_worn(
+pub fn sapwoodle_save_worn(
     part: u8,
     state: &[u8],
     array: &[u8],
@@ -53,8 +52,7 @@ fn found_or(found: Most, held: Most, verdict: Verdict) -> Most
 }
 
 // A chip, its counts and the worst of them from an image of either version and an enable for it; `part` gets its part byte.
-#[unsafe(no_mangle)]
-pub extern "C" fn sapwoodle_load_worn(
+pub fn sapwoodle_load_worn(
     image: &[u8],
     enable: u8,
     state: &mut [u8],
@@ -112,8 +110,7 @@ pub extern "C" fn sapwoodle_load_worn(
 }
 
 // An image of version 1 as one of version 2, into a lent buffer; `written` gets its length.
-#[unsafe(no_mangle)]
-pub extern "C" fn sapwoodle_to_worn(image: &[u8], out: &mut [u8], written: &mut usize) -> u8
+pub fn sapwoodle_to_worn(image: &[u8], out: &mut [u8], written: &mut usize) -> u8
     ensures answer { result ≡ (to_worn_bytes image.now out.old).number }
     ensures bytes { out.new ≡ (to_worn_bytes image.now out.old).out }
     ensures written { written.new ≡ (to_worn_bytes image.now out.old).written }
@@ -125,8 +122,7 @@ pub extern "C" fn sapwoodle_to_worn(image: &[u8], out: &mut [u8], written: &mut 
 }
 
 // And back, where no count is lost by it.
-#[unsafe(no_mangle)]
-pub extern "C" fn sapwoodle_to_plain(image: &[u8], out: &mut [u8], written: &mut usize) -> u8
+pub fn sapwoodle_to_plain(image: &[u8], out: &mut [u8], written: &mut usize) -> u8
     ensures answer { result ≡ (to_plain_bytes image.now out.old).number }
     ensures bytes { out.new ≡ (to_plain_bytes image.now out.old).out }
     ensures written { written.new ≡ (to_plain_bytes image.now out.old).written }

@@ -1,0 +1,57 @@
+// What a C program links: the exports of the static library, each of which calls the function of its name in the crate sapwoodle and states
+// its clauses again. include/sapwoodle.h says what each does.
+#![tactic(auto)]
+
+pub mod captures;
+pub mod chips;
+pub mod drivers;
+pub mod hexes;
+pub mod images;
+pub mod runs;
+pub mod wears;
+pub mod worns;
+
+ghost use Rattle.std.specs.Prelude.{◌≡◌};
+ghost use Rattle.parts.specs.Table.{facts_of, id_size_of};
+ghost use Rattle.parts.specs.Refusals.{verdict_number_of};
+ghost use Rattle.pack_chip.specs.Layout.{chip_length};
+ghost use Rattle.pack_driver.specs.Layout.{driver_length};
+ghost use Rattle.trace.specs.Trace.{trace_of, laying_of};
+ghost use Rattle.sapwoodle.specs.Lengths.{array_length_of};
+
+#[unsafe(no_mangle)]
+pub extern "C" fn sapwoodle_array_length(part: u8) -> usize
+    ensures { result ≡ array_length_of (facts_of part) }
+{
+    sapwoodle::sapwoodle_array_length(part)
+}
+
+#[unsafe(no_mangle)]
+pub extern "C" fn sapwoodle_id_length(part: u8) -> usize
+    ensures { result ≡ id_size_of (facts_of part) }
+{
+    sapwoodle::sapwoodle_id_length(part)
+}
+
+#[unsafe(no_mangle)]
+pub extern "C" fn sapwoodle_state_length() -> usize
+    ensures { result ≡ chip_length }
+{
+    sapwoodle::sapwoodle_state_length()
+}
+
+#[unsafe(no_mangle)]
+pub extern "C" fn sapwoodle_driver_length() -> usize
+    ensures { result ≡ driver_length }
+{
+    sapwoodle::sapwoodle_driver_length()
+}
+
+#[unsafe(no_mangle)]
+pub extern "C" fn sapwoodle_trace(text: &[u8], out: &mut [u8], length: &mut usize) -> u8
+    ensures answer { result ≡ verdict_number_of (laying_of out.old (trace_of text.now)).answer.verdict }
+    ensures text { out.new ≡ (laying_of out.old (trace_of text.now)).out }
+    ensures length { length.new ≡ (laying_of out.old (trace_of text.now)).answer.length }
+{
+    sapwoodle::sapwoodle_trace(text, out, length)
+}

@@ -1,0 +1,176 @@
+// Wear: how many completed or cut cycles touched each error-correction group of the array, counted beside the chip in lent numbers.
+ghost use Rattle.std.specs.Prelude.{◌≡◌};
+ghost use Rattle.parts.specs.Table.{facts_of};
+ghost use Rattle.chip.specs.Memory.{mem};
+ghost use Rattle.wear.specs.Report.{most};
+ghost use Rattle.wear.specs.Calls.{group_count_of};
+ghost use Rattle.sapwoodle.specs.Drivers.{request_of};
+ghost use Rattle.sapwoodle.specs.Wears.{wearing, finding, reporting, joining, bench_wearing};
+
+// How many counts a part has; 0 where there is no such part.
+#[unsafe(no_mangle)]
+pub extern "C" fn sapwoodle_groups(part: u8) -> usize
+    ensures { result ≡ group_count_of (facts_of part) }
+{
+    sapwoodle::wears::sapwoodle_groups(part)
+}
+
+// `sapwoodle_run`, and the counts go on by the cycles that end or are cut; the worst of them, `group` and `count`, goes in and comes back.
+#[unsafe(no_mangle)]
+pub extern "C" fn sapwoodle_wear_run(
+    part: u8,
+    enable: u8,
+    page: &[u8],
+    lock: u8,
+    state: &mut [u8],
+    array: &mut [u8],
+    id: &mut [u8],
+    counts: &mut [u32],
+    group: &mut usize,
+    count: &mut u32,
+    events: &[u8],
+    answers: &mut [u8],
+    cycles: &mut usize,
+    at: &mut usize,
+) -> u8
+    ensures answer { result
+        ≡ (wearing part enable page.now lock state.old (mem array.old id.old) counts.old
+        (most group.old count.old) events.now answers.old).run.number }
+    ensures state { state.new
+        ≡ (wearing part enable page.now lock state.old (mem array.old id.old) counts.old
+        (most group.old count.old) events.now answers.old).run.state }
+    ensures stored { mem array.new id.new
+        ≡ (wearing part enable page.now lock state.old (mem array.old id.old) counts.old
+        (most group.old count.old) events.now answers.old).run.stored }
+    ensures counts { counts.new
+        ≡ (wearing part enable page.now lock state.old (mem array.old id.old) counts.old
+        (most group.old count.old) events.now answers.old).counts }
+    ensures levels { answers.new
+        ≡ (wearing part enable page.now lock state.old (mem array.old id.old) counts.old
+        (most group.old count.old) events.now answers.old).run.answers }
+    ensures cycles { cycles.new
+        ≡ (wearing part enable page.now lock state.old (mem array.old id.old) counts.old
+        (most group.old count.old) events.now answers.old).run.cycles }
+    ensures place { at.new
+        ≡ (wearing part enable page.now lock state.old (mem array.old id.old) counts.old
+        (most group.old count.old) events.now answers.old).run.place }
+    ensures group { group.new
+        ≡ (wearing part enable page.now lock state.old (mem array.old id.old) counts.old
+        (most group.old count.old) events.now answers.old).worst.group }
+    ensures count { count.new
+        ≡ (wearing part enable page.now lock state.old (mem array.old id.old) counts.old
+        (most group.old count.old) events.now answers.old).worst.count }
+{
+    sapwoodle::wears::sapwoodle_wear_run(
+        part, enable, page, lock, state, array, id, counts, group, count, events, answers, cycles,
+        at,
+    )
+}
+
+// The worst of the counts, found by a walk: for who begins.
+#[unsafe(no_mangle)]
+pub extern "C" fn sapwoodle_worst(
+    part: u8,
+    counts: &[u32],
+    group: &mut usize,
+    count: &mut u32,
+) -> u8
+    ensures answer { result ≡ (finding part counts.now).number }
+    ensures group { group.new ≡ (finding part counts.now).group }
+    ensures count { count.new ≡ (finding part counts.now).count }
+{
+    sapwoodle::wears::sapwoodle_worst(part, counts, group, count)
+}
+
+// The sum of the counts, and the group with most.
+#[unsafe(no_mangle)]
+pub extern "C" fn sapwoodle_wear_report(
+    part: u8,
+    counts: &[u32],
+    total: &mut u64,
+    group: &mut usize,
+    count: &mut u32,
+) -> u8
+    ensures answer { result ≡ (reporting part counts.now).number }
+    ensures total { total.new ≡ (reporting part counts.now).total }
+    ensures group { group.new ≡ (reporting part counts.now).group }
+    ensures count { count.new ≡ (reporting part counts.now).count }
+{
+    sapwoodle::wears::sapwoodle_wear_report(part, counts, total, group, count)
+}
+
+// The counts of two heaps of traces together, into the first.
+#[unsafe(no_mangle)]
+pub extern "C" fn sapwoodle_wear_join(part: u8, counts: &mut [u32], more: &[u32]) -> u8
+    ensures answer { result ≡ (joining part counts.old more.now).number }
+    ensures counts { counts.new ≡ (joining part counts.old more.now).counts }
+{
+    sapwoodle::wears::sapwoodle_wear_join(part, counts, more)
+}
+
+// `sapwoodle_bench_run`, and the counts go on by the cycles that end in it; the worst of them goes in and comes back.
+#[unsafe(no_mangle)]
+pub extern "C" fn sapwoodle_wear_bench_run(
+    part: u8,
+    enable: u8,
+    what: u8,
+    at: usize,
+    length: usize,
+    budget: usize,
+    own: u8,
+    d: usize,
+    state: &mut [u8],
+    array: &mut [u8],
+    id: &mut [u8],
+    buffer: &mut [u8],
+    counts: &mut [u32],
+    group: &mut usize,
+    count: &mut u32,
+    place: &mut usize,
+    polls: &mut usize,
+    bytes: &mut usize,
+    cycles: &mut usize,
+    clocks: &mut usize,
+) -> u8
+    ensures answer { result
+        ≡ (bench_wearing (request_of part enable what at length budget) own d state.old (mem array.old id.old) buffer.old
+        counts.old (most group.old count.old)).bench.number }
+    ensures state { state.new
+        ≡ (bench_wearing (request_of part enable what at length budget) own d state.old (mem array.old id.old) buffer.old
+        counts.old (most group.old count.old)).bench.state }
+    ensures stored { mem array.new id.new
+        ≡ (bench_wearing (request_of part enable what at length budget) own d state.old (mem array.old id.old) buffer.old
+        counts.old (most group.old count.old)).bench.stored }
+    ensures buffer { buffer.new
+        ≡ (bench_wearing (request_of part enable what at length budget) own d state.old (mem array.old id.old) buffer.old
+        counts.old (most group.old count.old)).bench.buffer }
+    ensures counts { counts.new
+        ≡ (bench_wearing (request_of part enable what at length budget) own d state.old (mem array.old id.old) buffer.old
+        counts.old (most group.old count.old)).counts }
+    ensures place { place.new
+        ≡ (bench_wearing (request_of part enable what at length budget) own d state.old (mem array.old id.old) buffer.old
+        counts.old (most group.old count.old)).bench.place }
+    ensures polls { polls.new
+        ≡ (bench_wearing (request_of part enable what at length budget) own d state.old (mem array.old id.old) buffer.old
+        counts.old (most group.old count.old)).bench.polls }
+    ensures bytes { bytes.new
+        ≡ (bench_wearing (request_of part enable what at length budget) own d state.old (mem array.old id.old) buffer.old
+        counts.old (most group.old count.old)).bench.bytes }
+    ensures cycles { cycles.new
+        ≡ (bench_wearing (request_of part enable what at length budget) own d state.old (mem array.old id.old) buffer.old
+        counts.old (most group.old count.old)).bench.cycles }
+    ensures clocks { clocks.new
+        ≡ (bench_wearing (request_of part enable what at length budget) own d state.old (mem array.old id.old) buffer.old
+        counts.old (most group.old count.old)).bench.clocks }
+    ensures group { group.new
+        ≡ (bench_wearing (request_of part enable what at length budget) own d state.old (mem array.old id.old) buffer.old
+        counts.old (most group.old count.old)).worst.group }
+    ensures count { count.new
+        ≡ (bench_wearing (request_of part enable what at length budget) own d state.old (mem array.old id.old) buffer.old
+        counts.old (most group.old count.old)).worst.count }
+{
+    sapwoodle::wears::sapwoodle_wear_bench_run(
+        part, enable, what, at, length, budget, own, d, state, array, id, buffer, counts, group,
+        count, place, polls, bytes, cycles, clocks,
+    )
+}
