@@ -1,5 +1,6 @@
 // The driver against the model: each is told what the other does, until the driver has finished.
 #![tactic(auto)]
+
 ghost use Rattle.std.specs.Prelude.{◌≡◌, cond, true, ◌+◌, ◌<◌, length, set, eqb, ltb};
 ghost use Rattle.std.proofs.lemmas.List.Edits.{sets};
 ghost use Rattle.parts.specs.Table.{facts_of};

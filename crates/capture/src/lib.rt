@@ -1,6 +1,7 @@
 // What a logic analyser saw: samples of the two wires become events, the model runs over them, and the first level that differs is marked; the
 // tally of a capture; and the wires of a run, drawn.
 #![tactic(auto)]
+
 mod engine;
 mod samples;
 

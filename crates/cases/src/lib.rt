@@ -1,5 +1,6 @@
 // The lines that a trying program reads: a letter for what is done, up to sixteen numbers and, after a colon, what is tried.
 #![tactic(auto)]
+
 pub mod counts;
 
 // The part from `a` to `e`, for a caller whose slice has it.

@@ -1,5 +1,6 @@
 // The driver of document 01: a value that is asked for one event a step and told the level of the last clock.
 #![tactic(auto)]
+
 ghost use Rattle.std.specs.Prelude.{◌≡◌, true, ◌+◌, ◌*◌, ◌≤◌, ◌<◌, length, get_or};
 ghost use Rattle.driver.specs.Split.{to_page_end_of, pages_met_of};
 ghost use Rattle.driver.specs.Request.{

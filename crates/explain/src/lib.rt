@@ -1,6 +1,7 @@
 // A trace told for people: one line a byte, and one for each cycle begun or ended. It drives the proved chip, event by event, and gathers the
 // answer of `trace` as it goes: that is proved. What it prints on the way is promised nowhere.
 #![tactic(auto)]
+
 ghost use Rattle.std.specs.Prelude.{◌≡◌, ◌<◌, ◌≤◌, false, length};
 ghost use Rattle.parts.specs.Table.{facts_of, id_size_of};
 ghost use Rattle.parts.specs.declared.Verdict.TheVariants.{Fine};

@@ -1,5 +1,6 @@
 // Buffers that hold the largest part, cut to a part: its array, its identification page and the counts of its groups, with nothing more.
 #![tactic(auto)]
+
 ghost use Rattle.std.specs.Prelude.{◌≡◌, take};
 ghost use Rattle.parts.specs.Table.{facts_of, id_size_of, groups_of};
 

@@ -1,5 +1,6 @@
 // Intel HEX: an array read from a text, and written as one. Nobody has to check first.
 #![tactic(auto)]
+
 mod reading;
 mod writing;
 

@@ -1,5 +1,6 @@
 // The stored image of a chip: saved into a lent buffer, loaded from one. Nobody has to check first.
 #![tactic(auto)]
+
 ghost use Rattle.std.specs.Prelude.{◌≡◌, ◌+◌, ◌≤◌, length, drop, ◌++◌};
 ghost use Rattle.parts.specs.Table.{facts_of};
 ghost use Rattle.chip.specs.Memory.{mem};

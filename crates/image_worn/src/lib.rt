@@ -1,6 +1,7 @@
 // The stored image of a chip with the counts of its wear, version 0002h: saved into a lent buffer, loaded from one, made of an image without
 // them and made into one. Nobody has to check first.
 #![tactic(auto)]
+
 ghost use Rattle.std.specs.Prelude.{◌≡◌, true, ◌++◌, ◌+◌, ◌*◌, ◌<◌, ◌≤◌, length, drop, replicate};
 ghost use Rattle.parts.specs.Bytes.{all_below_of, words_of};
 ghost use Rattle.parts.specs.Table.{facts_of, groups_of};

@@ -1,5 +1,6 @@
 // One bus event on the state of a chip, without its latches and its memory: they stand in the layer above.
 #![tactic(auto)]
+
 ghost use Rattle.std.specs.Prelude.{◌≡◌, ◌+◌, ◌*◌, ◌<◌};
 ghost use Rattle.parts.specs.Table.{facts_of};
 ghost use Rattle.line.specs.Rules.{is_high, at, given_up, roll_of, before_of, onward_of, enabled_of, named_of, decode_of, address_start_of, selected_of, array_address_of, location_of, asks_lock_of, load_array_of, load_id_of, loaded_of, refuses_of, latched_of, taken_of, filled_of, locked_by_of, ended_by_of, marked_in, received_of, receive_act_of, receive_level_of, released_in, moved_of, sent_of, send_level_of, clocked_of, clock_act_of, clock_level_of, started_of, start_act_of, asks_of, placed_of, due_of, stopped_of, stop_act_of, stop_begun_of, ended_of, end_act_of, pinned_of, lock_left, lock_cut, lock_at_reset, reset_of, opened, marked, quietly, move_of};

@@ -1,5 +1,6 @@
 // The state of a chip as bytes, and back, for callers that hold bytes only.
 #![tactic(auto)]
+
 ghost use Rattle.std.specs.Prelude.{◌≡◌, ◌/◌, ◌%◌, length, drop};
 ghost use Rattle.std.proofs.lemmas.List.Edits.{sets};
 ghost use Rattle.pack_chip.specs.Layout.{

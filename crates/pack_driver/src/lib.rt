@@ -1,5 +1,6 @@
 // The state of a driver as bytes, and back, for callers that hold bytes only.
 #![tactic(auto)]
+
 ghost use Rattle.std.specs.Prelude.{◌≡◌, ◌+◌, ◌<◌, ◌≤◌, length};
 ghost use Rattle.std.proofs.lemmas.List.Edits.{sets};
 ghost use Rattle.parts.specs.Bytes.{word_of, words_of, number_in};

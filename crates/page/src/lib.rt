@@ -1,5 +1,6 @@
 // A page of a chip, shown as the part of a lent buffer, uncopied (document 01, end of 'The driver').
 #![tactic(auto)]
+
 ghost use Rattle.std.specs.Prelude.{◌≡◌, ◌+◌, ◌<◌, ◌≤◌, length, take, drop};
 ghost use Rattle.page.specs.Look.{outside_of, look_refusal_of, page_start_of, page_span_of, look_span_of, span_bytes, span_at, look_of, Room};
 

@@ -1,5 +1,6 @@
 // The six parts, the two numberings, the bus events and the refusals of document 01.
 #![tactic(auto)]
+
 ghost use Rattle.std.specs.Prelude.{◌≡◌, ◌≤◌, ◌<◌, length, get_or, true, cond, ltb};
 ghost use Rattle.parts.specs.Table.{row_of, no_part, table_of, facts_of, name_of, id_size_of, buffers_right_of, address_bytes_of, enable_right_of};
 ghost use Rattle.parts.specs.Sound.{Sound};

@@ -7,12 +7,7 @@ use crate::answers;
 use parts::Loss;
 
 // A part as delivered.
-pub fn sapwoodle_deliver(
-    part: u8,
-    state: &mut [u8],
-    array: &mut [u8],
-    id: &mut [u8],
-) -> u8
+pub fn sapwoodle_deliver(part: u8, state: &mut [u8], array: &mut [u8], id: &mut [u8]) -> u8
     ensures answer { result ≡ (delivering part state.old (mem array.old id.old)).number }
     ensures state { state.new ≡ (delivering part state.old (mem array.old id.old)).state }
     ensures cells { array.new ≡ (delivering part state.old (mem array.old id.old)).stored.cells }

@@ -27,12 +27,7 @@ pub fn sapwoodle_hex_read(
 }
 
 // The array as text into a lent buffer; `written` gets the length of the text.
-pub fn sapwoodle_hex_write(
-    part: u8,
-    array: &[u8],
-    out: &mut [u8],
-    written: &mut usize,
-) -> u8
+pub fn sapwoodle_hex_write(part: u8, array: &[u8], out: &mut [u8], written: &mut usize) -> u8
     ensures answer { result ≡ (hex_writing part array.now out.old).number }
     ensures bytes { out.new ≡ (hex_writing part array.now out.old).out }
     ensures written { written.new ≡ (hex_writing part array.now out.old).written }

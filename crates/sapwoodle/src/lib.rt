@@ -1,5 +1,6 @@
 // The functions that a C program links: numbers and lent bytes only. include/sapwoodle.h says what each does.
 #![tactic(auto)]
+
 mod answers;
 pub mod captures;
 pub mod chips;

@@ -83,12 +83,7 @@ pub fn sapwoodle_wear_run(
 }
 
 // The worst of the counts, found by a walk: for who begins.
-pub fn sapwoodle_worst(
-    part: u8,
-    counts: &[u32],
-    group: &mut usize,
-    count: &mut u32,
-) -> u8
+pub fn sapwoodle_worst(part: u8, counts: &[u32], group: &mut usize, count: &mut u32) -> u8
     ensures answer { result ≡ (finding part counts.now).number }
     ensures group { group.new ≡ (finding part counts.now).group }
     ensures count { count.new ≡ (finding part counts.now).count }

@@ -1,5 +1,6 @@
 // The state of a chip, and which states are in range (refusal 4).
 #![tactic(auto)]
+
 ghost use Rattle.std.specs.Prelude.{◌≡◌, ◌≤◌, drop};
 ghost use Rattle.parts.specs.Table.{facts_of};
 ghost use Rattle.state.specs.Range.{

@@ -1,6 +1,7 @@
 // Wear: how many completed or cut cycles touched each error-correction group of the array, counted beside the chip in a lent slice, and the
 // most worn group of them. Nobody has to check first.
 #![tactic(auto)]
+
 pub mod worst;
 
 ghost use Rattle.std.specs.Prelude.{◌≡◌, cond, ◌+◌, ◌≤◌, length, ltb};

@@ -15,7 +15,7 @@ use Rattle.chip.specs.Model.{ours}
 use Rattle.bench.proofs.go.Given as goal
 
 abbrev pub invariant-loop-left : goal.invariant-loop-left
-invariant-loop-left l = 
+invariant-loop-left l =
     (l.left ≤ 6000000)
     × (length l.array ≡ length l.initial.array)
     × (length l.id ≡ length l.initial.id)
@@ -33,5 +33,5 @@ invariant-loop-left l =
     × (l.held.worst ≡ most_of l.counts)
 
 abbrev pub decreases-loop-left : goal.decreases-loop-left
-decreases-loop-left l = 
+decreases-loop-left l =
     l.left

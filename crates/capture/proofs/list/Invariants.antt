@@ -7,7 +7,7 @@ use Rattle.capture.specs.Steps.{left_of}
 use Rattle.capture.proofs.list.Given as goal
 
 abbrev pub invariant-loop-i : goal.invariant-loop-i
-invariant-loop-i l = 
+invariant-loop-i l =
     (l.n < l.i) × (length l.out ≡ length l.initial.out) × (l.n + length (left_of l.bus l.samples l.i) ≡ length (events_of l.bus l.samples))
     × (take l.n l.out ++ left_of l.bus l.samples l.i ≡ events_of l.bus l.samples) × (drop l.n l.out ≡ drop l.n l.initial.out)
 

@@ -8,7 +8,7 @@ use Rattle.capture.proofs.tally_all.Given as goal
 
 -- what is left gives the whole
 abbrev pub invariant-loop-i : goal.invariant-loop-i
-invariant-loop-i l = 
+invariant-loop-i l =
     (0 < l.i) × (tallies_of l.t l.place (left_of l.bus l.samples l.i) ≡ tallies_of l.initial.t 0 (events_of l.bus l.samples))
 
 abbrev pub decreases-loop-i : goal.decreases-loop-i

@@ -7,7 +7,7 @@ use Prim.Native.Nat.{◌-◌, ◌≤◌}
 use Rattle.chip.proofs.all_taken.Given as goal
 
 abbrev pub invariant-loop-i : goal.invariant-loop-i
-invariant-loop-i l = 
+invariant-loop-i l =
     (l.i ≤ length l.events) × ((l.taken && is_fine (scan_of l.pin l.i (drop l.i l.events))) ≡ is_fine (scan_of l.pin 0 l.events))
 
 abbrev pub decreases-loop-i : goal.decreases-loop-i

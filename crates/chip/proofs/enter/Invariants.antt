@@ -5,7 +5,7 @@ use Rattle.chip.specs.Memory.{entered_of}
 use Rattle.chip.proofs.enter.Given as goal
 
 abbrev pub invariant-loop-i : goal.invariant-loop-i
-invariant-loop-i l = 
+invariant-loop-i l =
     (l.i ≤ l.p) × (length l.s ≡ length l.initial.s) × (entered_of l.s (l.page + l.i) (drop l.i (take l.p l.latch)) ≡ entered_of l.initial.s l.page (take l.p l.latch))
 
 abbrev pub decreases-loop-i : goal.decreases-loop-i

@@ -5,7 +5,7 @@ use Prim.Native.Nat.{◌-◌, ◌≤◌}
 use Rattle.chip.proofs.first_bad.Given as goal
 
 abbrev pub invariant-loop-i : goal.invariant-loop-i
-invariant-loop-i l = 
+invariant-loop-i l =
     (l.i ≤ length l.events) × (scan_of l.pin l.i (drop l.i l.events) ≡ scan_of l.pin 0 l.events)
 
 abbrev pub decreases-loop-i : goal.decreases-loop-i

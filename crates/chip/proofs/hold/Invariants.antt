@@ -8,7 +8,7 @@ use Prim.Native.Nat.{◌-◌, ◌≤◌}
 use Rattle.chip.proofs.hold.Given as goal
 
 abbrev pub invariant-loop-i : goal.invariant-loop-i
-invariant-loop-i v = 
+invariant-loop-i v =
     (v.i ≤ length v.events)
     × (length v.answers ≡ length v.initial.answers)
     × ((f : Facts) (m : Mem) (l : Line) → v.limit ≤ ignores_of l.phase → Coasts f m v.events l v.initial.answers v.from l v.answers v.i)

@@ -9,7 +9,7 @@ use Prim.Native.Nat.{ℕ, ◌-◌, ◌≤◌}
 use Rattle.chip.proofs.run_all.Given as goal
 
 abbrev pub invariant-loop-i : goal.invariant-loop-i
-invariant-loop-i l = 
+invariant-loop-i l =
     (l.i ≤ length l.events)
     × (length l.latch ≡ 64)
     × (length l.array ≡ length l.initial.array)
@@ -20,5 +20,5 @@ invariant-loop-i l =
     × Unclosed l.stops l.events l.i
 
 abbrev pub decreases-loop-i : goal.decreases-loop-i
-decreases-loop-i l = 
+decreases-loop-i l =
     length l.events - l.i

@@ -6,7 +6,7 @@ use Rattle.image_worn.specs.Layout.{words_in}
 use Rattle.image_worn.proofs.take_counts.Given as goal
 
 abbrev pub invariant-loop-i : goal.invariant-loop-i
-invariant-loop-i l = 
+invariant-loop-i l =
     (l.counts ≡ words_in l.i l.bytes ++ drop l.i l.initial.counts) × (l.from ≡ 4 * l.i) × (l.i ≤ length l.initial.counts) × (length l.counts ≡ length l.initial.counts)
 
 abbrev pub decreases-loop-i : goal.decreases-loop-i

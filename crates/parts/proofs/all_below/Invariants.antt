@@ -6,7 +6,7 @@ use Prim.Native.Nat.{◌-◌, ◌≤◌}
 use Rattle.parts.proofs.all_below.Given as goal
 
 abbrev pub invariant-loop-i : goal.invariant-loop-i
-invariant-loop-i l = 
+invariant-loop-i l =
     (l.i ≤ length l.bytes) × (all_below_of l.limit l.low (drop l.i l.bytes) ≡ all_below_of l.limit true l.bytes)
 
 abbrev pub decreases-loop-i : goal.decreases-loop-i

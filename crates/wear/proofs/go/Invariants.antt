@@ -10,7 +10,7 @@ use Rattle.wear.proofs.Stretches.{Come}
 use Rattle.wear.proofs.go.Given as goal
 
 abbrev pub invariant-loop-i : goal.invariant-loop-i
-invariant-loop-i l = 
+invariant-loop-i l =
     (l.i ≤ length l.events)
     × (length l.array ≡ length l.initial.array)
     × (length l.id ≡ length l.initial.id)
@@ -23,5 +23,5 @@ invariant-loop-i l =
     × Grew l.initial.counts l.counts
 
 abbrev pub decreases-loop-i : goal.decreases-loop-i
-decreases-loop-i l = 
+decreases-loop-i l =
     length l.events - l.i

@@ -10,7 +10,7 @@ use Prim.Native.Nat.{◌-◌, ◌<◌}
 use Rattle.capture.proofs.engine.go_all.Given as goal
 
 abbrev pub invariant-loop-i : goal.invariant-loop-i
-invariant-loop-i l = 
+invariant-loop-i l =
     (0 < l.i)
     × (length l.latch ≡ 64)
     × (length l.array ≡ length l.initial.array)

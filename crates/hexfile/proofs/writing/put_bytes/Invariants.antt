@@ -7,7 +7,7 @@ use Rattle.hexfile.specs.Written.{digits_of}
 use Rattle.hexfile.proofs.writing.put_bytes.Given as goal
 
 abbrev pub invariant-loop-i : goal.invariant-loop-i
-invariant-loop-i l = 
+invariant-loop-i l =
     (l.i ≤ length l.bytes) × (length l.out ≡ length l.initial.out) × (l.out ≡ digits_of (take l.i l.bytes) ++ drop (2 * l.i) l.initial.out) × (l.sum ≡ sum_of (take l.i l.bytes)) × (l.sum ≤ 255 * l.i)
 
 abbrev pub decreases-loop-i : goal.decreases-loop-i
