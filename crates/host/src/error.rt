@@ -1,0 +1,57 @@
+// The last error of the system: kept by its number, and told as the system tells it.
+use crate::line::Line;
+use crate::{Host, STDERR};
+use std::fmt::Write;
+use std::io;
+
+// Numbers that are kept where the system was not asked at all.
+pub(crate) const BAD_DESCRIPTOR: i32 = 9;
+
+pub(crate) const BUSY: i32 = 16;
+
+pub(crate) const INVALID: i32 = 22;
+
+pub(crate) const TOO_LONG: i32 = 36;
+
+// A name that is no UTF-8.
+pub(crate) const NO_TEXT: i32 = 84;
+
+pub(crate) fn number_of(error: io::Error) -> i32 {
+    match error.raw_os_error() {
+        Some(code) => code,
+        None => INVALID,
+    }
+}
+
+impl Host {
+    pub(crate) fn keep(&self, code: i32) {
+        self.error.set(code);
+    }
+
+    // 0 or -1, as the C library answers.
+    pub(crate) fn settled(&self, done: io::Result<()>) -> i32 {
+        match done {
+            Ok(()) => 0,
+            Err(error) => {
+                self.keep(number_of(error));
+                -1
+            }
+        }
+    }
+
+    // The number of the last error, or 0.
+    pub fn errno(&self) -> i32 {
+        self.error.get()
+    }
+
+    // Writes a line to standard error: what failed, and why.
+    pub fn fail(&self, what: &[u8]) {
+        let mut line = Line::new();
+        let error = io::Error::from_raw_os_error(self.errno());
+        let _ = write!(line, "{error}");
+        self.write_all(STDERR, what);
+        self.write_all(STDERR, b": ");
+        self.write_all(STDERR, line.unnumbered());
+        self.write_all(STDERR, b"\n");
+    }
+}
