@@ -1,6 +1,7 @@
 // What a program is given by the system: its words, files, streams and the status that it ends with. `main` makes one, and every function
 // that needs any of it is lent it. What stays between two calls is in cells.
 #![tactic(auto)]
+
 mod error;
 mod files;
 mod line;

@@ -13,18 +13,15 @@ const INPUT_FACTS: &str = "/proc/self/fdinfo/0";
 // What the system says of a pipe.
 const NO_PLACE: i32 = 29;
 
-fn is_digit(b: u8) -> bool {
-    b'0' <= b && b <= b'9'
-}
-
 // The number behind the first blanks: the system writes `pos:`, a tab and the number in the first line.
-fn first_number(text: &[u8]) -> u64 {
+fn first_number(facts: &[u8]) -> u64 {
     let mut n = 0u64;
     let mut seen = false;
-    for b in text {
-        if is_digit(*b) {
+    for b in facts {
+        let d = text::value(*b);
+        if d < 10 {
             seen = true;
-            n = n.wrapping_mul(10).wrapping_add(u64::from(*b - b'0'));
+            n = n.wrapping_mul(10).wrapping_add(u64::from(d));
         } else if seen {
             return n;
         }
