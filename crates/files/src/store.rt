@@ -19,16 +19,9 @@ fn is_device(name: &[u8]) -> bool {
     false
 }
 
-// A name that no file has, so that nothing that a run before left is in the way; made once more, since the first is its owner's alone and this
-// one is as the system makes files.
+// A name that no file has, so that nothing that a run before left is in the way. The file is as the system makes files.
 fn made(host: &Host, beside: &mut [u8]) -> i32 {
-    let fd = host.create_temp(beside);
-    if fd < 0 {
-        return fd;
-    }
-    host.close(fd);
-    host.unlink(beside);
-    host.create(beside)
+    host.create_temp(beside)
 }
 
 fn said(host: &Host, name: &[u8], fd: i32, n: usize) -> Begun {
