@@ -11,6 +11,9 @@ pub(crate) const BUSY: i32 = 16;
 
 pub(crate) const INVALID: i32 = 22;
 
+// What a write is refused with where nobody reads any more.
+const UNREAD: i32 = 32;
+
 pub(crate) const TOO_LONG: i32 = 36;
 
 // A name that is no UTF-8.
@@ -42,6 +45,11 @@ impl Host {
     // The number of the last error, or 0.
     pub fn errno(&self) -> i32 {
         self.error.get()
+    }
+
+    // Whether the last error is that nobody reads any more what is written, as behind `head`.
+    pub fn is_unread(&self) -> bool {
+        self.errno() == UNREAD
     }
 
     // Writes a line to standard error: what failed, and why.

@@ -1300,7 +1300,7 @@ fn every_part(host: &Host) -> bool {
 
 fn all_told(host: &Host, done: bool) -> bool {
     if !done {
-        words::failed(host, b"standard output");
+        words::unsaid(host);
     }
     done
 }

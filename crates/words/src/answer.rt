@@ -7,7 +7,7 @@ use parts::Refusal;
 // Whether a write was taken: said where it was not.
 pub fn written(host: &Host, done: bool) -> bool {
     if !done {
-        crate::failed(host, b"standard output");
+        crate::unsaid(host);
     }
     done
 }

@@ -221,6 +221,14 @@ pub fn failed(host: &Host, what: &[u8]) {
     status::trouble(host);
 }
 
+// Standard output did not take all. Where nobody reads it any more, nobody is told.
+pub fn unsaid(host: &Host) {
+    if host.is_unread() {
+        return status::trouble(host);
+    }
+    failed(host, b"standard output");
+}
+
 // The word that is looked at is wrong.
 fn bad(host: &Host, read: Read, kind: usize) -> Read {
     complain(host, read.command, read.next, kind);
