@@ -250,7 +250,7 @@ fn requests(host: &Host) {
     );
 }
 
-fn runs(host: &Host) {
+fn write_runs(host: &Host) {
     run(
         host,
         b"part 2 at 8192, 0 bytes",
@@ -285,6 +285,9 @@ fn runs(host: &Host) {
         ident(1, false, 3, 13, 2),
         60000,
     );
+}
+
+fn read_runs(host: &Host) {
     run(
         host,
         b"read, always low",
@@ -310,6 +313,11 @@ fn runs(host: &Host) {
         ident(5, true, 63, 1, 0),
         60000,
     );
+}
+
+fn runs(host: &Host) {
+    write_runs(host);
+    read_runs(host);
     run(host, b"refused request", array(2, false, 30, 5, 0), 60000);
 }
 
