@@ -7,6 +7,8 @@ use std::io;
 // Numbers that are kept where the system was not asked at all.
 pub(crate) const BAD_DESCRIPTOR: i32 = 9;
 
+const NO_MEMORY: i32 = 12;
+
 pub(crate) const BUSY: i32 = 16;
 
 pub(crate) const INVALID: i32 = 22;
@@ -19,10 +21,18 @@ pub(crate) const TOO_LONG: i32 = 36;
 // A name that is no UTF-8.
 pub(crate) const NO_TEXT: i32 = 84;
 
+// Of what std refused itself: a name with a NUL in it, say.
+fn number_of_kind(kind: io::ErrorKind) -> i32 {
+    match kind {
+        io::ErrorKind::OutOfMemory => NO_MEMORY,
+        _ => INVALID,
+    }
+}
+
 pub(crate) fn number_of(error: io::Error) -> i32 {
     match error.raw_os_error() {
         Some(code) => code,
-        None => INVALID,
+        None => number_of_kind(error.kind()),
     }
 }
 
