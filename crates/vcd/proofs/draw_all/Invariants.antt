@@ -4,7 +4,7 @@ use lib.ListN.{length}
 use Rattle.vcd.proofs.draw_all.Given as goal
 
 abbrev pub invariant-loop-i : goal.invariant-loop-i
-invariant-loop-i l = 
+invariant-loop-i l =
     (l.i ≤ length l.events) × (length l.array ≡ length l.initial.array) × (length l.id ≡ length l.initial.id) × (length l.out ≡ length l.initial.out)
 
 abbrev pub decreases-loop-i : goal.decreases-loop-i
