@@ -3,43 +3,43 @@
 // event for a part, b what the buffer is filled with, p how many bytes of it are printed, r a run (`run`), o a run of one byte on the
 // part as delivered, k a run with counts of wear and the worst of them (`run_worn`).
 #![tactic(auto)]
+
 use driver::{Place, Request};
-use libc::STDIN_FILENO;
+use host::{Host, STDIN};
 use parts::{ArrayAddress, IdLocation, Loss, Verdict};
 use state::Chip;
-use text::say;
 use wear::Most;
 
 // ---- what is printed
 
-fn tell(n: usize) {
-    say(b" ");
-    text::say_number(n);
+fn tell(host: &Host, n: usize) {
+    host.say(b" ");
+    host.say_number(n);
 }
 
 // The first bytes of the buffer.
-fn tell_bytes(label: &[u8], s: &[u8]) {
-    say(label);
+fn tell_bytes(host: &Host, label: &[u8], s: &[u8]) {
+    host.say(label);
     let mut i = 0;
     while i < s.len() {
-        tell(text::wide(s[i]));
+        tell(host, text::wide(s[i]));
         i += 1;
     }
-    say(b"\n");
+    host.say(b"\n");
 }
 
-fn tell_verdict(label: &[u8], verdict: Verdict) {
-    say(label);
-    tell(text::wide(parts::verdict_number(verdict)));
-    tell(parts::verdict_place(verdict));
+fn tell_verdict(host: &Host, label: &[u8], verdict: Verdict) {
+    host.say(label);
+    tell(host, text::wide(parts::verdict_number(verdict)));
+    tell(host, parts::verdict_place(verdict));
 }
 
-fn tell_counts(polls: usize, bytes: usize, cycles: usize, clocks: usize) {
-    tell(polls);
-    tell(bytes);
-    tell(cycles);
-    tell(clocks);
-    say(b"\n");
+fn tell_counts(host: &Host, polls: usize, bytes: usize, cycles: usize, clocks: usize) {
+    tell(host, polls);
+    tell(host, bytes);
+    tell(host, cycles);
+    tell(host, clocks);
+    host.say(b"\n");
 }
 
 // ---- the buffer
@@ -118,6 +118,7 @@ fn keep(kept: bool, chip: Chip, held: &mut [u8]) {
 
 // Then before which poll a cycle ends, the bytes lent of array, identification page and buffer, and 1 where the chip is kept.
 fn run(
+    host: &Host,
     label: &[u8],
     v: [usize; 16],
     held: &mut [u8],
@@ -136,8 +137,8 @@ fn run(
     );
     let verdict = r.verdict;
     let chip = r.chip;
-    tell_verdict(label, verdict);
-    tell_counts(r.polls, r.bytes, r.cycles, r.clocks);
+    tell_verdict(host, label, verdict);
+    tell_counts(host, r.polls, r.bytes, r.cycles, r.clocks);
     keep(v[11] == 1, chip, held);
 }
 
@@ -165,16 +166,17 @@ fn given(v: [usize; 16], counts: &[u32]) -> Most {
 }
 
 // The worst that is answered, and a number for all counts.
-fn tell_worst(worst: Most, counts: &[u32]) {
-    say(b"worst");
-    tell(worst.group);
-    tell(worst.count as usize);
-    tell(cases::counts::mixed(counts));
-    say(b"\n");
+fn tell_worst(host: &Host, worst: Most, counts: &[u32]) {
+    host.say(b"worst");
+    tell(host, worst.group);
+    tell(host, worst.count as usize);
+    tell(host, cases::counts::mixed(counts));
+    host.say(b"\n");
 }
 
 // The counts stand behind a slash.
 fn run_worn(
+    host: &Host,
     label: &[u8],
     v: [usize; 16],
     held: &mut [u8],
@@ -199,9 +201,9 @@ fn run_worn(
     let r = k.report;
     let verdict = r.verdict;
     let chip = r.chip;
-    tell_verdict(cases::front(label, b'/'), verdict);
-    tell_counts(r.polls, r.bytes, r.cycles, r.clocks);
-    tell_worst(k.worst, &counts);
+    tell_verdict(host, cases::front(label, b'/'), verdict);
+    tell_counts(host, r.polls, r.bytes, r.cycles, r.clocks);
+    tell_worst(host, k.worst, &counts);
     keep(v[11] == 1, chip, held);
 }
 
@@ -219,16 +221,17 @@ fn chip_line(letter: u8, v: [usize; 16], held: &mut [u8], array: &mut [u8], id: 
     }
 }
 
-fn buffer_line(letter: u8, label: &[u8], v: [usize; 16], buffer: &mut [u8]) {
+fn buffer_line(host: &Host, letter: u8, label: &[u8], v: [usize; 16], buffer: &mut [u8]) {
     match letter {
         b'o' => fill(buffer, 7, false),
         b'b' => fill(buffer, text::narrow(v[0]), v[1] == 1),
-        b'p' => tell_bytes(label, cases::cut(buffer, 0, v[0])),
+        b'p' => tell_bytes(host, label, cases::cut(buffer, 0, v[0])),
         _ => {}
     }
 }
 
 fn run_line(
+    host: &Host,
     letter: u8,
     label: &[u8],
     v: [usize; 16],
@@ -238,24 +241,32 @@ fn run_line(
     buffer: &mut [u8],
 ) {
     match letter {
-        b'r' => run(label, v, held, array, id, buffer),
-        b'o' => run(label, v, held, array, id, buffer),
-        b'k' => run_worn(label, v, held, array, id, buffer),
+        b'r' => run(host, label, v, held, array, id, buffer),
+        b'o' => run(host, label, v, held, array, id, buffer),
+        b'k' => run_worn(host, label, v, held, array, id, buffer),
         _ => {}
     }
 }
 
-fn one(line: &[u8], held: &mut [u8], array: &mut [u8], id: &mut [u8], buffer: &mut [u8]) {
+fn one(
+    host: &Host,
+    line: &[u8],
+    held: &mut [u8],
+    array: &mut [u8],
+    id: &mut [u8],
+    buffer: &mut [u8],
+) {
     let v = cases::numbers(line);
     let letter = parts::byte_at(line, 0);
     let label = cases::label(line);
     chip_line(letter, v, held, array, id);
-    buffer_line(letter, label, v, buffer);
-    run_line(letter, label, v, held, array, id, buffer);
+    buffer_line(host, letter, label, v, buffer);
+    run_line(host, letter, label, v, held, array, id, buffer);
 }
 
 // A line that ends at i is done; where the next one starts.
 fn turn(
+    host: &Host,
     text: &[u8],
     start: usize,
     i: usize,
@@ -267,25 +278,40 @@ fn turn(
     if parts::byte_at(text, i) != b'\n' {
         return start;
     }
-    one(cases::cut(text, start, i), held, array, id, buffer);
+    one(host, cases::cut(text, start, i), held, array, id, buffer);
     cases::more(i)
 }
 
-fn each(text: &[u8], held: &mut [u8], array: &mut [u8], id: &mut [u8], buffer: &mut [u8]) {
+fn each(
+    host: &Host,
+    text: &[u8],
+    held: &mut [u8],
+    array: &mut [u8],
+    id: &mut [u8],
+    buffer: &mut [u8],
+) {
     let mut start = 0;
     let mut i = 0;
     while i < text.len() {
-        start = turn(text, start, i, held, array, id, buffer);
+        start = turn(host, text, start, i, held, array, id, buffer);
         i += 1;
     }
 }
 
-fn main() {
+fn main(rt: HostRuntime) {
+    let host = Host::new(rt);
     let mut input = [0u8; 16384];
-    let n = io::read_full(STDIN_FILENO, &mut input);
+    let n = host.read_full(STDIN, &mut input);
     let mut held = [0u8; 137];
     let mut array = [0u8; 32768];
     let mut id = [0u8; 64];
     let mut buffer = [0u8; 2048];
-    each(&input[..n], &mut held, &mut array, &mut id, &mut buffer);
+    each(
+        &host,
+        &input[..n],
+        &mut held,
+        &mut array,
+        &mut id,
+        &mut buffer,
+    );
 }

@@ -4,6 +4,7 @@
 ghost use Rattle.std.specs.Prelude.{◌≡◌, length};
 
 use capture::Seen;
+use host::Host;
 use words::Job;
 
 // Where the two begin, and where the array and the page of one do, behind its 137 bytes of state (`pack_chip::LENGTH`).
@@ -180,7 +181,7 @@ pub fn run_own(job: Job, boards: &mut [u8], bus: bool, samples: &[u8]) -> Seen {
 // ---- both chips
 
 // Whether the file stands that is asked for, with the chip of the reading asked for.
-pub fn save(job: Job, boards: &[u8]) -> bool {
+pub fn save(host: &Host, job: Job, boards: &[u8]) -> bool {
     let mut held = [0u8; pack_chip::LENGTH];
     let mut array = [0u8; 32768];
     let mut id = [0u8; 64];
@@ -188,6 +189,7 @@ pub fn save(job: Job, boards: &[u8]) -> bool {
     take(boards, OWN, &mut held, &mut array, &mut id);
     files::counts::take(boards, COUNTS, &mut counts);
     save_held(
+        host,
         job,
         &mut held,
         fitted::array(job.part, &mut array),
@@ -197,13 +199,14 @@ pub fn save(job: Job, boards: &[u8]) -> bool {
 }
 
 fn save_held(
+    host: &Host,
     job: Job,
     held: &mut [u8],
     array: &mut [u8],
     id: &mut [u8],
     counts: &mut [u32],
 ) -> bool {
-    files::save_kept(job, held, array, id, counts)
+    files::save_kept(host, job, held, array, id, counts)
 }
 
 fn copy(boards: &mut [u8], from: usize, to: usize) {

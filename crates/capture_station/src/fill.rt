@@ -1,6 +1,8 @@
 // The samples of a file, each kept once with how many there were: repeated samples make no event (RepeatsLeftOut of the crate
 // capture_promises). A run of more than 65,535 takes several entries, which are repeated samples again.
 
+use host::Host;
+
 // Where reading stopped.
 #[derive(Clone, Copy)]
 pub enum Halt {
@@ -162,8 +164,8 @@ fn is_text(bytes: &[u8]) -> bool {
     first & second & third & (parts::byte_at(bytes, 3) == b'A')
 }
 
-fn read(s: Source, chunk: &mut [u8]) -> Source {
-    let got = libc::read(s.fd, chunk);
+fn read(host: &Host, s: Source, chunk: &mut [u8]) -> Source {
+    let got = host.read(s.fd, chunk);
     if got < 0 {
         return Source {
             halt: Halt::Failed,
@@ -186,7 +188,14 @@ fn read(s: Source, chunk: &mut [u8]) -> Source {
     }
 }
 
-fn step(bits: Bits, s: Source, chunk: &mut [u8], samples: &mut [u8], counts: &mut [u16]) -> Source {
+fn step(
+    host: &Host,
+    bits: Bits,
+    s: Source,
+    chunk: &mut [u8],
+    samples: &mut [u8],
+    counts: &mut [u16],
+) -> Source {
     let at = s.at;
     let got = s.got;
     if at < got {
@@ -194,7 +203,7 @@ fn step(bits: Bits, s: Source, chunk: &mut [u8], samples: &mut [u8], counts: &mu
             return rest(bits, s, &chunk[at..got], samples, counts);
         }
     }
-    read(s, chunk)
+    read(host, s, chunk)
 }
 
 fn halted(s: Source) -> bool {
@@ -210,6 +219,7 @@ fn halted(s: Source) -> bool {
 // Until the buffer is full or the file ends. Nothing says that a file ends, and a proved loop has to: so the turns are counted down from a
 // number that no run uses up.
 pub fn fill(
+    host: &Host,
     bits: Bits,
     source: Source,
     chunk: &mut [u8],
@@ -219,7 +229,7 @@ pub fn fill(
     let mut s = source;
     let mut turns = u64::MAX;
     while turns > 0 {
-        s = step(bits, s, chunk, samples, counts);
+        s = step(host, bits, s, chunk, samples, counts);
         if halted(s) {
             return s;
         }

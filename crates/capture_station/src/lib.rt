@@ -2,6 +2,7 @@
 // length goes through, in pieces that end with a Stop: the pieces one after another are the whole (PiecesJoin and TallyJoins of the crate
 // capture_promises).
 #![tactic(auto)]
+
 mod boards;
 mod fill;
 mod show;
@@ -9,6 +10,7 @@ mod show;
 use capture::{Mark, Seen, Tally};
 use files::Ready;
 use fill::{Bits, Halt, Source};
+use host::Host;
 use parts::{Refusal, Verdict};
 use show::{Figures, Spot, Sums};
 use wear::Most;
@@ -182,21 +184,22 @@ fn run_piece(
     Walked { figures, ..w }
 }
 
-fn list(ok: bool, bus: bool, samples: &[u8], out: &mut [u8]) -> bool {
+fn list(host: &Host, ok: bool, bus: bool, samples: &[u8], out: &mut [u8]) -> bool {
     let listed = capture::events(bus, samples, out);
     let n = listed.length;
     if n <= out.len() {
-        return answer::letters(ok, false, &mut out[0..n]);
+        return answer::letters(host, ok, false, &mut out[0..n]);
     }
     false
 }
 
-fn list_piece(job: Job, w: Walked, samples: &[u8], out: &mut [u8]) -> Walked {
-    let told = list(w.told, !job.letter, samples, out);
+fn list_piece(host: &Host, job: Job, w: Walked, samples: &[u8], out: &mut [u8]) -> Walked {
+    let told = list(host, w.told, !job.letter, samples, out);
     Walked { told, ..w }
 }
 
 fn piece(
+    host: &Host,
     job: Job,
     w: Walked,
     boards: &mut [u8],
@@ -205,7 +208,7 @@ fn piece(
     out: &mut [u8],
 ) -> Walked {
     if w.lists {
-        return list_piece(job, w, samples, out);
+        return list_piece(host, job, w, samples, out);
     }
     run_piece(job, w, boards, samples, counts, out)
 }
@@ -221,6 +224,7 @@ fn unread(w: Walked) -> Walked {
 
 // The last piece: all that is left.
 fn last_piece(
+    host: &Host,
     job: Job,
     w: Walked,
     boards: &mut [u8],
@@ -228,7 +232,7 @@ fn last_piece(
     counts: &[u16],
     out: &mut [u8],
 ) -> Walked {
-    let p = piece(job, w, boards, samples, counts, out);
+    let p = piece(host, job, w, boards, samples, counts, out);
     Walked {
         state: State::Done,
         ..p
@@ -237,6 +241,7 @@ fn last_piece(
 
 // The piece up to entry k, which ends a Stop; the next begins with that entry.
 fn cut_at(
+    host: &Host,
     job: Job,
     w: Walked,
     k: usize,
@@ -247,7 +252,7 @@ fn cut_at(
 ) -> Walked {
     if k < samples.len() {
         let end = k + 1;
-        let p = piece(job, w, boards, &samples[0..end], counts, out);
+        let p = piece(host, job, w, boards, &samples[0..end], counts, out);
         let source = fill::keep_from(p.source, samples, counts, k);
         return Walked {
             source,
@@ -259,6 +264,7 @@ fn cut_at(
 }
 
 fn cut(
+    host: &Host,
     job: Job,
     word: usize,
     w: Walked,
@@ -271,16 +277,18 @@ fn cut(
     let k = fill::last_stop(samples, s.n);
     if k == 0 {
         files::complain(
+            host,
             word,
             b": got more than 1048575 changes without a Stop, wanted no more: cut it\n",
         );
         return unread(w);
     }
-    cut_at(job, w, k, boards, samples, counts, out)
+    cut_at(host, job, w, k, boards, samples, counts, out)
 }
 
 // What was read is a piece, or has one.
 fn taken(
+    host: &Host,
     job: Job,
     word: usize,
     w: Walked,
@@ -293,15 +301,15 @@ fn taken(
     let halt = s.halt;
     let n = s.n;
     match halt {
-        Halt::Full => cut(job, word, w, boards, samples, counts, out),
+        Halt::Full => cut(host, job, word, w, boards, samples, counts, out),
         Halt::Ended => {
             if n <= samples.len() {
-                return last_piece(job, w, boards, &samples[0..n], counts, out);
+                return last_piece(host, job, w, boards, &samples[0..n], counts, out);
             }
             unread(w)
         }
         Halt::Failed => {
-            files::unread(word);
+            files::unread(host, word);
             unread(w)
         }
         Halt::Nowhere => unread(w),
@@ -333,6 +341,7 @@ fn judged(samples: &[u8], n: usize) -> Verdict {
 }
 
 fn judged_turn(
+    host: &Host,
     job: Job,
     word: usize,
     w: Walked,
@@ -344,7 +353,7 @@ fn judged_turn(
     let s = w.source;
     let verdict = judged(samples, s.n);
     match verdict {
-        Verdict::Fine => taken(job, word, w, boards, samples, counts, out),
+        Verdict::Fine => taken(host, job, word, w, boards, samples, counts, out),
         Verdict::Refused(_) => refused(w, verdict, boards, counts),
     }
 }
@@ -358,6 +367,7 @@ fn bits_of(job: Job) -> Bits {
 }
 
 fn turn(
+    host: &Host,
     job: Job,
     word: usize,
     w: Walked,
@@ -367,9 +377,9 @@ fn turn(
     counts: &mut [u16],
     out: &mut [u8],
 ) -> Walked {
-    let source = fill::fill(bits_of(job), w.source, chunk, samples, counts);
+    let source = fill::fill(host, bits_of(job), w.source, chunk, samples, counts);
     let read = Walked { source, ..w };
-    judged_turn(job, word, read, boards, samples, counts, out)
+    judged_turn(host, job, word, read, boards, samples, counts, out)
 }
 
 fn ended(w: Walked) -> bool {
@@ -383,6 +393,7 @@ fn ended(w: Walked) -> bool {
 
 // The turns are counted down as in `fill`.
 fn walk(
+    host: &Host,
     job: Job,
     word: usize,
     first: Walked,
@@ -395,7 +406,7 @@ fn walk(
     let mut w = first;
     let mut turns = u64::MAX;
     while turns > 0 {
-        w = turn(job, word, w, boards, chunk, samples, counts, out);
+        w = turn(host, job, word, w, boards, chunk, samples, counts, out);
         if ended(w) {
             return w;
         }
@@ -460,15 +471,16 @@ fn opened(fd: i32, lists: bool, told: bool) -> Walked {
 }
 
 // Of a capture of one piece, which still stands in the buffer.
-fn list_kept(job: Job, ok: bool, n: usize, samples: &[u8], out: &mut [u8]) -> bool {
+fn list_kept(host: &Host, job: Job, ok: bool, n: usize, samples: &[u8], out: &mut [u8]) -> bool {
     if n <= samples.len() {
-        return list(ok, !job.letter, &samples[0..n], out);
+        return list(host, ok, !job.letter, &samples[0..n], out);
     }
     false
 }
 
 // Of a capture of several pieces, which is read again.
 fn list_again(
+    host: &Host,
     job: Job,
     word: usize,
     ok: bool,
@@ -480,14 +492,15 @@ fn list_again(
     counts: &mut [u16],
     out: &mut [u8],
 ) -> bool {
-    libc::lseek(fd, from, libc::SEEK_SET);
+    host.seek(fd, from);
     let first = opened(fd, true, ok);
-    let w = walk(job, word, first, boards, chunk, samples, counts, out);
+    let w = walk(host, job, word, first, boards, chunk, samples, counts, out);
     w.told
 }
 
 // The capture's events as one line.
 fn tell_events(
+    host: &Host,
     job: Job,
     word: usize,
     ok: bool,
@@ -502,12 +515,12 @@ fn tell_events(
     let s = w.source;
     if w.pieces {
         let told = list_again(
-            job, word, ok, s.fd, from, boards, chunk, samples, counts, out,
+            host, job, word, ok, s.fd, from, boards, chunk, samples, counts, out,
         );
-        return answer::say(told, b"\n");
+        return answer::say(host, told, b"\n");
     }
-    let told = list_kept(job, ok, s.n, samples, out);
-    answer::say(told, b"\n")
+    let told = list_kept(host, job, ok, s.n, samples, out);
+    answer::say(host, told, b"\n")
 }
 
 fn is_fine(verdict: Verdict) -> bool {
@@ -515,26 +528,27 @@ fn is_fine(verdict: Verdict) -> bool {
 }
 
 // Of a refused file, its place and what was found and wanted, on standard error.
-fn tell_sample(word: usize, verdict: Verdict) {
+fn tell_sample(host: &Host, word: usize, verdict: Verdict) {
     if is_fine(verdict) {
         return;
     }
-    files::tell::name(word);
-    files::tell::say(b": sample ");
-    files::tell::number(parts::verdict_place(verdict));
-    files::tell::say(b": found a value above 3, wanted 0 to 3\n");
+    files::tell::name(host, word);
+    files::tell::say(host, b": sample ");
+    files::tell::number(host, parts::verdict_place(verdict));
+    files::tell::say(host, b": found a value above 3, wanted 0 to 3\n");
 }
 
-fn tell_name(job: Job, word: usize, verdict: Verdict) -> bool {
-    tell_sample(word, verdict);
+fn tell_name(host: &Host, job: Job, word: usize, verdict: Verdict) -> bool {
+    tell_sample(host, word, verdict);
     if several(job) {
-        return show::name(true, word);
+        return show::name(host, true, word);
     }
     true
 }
 
 // The name where there are several files, the answer, and the events where they are asked for.
 fn tell(
+    host: &Host,
     job: Job,
     word: usize,
     w: Walked,
@@ -547,10 +561,10 @@ fn tell(
     out: &mut [u8],
 ) -> bool {
     let verdict = f.verdict;
-    let told = show::block(tell_name(job, word, verdict), job.letter, f);
+    let told = show::block(host, tell_name(host, job, word, verdict), job.letter, f);
     if job.events & is_fine(verdict) {
         return tell_events(
-            job, word, told, w, from, boards, chunk, samples, counts, out,
+            host, job, word, told, w, from, boards, chunk, samples, counts, out,
         );
     }
     told
@@ -598,9 +612,10 @@ fn counted(s: Sums, f: Figures) -> Sums {
 }
 
 // Whether the events can be listed, where they are asked for. `from` below 0: the file cannot be read a second time.
-fn listable(job: Job, word: usize, pieces: bool, from: i64) -> bool {
+fn listable(host: &Host, job: Job, word: usize, pieces: bool, from: i64) -> bool {
     if job.events & pieces & (from < 0) {
         files::complain(
+            host,
             word,
             b": too long for its events to be kept, and it cannot be read again\n",
         );
@@ -610,18 +625,19 @@ fn listable(job: Job, word: usize, pieces: bool, from: i64) -> bool {
 }
 
 // Behind the last file, the chip of the reading asked for; where a file was refused none. It stands before the last answer is told.
-fn saved(job: Job, word: usize, boards: &[u8], refused: usize) -> bool {
+fn saved(host: &Host, job: Job, word: usize, boards: &[u8], refused: usize) -> bool {
     if words::after(word) < job.behind {
         return true;
     }
     if 0 < refused {
         return true;
     }
-    boards::save(job, boards)
+    boards::save(host, job, boards)
 }
 
 // A file that was run, and its chip saved where that is due.
 fn tell_saved(
+    host: &Host,
     ok: bool,
     job: Job,
     word: usize,
@@ -637,14 +653,17 @@ fn tell_saved(
     if !ok {
         return false;
     }
-    tell(job, word, w, f, from, boards, chunk, samples, counts, out)
+    tell(
+        host, job, word, w, f, from, boards, chunk, samples, counts, out,
+    )
 }
 
 // A line of text is seen as a sample above 3, but for bits that are picked.
-fn warn_text(job: Job, word: usize, text: bool) {
+fn warn_text(host: &Host, job: Job, word: usize, text: bool) {
     if job.picks & text {
-        files::tell::name(word);
+        files::tell::name(host, word);
         files::tell::say(
+            host,
             b": line 1: found text, META .., and its letters are taken for samples: tail -n +2 leaves it out\n",
         );
     }
@@ -652,6 +671,7 @@ fn warn_text(job: Job, word: usize, text: bool) {
 
 // A file that was run.
 fn told(
+    host: &Host,
     job: Job,
     word: usize,
     all: All,
@@ -664,17 +684,17 @@ fn told(
     out: &mut [u8],
 ) -> All {
     let s = w.source;
-    warn_text(job, word, s.text);
+    warn_text(host, job, word, s.text);
     let found = w.figures;
     let f = Figures {
         samples: s.all,
         ..found
     };
     let sums = counted(all.sums, f);
-    let able = listable(job, word, w.pieces, from);
-    let kept = able && saved(job, word, boards, sums.refused);
+    let able = listable(host, job, word, w.pieces, from);
+    let kept = able && saved(host, job, word, boards, sums.refused);
     let ok = tell_saved(
-        kept, job, word, w, f, from, boards, chunk, samples, counts, out,
+        host, kept, job, word, w, f, from, boards, chunk, samples, counts, out,
     );
     All { sums, ok }
 }
@@ -684,6 +704,7 @@ fn stopped(all: All) -> All {
 }
 
 fn finished(
+    host: &Host,
     job: Job,
     word: usize,
     all: All,
@@ -697,13 +718,16 @@ fn finished(
 ) -> All {
     let state = w.state;
     match state {
-        State::Done => told(job, word, all, w, from, boards, chunk, samples, counts, out),
+        State::Done => told(
+            host, job, word, all, w, from, boards, chunk, samples, counts, out,
+        ),
         State::More => stopped(all),
         State::Unread => stopped(all),
     }
 }
 
 fn run_file(
+    host: &Host,
     job: Job,
     word: usize,
     all: All,
@@ -714,13 +738,16 @@ fn run_file(
     counts: &mut [u16],
     out: &mut [u8],
 ) -> All {
-    let from = libc::lseek(fd, 0, libc::SEEK_CUR);
+    let from = host.position(fd);
     let first = opened(fd, false, true);
-    let w = walk(job, word, first, boards, chunk, samples, counts, out);
-    finished(job, word, all, w, from, boards, chunk, samples, counts, out)
+    let w = walk(host, job, word, first, boards, chunk, samples, counts, out);
+    finished(
+        host, job, word, all, w, from, boards, chunk, samples, counts, out,
+    )
 }
 
 fn file(
+    host: &Host,
     job: Job,
     word: usize,
     all: All,
@@ -730,19 +757,21 @@ fn file(
     counts: &mut [u16],
     out: &mut [u8],
 ) -> All {
-    let fd = files::open(word);
+    let fd = files::open(host, word);
     if fd < 0 {
         return stopped(all);
     }
     boards::remember(boards);
-    let next = run_file(job, word, all, fd, boards, chunk, samples, counts, out);
-    files::close(word, fd);
+    let next = run_file(
+        host, job, word, all, fd, boards, chunk, samples, counts, out,
+    );
+    files::close(host, word, fd);
     next
 }
 
-fn tell_all(job: Job, all: All) -> bool {
+fn tell_all(host: &Host, job: Job, all: All) -> bool {
     if several(job) {
-        return show::all(all.ok, all.sums);
+        return show::all(host, all.ok, all.sums);
     }
     all.ok
 }
@@ -761,6 +790,7 @@ fn nothing_yet() -> All {
 
 // One file after another. What cannot be read ends the command: the chip behind it is not known.
 fn run_all(
+    host: &Host,
     job: Job,
     next: usize,
     end: usize,
@@ -773,23 +803,24 @@ fn run_all(
     let mut all = nothing_yet();
     let mut i = next;
     while i < end {
-        all = file(job, i, all, boards, chunk, samples, counts, out);
+        all = file(host, job, i, all, boards, chunk, samples, counts, out);
         if !all.ok {
             return false;
         }
         i += 1;
     }
-    tell_all(job, all)
+    tell_all(host, job, all)
 }
 
 // ---- the buffers
 
-fn run(job: Job, boards: &mut [u8]) -> bool {
+fn run(host: &Host, job: Job, boards: &mut [u8]) -> bool {
     let mut chunk = io::large_buffer();
     let mut samples = [0u8; 1048576];
     let mut counts = [0u16; 1048576];
     let mut out = [0u8; 1048576];
     run_all(
+        host,
         job,
         job.files,
         job.behind,
@@ -820,6 +851,7 @@ fn prepared(
 }
 
 fn begin(
+    host: &Host,
     job: Job,
     held: &mut [u8],
     array: &mut [u8],
@@ -827,7 +859,7 @@ fn begin(
     counts: &mut [u32],
     boards: &mut [u8],
 ) -> Ready {
-    let first = files::at_first(job, held, array, id, counts);
+    let first = files::at_first(host, job, held, array, id, counts);
     boards::put_counts(boards, counts);
     match first {
         Ready::Told => Ready::Told,
@@ -838,12 +870,13 @@ fn begin(
 }
 
 // The chip that is asked for, on both boards.
-fn lay(job: Job, boards: &mut [u8]) -> Ready {
+fn lay(host: &Host, job: Job, boards: &mut [u8]) -> Ready {
     let mut held = [0u8; pack_chip::LENGTH];
     let mut array = [0u8; 32768];
     let mut id = [0u8; 64];
     let mut counts = [0u32; 8192];
     begin(
+        host,
         job,
         &mut held,
         fitted::array(job.part, &mut array),
@@ -853,15 +886,15 @@ fn lay(job: Job, boards: &mut [u8]) -> Ready {
     )
 }
 
-fn run_laid(job: Job, verdict: Verdict, boards: &mut [u8]) -> bool {
+fn run_laid(host: &Host, job: Job, verdict: Verdict, boards: &mut [u8]) -> bool {
     match verdict {
-        Verdict::Fine => run(job, boards),
-        Verdict::Refused(r) => show::refused(r),
+        Verdict::Fine => run(host, job, boards),
+        Verdict::Refused(r) => show::refused(host, r),
     }
 }
 
-fn run_on(job: Job, boards: &mut [u8]) -> bool {
-    let ready = lay(job, boards);
+fn run_on(host: &Host, job: Job, boards: &mut [u8]) -> bool {
+    let ready = lay(host, job, boards);
     match ready {
         Ready::Told => false,
         Ready::Judged(verdict, worn, _) => {
@@ -869,32 +902,32 @@ fn run_on(job: Job, boards: &mut [u8]) -> bool {
                 wear: job.wear | worn,
                 ..job
             };
-            run_laid(kept, verdict, boards)
+            run_laid(host, kept, verdict, boards)
         }
     }
 }
 
-fn lend(job: Job) -> bool {
+fn lend(host: &Host, job: Job) -> bool {
     let mut boards = boards::room();
-    run_on(job, &mut boards)
+    run_on(host, job, &mut boards)
 }
 
 // 1 and 2 are given before a file is looked at.
-fn asked(job: Job) -> bool {
+fn asked(host: &Host, job: Job) -> bool {
     let verdict = files::judged(job);
     match verdict {
-        Verdict::Fine => lend(job),
-        Verdict::Refused(r) => show::refused(r),
+        Verdict::Fine => lend(host, job),
+        Verdict::Refused(r) => show::refused(host, r),
     }
 }
 
 // ---- the command: `next` is the first word behind `capture`, and the words end before `end`
 
 // False where nothing, or not all, could be answered: standard error has the reason.
-pub fn capture_command(next: usize, end: usize) -> bool {
-    let job = words::capture_asked(next, end);
+pub fn capture_command(host: &Host, next: usize, end: usize) -> bool {
+    let job = words::capture_asked(host, next, end);
     if job.ok {
-        return asked(job);
+        return asked(host, job);
     }
     false
 }

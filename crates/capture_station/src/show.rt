@@ -1,5 +1,6 @@
 // What a capture is answered with. Each function is told whether the lines before it were written, and says so of its own.
 use capture::{Mark, Tally};
+use host::Host;
 use parts::{Refusal, Verdict};
 use words::answer::{count, number, say};
 use words::{answer, status};
@@ -37,93 +38,99 @@ pub struct Sums {
     pub tally: Tally,
 }
 
-fn field(ok: bool, name: &[u8], n: usize) -> bool {
-    let named = say(ok, name);
-    number(named, n)
+fn field(host: &Host, ok: bool, name: &[u8], n: usize) -> bool {
+    let named = say(host, ok, name);
+    number(host, named, n)
 }
 
 // ---- the first line
 
 // What a command is refused for before a file is looked at. Of a HEX file standard error has the reason.
-fn reason(r: Refusal) -> bool {
+fn reason(host: &Host, r: Refusal) -> bool {
     match r {
-        Refusal::NoPart => answer::no_part(true),
-        Refusal::WrongEnable => answer::wrong_enable(true),
-        Refusal::BadEvent(_) => answer::no_pin(true),
-        Refusal::BadImage => answer::no_image(true),
+        Refusal::NoPart => answer::no_part(host, true),
+        Refusal::WrongEnable => answer::wrong_enable(host, true),
+        Refusal::BadEvent(_) => answer::no_pin(host, true),
+        Refusal::BadImage => answer::no_image(host, true),
         _ => true,
     }
 }
 
-pub fn refused(r: Refusal) -> bool {
-    if answer::refused(r) {
-        return reason(r);
+pub fn refused(host: &Host, r: Refusal) -> bool {
+    if answer::refused(host, r) {
+        return reason(host, r);
     }
     false
 }
 
 // A sample that is none, and what files have such.
-fn refused_at(ok: bool, r: Refusal) -> bool {
-    status::refused();
-    let told = field(ok, b"refused ", text::wide(parts::number(r)));
-    let placed = count(told, b" at ", parts::verdict_place(Verdict::Refused(r)));
+fn refused_at(host: &Host, ok: bool, r: Refusal) -> bool {
+    status::refused(host);
+    let told = field(host, ok, b"refused ", text::wide(parts::number(r)));
+    let placed = count(
+        host,
+        told,
+        b" at ",
+        parts::verdict_place(Verdict::Refused(r)),
+    );
     say(
+        host,
         placed,
         b"a text line at the front such as sigrok's META, or more channels than two: see --scl and --sda\n",
     )
 }
 
-fn told_byte(ok: bool, b: u8) -> bool {
+fn told_byte(host: &Host, ok: bool, b: u8) -> bool {
     let d = text::hex(b);
-    say(ok, &[b',', b' ', d[0], d[1], b'h'])
+    say(host, ok, &[b',', b' ', d[0], d[1], b'h'])
 }
 
-fn told_spot(ok: bool, s: Spot) -> bool {
+fn told_spot(host: &Host, ok: bool, s: Spot) -> bool {
     if s.place < 8 {
-        let bit = field(ok, b" (bit ", text::wide(7 - s.place));
-        let told = field(bit, b" of byte ", s.byte);
-        return say(told, b")\n");
+        let bit = field(host, ok, b" (bit ", text::wide(7 - s.place));
+        let told = field(host, bit, b" of byte ", s.byte);
+        return say(host, told, b")\n");
     }
-    let named = field(ok, b" (acknowledge of byte ", s.byte);
-    let told = told_byte(named, s.value);
-    say(told, b")\n")
+    let named = field(host, ok, b" (acknowledge of byte ", s.byte);
+    let told = told_byte(host, named, s.value);
+    say(host, told, b")\n")
 }
 
 // The model's level is the other one.
-fn differs(ok: bool, sample: usize, clock: usize, level: u8, spot: Spot) -> bool {
-    status::refused();
-    let one = field(ok, b"differs at sample ", sample);
-    let two = field(one, b", clock ", clock);
-    let three = field(two, b": line ", text::wide(level));
-    let four = field(three, b", model ", text::wide(1 - level % 2));
-    told_spot(four, spot)
+fn differs(host: &Host, ok: bool, sample: usize, clock: usize, level: u8, spot: Spot) -> bool {
+    status::refused(host);
+    let one = field(host, ok, b"differs at sample ", sample);
+    let two = field(host, one, b", clock ", clock);
+    let three = field(host, two, b": line ", text::wide(level));
+    let four = field(host, three, b", model ", text::wide(1 - level % 2));
+    told_spot(host, four, spot)
 }
 
-fn marked(ok: bool, f: Figures) -> bool {
+fn marked(host: &Host, ok: bool, f: Figures) -> bool {
     let mark = f.mark;
     match mark {
-        Mark::Same => say(ok, b"same\n"),
-        Mark::At(sample, clock, level) => differs(ok, sample, clock, level, f.spot),
+        Mark::Same => say(host, ok, b"same\n"),
+        Mark::At(sample, clock, level) => differs(host, ok, sample, clock, level, f.spot),
     }
 }
 
 // ---- the other lines
 
-fn reading(ok: bool, letter: bool) -> bool {
+fn reading(host: &Host, ok: bool, letter: bool) -> bool {
     if letter {
-        return say(ok, b"read by the letter\n");
+        return say(host, ok, b"read by the letter\n");
     }
-    say(ok, b"read as on a bus\n")
+    say(host, ok, b"read as on a bus\n")
 }
 
-fn tallied(ok: bool, t: Tally) -> bool {
-    let one = field(ok, b"starts ", t.starts as usize);
-    let two = field(one, b" stops ", t.stops as usize);
-    let three = field(two, b" bytes ", t.bytes as usize);
-    count(three, b" unacknowledged ", t.unacknowledged as usize)
+fn tallied(host: &Host, ok: bool, t: Tally) -> bool {
+    let one = field(host, ok, b"starts ", t.starts as usize);
+    let two = field(host, one, b" stops ", t.stops as usize);
+    let three = field(host, two, b" bytes ", t.bytes as usize);
+    count(host, three, b" unacknowledged ", t.unacknowledged as usize)
 }
 
-fn advised(ok: bool, letter: bool, f: Figures) -> bool {
+fn advised(host: &Host, ok: bool, letter: bool, f: Figures) -> bool {
     let mark = f.mark;
     match mark {
         Mark::Same => ok,
@@ -132,46 +139,46 @@ fn advised(ok: bool, letter: bool, f: Figures) -> bool {
                 return ok;
             }
             if letter {
-                return say(ok, b"as on a bus it would be the same\n");
+                return say(host, ok, b"as on a bus it would be the same\n");
             }
-            say(ok, b"by the letter it would be the same\n")
+            say(host, ok, b"by the letter it would be the same\n")
         }
     }
 }
 
-fn lines(ok: bool, letter: bool, f: Figures) -> bool {
-    let one = marked(ok, f);
-    let two = reading(one, letter);
-    let three = field(two, b"samples ", f.samples);
-    let four = field(three, b" events ", f.events);
-    let five = count(four, b" ends ", f.ends);
-    let six = tallied(five, f.tally);
-    let seven = count(six, b"cycles ", f.cycles);
-    advised(seven, letter, f)
+fn lines(host: &Host, ok: bool, letter: bool, f: Figures) -> bool {
+    let one = marked(host, ok, f);
+    let two = reading(host, one, letter);
+    let three = field(host, two, b"samples ", f.samples);
+    let four = field(host, three, b" events ", f.events);
+    let five = count(host, four, b" ends ", f.ends);
+    let six = tallied(host, five, f.tally);
+    let seven = count(host, six, b"cycles ", f.cycles);
+    advised(host, seven, letter, f)
 }
 
 // All of one capture but its events.
-pub fn block(ok: bool, letter: bool, f: Figures) -> bool {
+pub fn block(host: &Host, ok: bool, letter: bool, f: Figures) -> bool {
     let verdict = f.verdict;
     match verdict {
-        Verdict::Fine => lines(ok, letter, f),
-        Verdict::Refused(r) => refused_at(ok, r),
+        Verdict::Fine => lines(host, ok, letter, f),
+        Verdict::Refused(r) => refused_at(host, ok, r),
     }
 }
 
 // The name of a file, as it was typed.
-pub fn name(ok: bool, word: usize) -> bool {
+pub fn name(host: &Host, ok: bool, word: usize) -> bool {
     let mut name = io::buffer();
-    let n = os::arg(word, &mut name);
-    let told = say(say(ok, b"file "), &name[..n]);
-    say(told, b"\n")
+    let n = host.arg(word, &mut name);
+    let told = say(host, say(host, ok, b"file "), &name[..n]);
+    say(host, told, b"\n")
 }
 
 // All files together.
-pub fn all(ok: bool, s: Sums) -> bool {
-    let one = field(ok, b"all\nfiles ", s.files);
-    let two = field(one, b" differ ", s.differ);
-    let three = count(two, b" refused ", s.refused);
-    let four = tallied(three, s.tally);
-    count(four, b"cycles ", s.cycles)
+pub fn all(host: &Host, ok: bool, s: Sums) -> bool {
+    let one = field(host, ok, b"all\nfiles ", s.files);
+    let two = field(host, one, b" differ ", s.differ);
+    let three = count(host, two, b" refused ", s.refused);
+    let four = tallied(host, three, s.tally);
+    count(host, four, b"cycles ", s.cycles)
 }

@@ -6,69 +6,70 @@
 // data at one sample, and runs what is drawn. `e BUS ROOM : SAMPLES` lists events. `t BUS STARTS STOPS BYTES MISSES : SAMPLES` counts: from
 // 60000 on a count is that much below the top as the number is below 65535.
 #![tactic(auto)]
+
 ghost use Rattle.std.specs.Prelude.{◌≡◌, length};
 
 use capture::{Mark, Seen, Stroke, Tally, Wires};
 use cases::mixed;
-use libc::STDIN_FILENO;
+use host::{Host, STDIN};
 use line::{Core, Line};
 use parts::{Loss, Verdict};
 use state::Chip;
-use text::{say, say_number, wide};
+use text::wide;
 
 // ---- what is told
 
-fn tell(name: &[u8], n: usize) {
-    say(name);
-    say_number(n);
+fn tell(host: &Host, name: &[u8], n: usize) {
+    host.say(name);
+    host.say_number(n);
 }
 
-fn tell_verdict(verdict: Verdict) {
+fn tell_verdict(host: &Host, verdict: Verdict) {
     match verdict {
         Verdict::Fine => {
-            say(b"done");
+            host.say(b"done");
         }
         Verdict::Refused(_) => {
-            tell(b"refused ", wide(parts::verdict_number(verdict)));
-            tell(b" at ", parts::verdict_place(verdict));
+            tell(host, b"refused ", wide(parts::verdict_number(verdict)));
+            tell(host, b" at ", parts::verdict_place(verdict));
         }
     }
 }
 
-fn tell_mark(mark: Mark) {
+fn tell_mark(host: &Host, mark: Mark) {
     match mark {
         Mark::Same => {
-            say(b", same");
+            host.say(b", same");
         }
         Mark::At(s, n, v) => {
-            tell(b", sample ", s);
-            tell(b" clock ", n);
-            tell(b" line ", wide(v));
+            tell(host, b", sample ", s);
+            tell(host, b" clock ", n);
+            tell(host, b" line ", wide(v));
         }
     }
 }
 
-fn tell_chip(chip: Chip) {
+fn tell_chip(host: &Host, chip: Chip) {
     let line = chip.line;
     let core = line.core;
-    tell(b", counter ", core.counter as usize);
-    tell(b" left ", wide(line.left));
-    tell(b" locked ", wide(parts::flag(core.locked)));
+    tell(host, b", counter ", core.counter as usize);
+    tell(host, b" left ", wide(line.left));
+    tell(host, b" locked ", wide(parts::flag(core.locked)));
 }
 
-fn tell_seen(s: Seen, array: &[u8], id: &[u8]) {
+fn tell_seen(host: &Host, s: Seen, array: &[u8], id: &[u8]) {
     let verdict = s.verdict;
     let mark = s.mark;
-    tell_verdict(verdict);
-    tell(b", events ", s.events);
-    tell(b" clocks ", s.clocks);
-    tell(b" ends ", s.ends);
-    tell(b" cycles ", s.cycles);
-    tell_mark(mark);
-    tell_chip(s.chip);
-    tell(b", array ", mixed(array));
-    tell(b" id ", mixed(id));
-    say(b"\n");
+    tell_verdict(host, verdict);
+    tell(host, b", events ", s.events);
+    tell(host, b" clocks ", s.clocks);
+    tell(host, b" ends ", s.ends);
+    tell(host, b" cycles ", s.cycles);
+    tell_mark(host, mark);
+    tell_chip(host, s.chip);
+    tell(host, b", array ", mixed(array));
+    tell(host, b" id ", mixed(id));
+    host.say(b"\n");
 }
 
 // ---- letters and samples
@@ -146,7 +147,7 @@ fn before(
     spoilt(r.chip, bad)
 }
 
-fn see(v: [usize; 16], chip: Chip, typed: &[u8], array: &mut [u8], id: &mut [u8]) {
+fn see(host: &Host, v: [usize; 16], chip: Chip, typed: &[u8], array: &mut [u8], id: &mut [u8]) {
     let mut samples = [0u8; 16384];
     let n = spell(false, typed, &mut samples);
     let s = capture::run(
@@ -158,10 +159,17 @@ fn see(v: [usize; 16], chip: Chip, typed: &[u8], array: &mut [u8], id: &mut [u8]
         v[5] == 1,
         cases::cut(&samples, 0, n),
     );
-    tell_seen(s, array, id);
+    tell_seen(host, s, array, id);
 }
 
-fn run_in(v: [usize; 16], typed: &[u8], array: &mut [u8], id: &mut [u8], levels: &mut [u8]) {
+fn run_in(
+    host: &Host,
+    v: [usize; 16],
+    typed: &[u8],
+    array: &mut [u8],
+    id: &mut [u8],
+    levels: &mut [u8],
+) {
     let part = text::narrow(v[0]);
     let f = parts::facts_of(part);
     let at = cases::place(typed, b'/');
@@ -179,6 +187,7 @@ fn run_in(v: [usize; 16], typed: &[u8], array: &mut [u8], id: &mut [u8], levels:
     let n = own(v[2], f.size);
     let d = own(v[3], parts::id_size(f));
     see(
+        host,
         v,
         chip,
         digits,
@@ -187,12 +196,13 @@ fn run_in(v: [usize; 16], typed: &[u8], array: &mut [u8], id: &mut [u8], levels:
     );
 }
 
-fn ran(line: &[u8]) {
+fn ran(host: &Host, line: &[u8]) {
     let mut array = [0u8; 32769];
     let mut id = [0u8; 65];
     let mut levels = [0u8; 4096];
     fresh(&mut array, &mut id);
     run_in(
+        host,
         cases::numbers(line),
         cases::label(line),
         &mut array,
@@ -259,7 +269,7 @@ fn fresh(array: &mut [u8], id: &mut [u8]) {
     cases::fill(id, 100);
 }
 
-fn see_drawn(v: [usize; 16], samples: &[u8], array: &mut [u8], id: &mut [u8]) {
+fn see_drawn(host: &Host, v: [usize; 16], samples: &[u8], array: &mut [u8], id: &mut [u8]) {
     let part = text::narrow(v[0]);
     let chip = chip::standby(part, false);
     fresh(array, id);
@@ -272,36 +282,50 @@ fn see_drawn(v: [usize; 16], samples: &[u8], array: &mut [u8], id: &mut [u8]) {
         v[2] == 1,
         samples,
     );
-    tell_seen(s, array, id);
+    tell_seen(host, s, array, id);
 }
 
-fn run_drawn(v: [usize; 16], codes: &[u8], levels: &mut [u8], array: &mut [u8], id: &mut [u8]) {
+fn run_drawn(
+    host: &Host,
+    v: [usize; 16],
+    codes: &[u8],
+    levels: &mut [u8],
+    array: &mut [u8],
+    id: &mut [u8],
+) {
     let part = text::narrow(v[0]);
     let chip = chip::standby(part, false);
     fresh(array, id);
     let enable = text::narrow(v[1]);
     let r = chip::run(part, enable, Loss::Old, b"", chip, array, id, codes, levels);
-    tell(b"cycles ", r.cycles);
-    tell(b" array ", mixed(array));
+    tell(host, b"cycles ", r.cycles);
+    tell(host, b" array ", mixed(array));
 }
 
-fn lay_all(v: [usize; 16], codes: &[u8], levels: &[u8], samples: &mut [u8]) -> usize {
+fn lay_all(host: &Host, v: [usize; 16], codes: &[u8], levels: &[u8], samples: &mut [u8]) -> usize {
     let n = draw_all(codes, levels, samples);
     turn(samples, v[3]);
-    tell(b", samples ", n);
-    tell(b" ", mixed(cases::cut(samples, 0, n)));
-    say(b": ");
+    tell(host, b", samples ", n);
+    tell(host, b" ", mixed(cases::cut(samples, 0, n)));
+    host.say(b": ");
     n
 }
 
-fn drawn_in(v: [usize; 16], codes: &[u8], samples: &mut [u8], array: &mut [u8], id: &mut [u8]) {
+fn drawn_in(
+    host: &Host,
+    v: [usize; 16],
+    codes: &[u8],
+    samples: &mut [u8],
+    array: &mut [u8],
+    id: &mut [u8],
+) {
     let mut levels = [0u8; 4096];
-    run_drawn(v, codes, &mut levels, array, id);
-    let n = lay_all(v, codes, &levels, samples);
-    see_drawn(v, cases::cut(samples, 0, n), array, id);
+    run_drawn(host, v, codes, &mut levels, array, id);
+    let n = lay_all(host, v, codes, &levels, samples);
+    see_drawn(host, v, cases::cut(samples, 0, n), array, id);
 }
 
-fn drawn(line: &[u8]) {
+fn drawn(host: &Host, line: &[u8]) {
     let v = cases::numbers(line);
     let mut codes = [0u8; 4096];
     let mut samples = [0u8; 16384];
@@ -310,6 +334,7 @@ fn drawn(line: &[u8]) {
     let n = spell(true, cases::label(line), &mut codes);
     let part = text::narrow(v[0]);
     drawn_in(
+        host,
         v,
         cases::cut(&codes, 0, n),
         &mut samples,
@@ -320,22 +345,23 @@ fn drawn(line: &[u8]) {
 
 // ---- events and counts
 
-fn list_in(bus: bool, samples: &[u8], out: &mut [u8]) {
+fn list_in(host: &Host, bus: bool, samples: &[u8], out: &mut [u8]) {
     let l = capture::events(bus, samples, out);
     let verdict = l.verdict;
-    tell_verdict(verdict);
-    tell(b", events ", l.length);
-    tell(b", out ", mixed(out));
-    say(b"\n");
+    tell_verdict(host, verdict);
+    tell(host, b", events ", l.length);
+    tell(host, b", out ", mixed(out));
+    host.say(b"\n");
 }
 
-fn listed(line: &[u8]) {
+fn listed(host: &Host, line: &[u8]) {
     let v = cases::numbers(line);
     let mut samples = [0u8; 16384];
     let mut out = [0u8; 4096];
     cases::fill(&mut out, 50);
     let n = spell(false, cases::label(line), &mut samples);
     list_in(
+        host,
         v[0] == 1,
         cases::cut(&samples, 0, n),
         fitted::first(&mut out, v[1]),
@@ -352,16 +378,16 @@ fn below_top(n: usize) -> u32 {
     0
 }
 
-fn tell_tally(verdict: Verdict, t: Tally) {
-    tell_verdict(verdict);
-    tell(b", starts ", t.starts as usize);
-    tell(b" stops ", t.stops as usize);
-    tell(b" bytes ", t.bytes as usize);
-    tell(b" unacknowledged ", t.unacknowledged as usize);
-    say(b"\n");
+fn tell_tally(host: &Host, verdict: Verdict, t: Tally) {
+    tell_verdict(host, verdict);
+    tell(host, b", starts ", t.starts as usize);
+    tell(host, b" stops ", t.stops as usize);
+    tell(host, b" bytes ", t.bytes as usize);
+    tell(host, b" unacknowledged ", t.unacknowledged as usize);
+    host.say(b"\n");
 }
 
-fn counted(line: &[u8]) {
+fn counted(host: &Host, line: &[u8]) {
     let v = cases::numbers(line);
     let mut samples = [0u8; 16384];
     let n = spell(false, cases::label(line), &mut samples);
@@ -373,22 +399,22 @@ fn counted(line: &[u8]) {
         v[0] == 1,
         cases::cut(&samples, 0, n),
     );
-    tell_tally(capture::judge(cases::cut(&samples, 0, n)), t);
+    tell_tally(host, capture::judge(cases::cut(&samples, 0, n)), t);
 }
 
 // ---- lines
 
-fn one(line: &[u8]) {
+fn one(host: &Host, line: &[u8]) {
     if line.len() == 0 {
         return;
     }
-    say(line);
-    say(b"\n  ");
+    host.say(line);
+    host.say(b"\n  ");
     match line[0] {
-        b'r' => ran(line),
-        b'd' => drawn(line),
-        b'e' => listed(line),
-        _ => counted(line),
+        b'r' => ran(host, line),
+        b'd' => drawn(host, line),
+        b'e' => listed(host, line),
+        _ => counted(host, line),
     }
 }
 
@@ -398,19 +424,19 @@ fn after(i: usize) -> usize {
 }
 
 // Where the line that is under way begins, once byte i is seen.
-fn ended(input: &[u8], start: usize, i: usize) -> usize {
+fn ended(host: &Host, input: &[u8], start: usize, i: usize) -> usize {
     if parts::byte_at(input, i) != b'\n' {
         return start;
     }
-    one(cases::cut(input, start, i));
+    one(host, cases::cut(input, start, i));
     after(i)
 }
 
-fn each(input: &[u8]) {
+fn each(host: &Host, input: &[u8]) {
     let mut start = 0;
     let mut i = 0;
     while i < input.len() {
-        start = ended(input, start, i);
+        start = ended(host, input, start, i);
         i += 1;
     }
 }
@@ -421,8 +447,9 @@ fn blank() -> [u8; 262144]
     [0; 262144]
 }
 
-fn main() {
+fn main(rt: HostRuntime) {
+    let host = Host::new(rt);
     let mut input = blank();
-    let n = io::read_full(STDIN_FILENO, &mut input);
-    each(cases::cut(&input, 0, n));
+    let n = host.read_full(STDIN, &mut input);
+    each(&host, cases::cut(&input, 0, n));
 }

@@ -3,8 +3,9 @@
 // A line of `p` is a step and a run as those of `b`; in place of inhibited and locked stand the loss (`loss_of`) and the bytes lent of the page.
 // `c PART ENABLE LOSS PAGE FILL : what is tried/events` runs events, a digit for each code, on a chip in standby; the page is filled from FILL on.
 use cases::{cut, mixed, more};
+use host::Host;
 use parts::Loss;
-use text::{narrow, say, say_address, say_byte, say_number, wide};
+use text::{narrow, wide};
 
 // The numbers of a line of `c`, behind the part and the enable.
 const LOSS: usize = 2;
@@ -26,13 +27,14 @@ fn loss_of(n: usize) -> Loss {
     Loss::Lent(n == 2)
 }
 
-pub fn tell_page(v: [usize; 16]) {
+pub fn tell_page(host: &Host, v: [usize; 16]) {
     let mut own = v;
     own[crate::INHIBITED] = 0;
     own[crate::LOCKED] = 0;
     let mut page = [0u8; 65];
     cases::fill(&mut page, 200);
     crate::step_and_run(
+        host,
         own,
         loss_of(v[crate::INHIBITED]),
         cut(&page, 0, v[crate::LOCKED]),
@@ -65,9 +67,9 @@ fn spell(typed: &[u8], events: &mut [u8]) -> usize {
 
 // ---- what is left
 
-fn tell(words: &[u8], n: usize) {
-    say(words);
-    say_number(n);
+fn tell(host: &Host, words: &[u8], n: usize) {
+    host.say(words);
+    host.say_number(n);
 }
 
 // One more where byte i of the latches is the high byte of a latched one.
@@ -95,28 +97,28 @@ fn pair(high: u8, low: u8) -> usize {
 }
 
 // A state's bytes, as pack_chip lays them.
-fn tell_state(held: &[u8; 137]) {
-    tell(b", counter ", pair(held[0], held[1]));
-    tell(b", pin ", wide(held[2]));
-    tell(b", locked ", wide(held[4]));
-    tell(b", phase ", wide(held[5]));
-    tell(b", latches ", latched(cut(held, 9, 137)));
+fn tell_state(host: &Host, held: &[u8; 137]) {
+    tell(host, b", counter ", pair(held[0], held[1]));
+    tell(host, b", pin ", wide(held[2]));
+    tell(host, b", locked ", wide(held[4]));
+    tell(host, b", phase ", wide(held[5]));
+    tell(host, b", latches ", latched(cut(held, 9, 137)));
 }
 
-fn tell_byte(at: usize, x: u8) {
-    say(b" ");
-    say_address(at);
-    say(b" ");
-    say_byte(x);
+fn tell_byte(host: &Host, at: usize, x: u8) {
+    host.say(b" ");
+    host.say_address(at);
+    host.say(b" ");
+    host.say_byte(x);
 }
 
 // Each byte that is not as it was lent.
-fn tell_changed(s: &[u8], first: u8) {
+fn tell_changed(host: &Host, s: &[u8], first: u8) {
     let mut x = first;
     let mut i = 0;
     while i < s.len() {
         if s[i] != x {
-            tell_byte(i, s[i]);
+            tell_byte(host, i, s[i]);
         }
         x = cases::next(x);
         i += 1;
@@ -132,6 +134,7 @@ fn fresh(part: u8, held: &mut [u8], array: &mut [u8], id: &mut [u8]) {
 }
 
 fn run(
+    host: &Host,
     v: [usize; 16],
     page: &[u8],
     events: &[u8],
@@ -154,8 +157,11 @@ fn run(
     let verdict = r.verdict;
     let chip = r.chip;
     pack_chip::pack(chip, held);
-    crate::tell_tried(crate::answered(verdict, crate::both_filled(array, id)));
-    tell(b", cycles ", r.cycles);
+    crate::tell_tried(
+        host,
+        crate::answered(verdict, crate::both_filled(array, id)),
+    );
+    tell(host, b", cycles ", r.cycles);
 }
 
 fn step(
@@ -234,7 +240,7 @@ fn walked(
     both_same(&told, levels, both_same(&own, held, stored))
 }
 
-fn tell_run(v: [usize; 16], page: &[u8], events: &[u8]) {
+fn tell_run(host: &Host, v: [usize; 16], page: &[u8], events: &[u8]) {
     let part = narrow(v[crate::PART]);
     let mut held = [0u8; 137];
     let mut array = [0u8; 32768];
@@ -242,6 +248,7 @@ fn tell_run(v: [usize; 16], page: &[u8], events: &[u8]) {
     let mut levels = [0u8; MOST];
     fresh(part, &mut held, &mut array, &mut id);
     run(
+        host,
         v,
         page,
         events,
@@ -250,23 +257,23 @@ fn tell_run(v: [usize; 16], page: &[u8], events: &[u8]) {
         fitted::id(part, &mut id),
         &mut levels,
     );
-    tell_state(&held);
-    tell(b", levels ", mixed(&levels));
-    say(b"; array");
-    tell_changed(&array, 0);
-    say(b"; id");
-    tell_changed(&id, 100);
+    tell_state(host, &held);
+    tell(host, b", levels ", mixed(&levels));
+    host.say(b"; array");
+    tell_changed(host, &array, 0);
+    host.say(b"; id");
+    tell_changed(host, &id, 100);
     if walked(v, page, events, &held, &array, &id, &levels) {
-        say(b"; one by one the same");
+        host.say(b"; one by one the same");
     } else {
-        say(b"; one by one OTHERWISE");
+        host.say(b"; one by one OTHERWISE");
     }
 }
 
-pub fn tell_cut(v: [usize; 16], typed: &[u8]) {
+pub fn tell_cut(host: &Host, v: [usize; 16], typed: &[u8]) {
     let mut events = [0u8; MOST];
     let mut page = [0u8; 65];
     let n = spell(typed, &mut events);
     cases::fill(&mut page, narrow(v[FILL]));
-    tell_run(v, cut(&page, 0, v[PAGE]), cut(&events, 0, n));
+    tell_run(host, v, cut(&page, 0, v[PAGE]), cut(&events, 0, n));
 }

@@ -1,8 +1,9 @@
 // Images: what `save` writes of a line's chip, and what `load` takes of such an image, cut or with a byte changed.
 use crate::Tried;
 use cases::cut;
+use host::Host;
 use state::Chip;
-use text::{narrow, say, say_byte, say_number};
+use text::narrow;
 
 // More than the longest image takes.
 const LARGE: usize = 32840;
@@ -28,22 +29,22 @@ fn save_filled(v: [usize; 16], out: &mut [u8]) -> image::Saved {
     save(v, &crate::state_of(v), &array, &id, out)
 }
 
-fn tell_head(s: &[u8]) {
+fn tell_head(host: &Host, s: &[u8]) {
     let mut i = 0;
     while i < s.len() {
-        say(b" ");
-        say_byte(s[i]);
+        host.say(b" ");
+        host.say_byte(s[i]);
         i += 1;
     }
 }
 
 // Its length and its first seven bytes.
-fn tell_image(n: usize, out: &[u8]) {
+fn tell_image(host: &Host, n: usize, out: &[u8]) {
     if 0 < n {
-        say(b", ");
-        say_number(n);
-        say(b" bytes,");
-        tell_head(cut(out, 0, 7));
+        host.say(b", ");
+        host.say_number(n);
+        host.say(b" bytes,");
+        tell_head(host, cut(out, 0, 7));
     }
 }
 
@@ -54,16 +55,16 @@ fn left(out: &[u8], n: usize) -> bool {
     check::same(cut(out, n, LARGE), cut(&lent, n, LARGE))
 }
 
-pub fn tell_save(v: [usize; 16]) {
+pub fn tell_save(host: &Host, v: [usize; 16]) {
     let mut out = [0u8; LARGE];
     cases::fill(&mut out, 50);
     let saved = save_filled(v, fitted::first(&mut out, v[crate::ROOM]));
     let verdict = saved.verdict;
     let kept = left(&out, saved.length);
-    crate::tell_tried(crate::answered(verdict, kept));
-    tell_image(saved.length, &out);
+    crate::tell_tried(host, crate::answered(verdict, kept));
+    tell_image(host, saved.length, &out);
     if !kept {
-        say(b", MORE WRITTEN");
+        host.say(b", MORE WRITTEN");
     }
 }
 
@@ -99,17 +100,17 @@ fn load(v: [usize; 16], bytes: &[u8], array: &mut [u8], id: &mut [u8]) -> Tried 
     }
 }
 
-fn tell_loaded(t: Tried) {
-    say(b"fine, part ");
-    say_number(t.place);
+fn tell_loaded(host: &Host, t: Tried) {
+    host.say(b"fine, part ");
+    host.say_number(t.place);
     if t.kept {
-        say(b", saved again the same");
+        host.say(b", saved again the same");
     } else {
-        say(b", saved again OTHERWISE");
+        host.say(b", saved again OTHERWISE");
     }
 }
 
-fn load_filled(v: [usize; 16], bytes: &[u8]) {
+fn load_filled(host: &Host, v: [usize; 16], bytes: &[u8]) {
     let mut array = [0u8; 32769];
     let mut id = [0u8; 65];
     cases::fill(&mut array, 0);
@@ -121,17 +122,17 @@ fn load_filled(v: [usize; 16], bytes: &[u8]) {
         fitted::first(&mut id, v[crate::ID]),
     );
     if t.number == 0 {
-        return tell_loaded(t);
+        return tell_loaded(host, t);
     }
     let kept = crate::both_filled(&array, &id);
-    crate::tell_tried(Tried { kept: kept, ..t });
+    crate::tell_tried(host, Tried { kept: kept, ..t });
 }
 
 // The first bytes of the image, with one byte changed where the place lies in it.
-pub fn tell_load(v: [usize; 16]) {
+pub fn tell_load(host: &Host, v: [usize; 16]) {
     let mut out = [0u8; LARGE];
     cases::fill(&mut out, 50);
     image_of(v, &mut out);
     crate::set(&mut out, v[crate::FIRST], narrow(v[crate::CODE]));
-    load_filled(v, cut(&out, 0, v[crate::EVENTS]));
+    load_filled(host, v, cut(&out, 0, v[crate::EVENTS]));
 }

@@ -2,14 +2,15 @@
 // everything. A line is a letter for the call (`call`), sixteen numbers and, after a colon, what is tried; the lines of `cuts` have events
 // behind a slash.
 #![tactic(auto)]
+
 mod cuts;
 mod images;
 
 use cases::more;
-use libc::STDIN_FILENO;
+use host::{Host, STDIN};
 use parts::{Loss, Refusal, Verdict};
 use state::Chip;
-use text::{narrow, say, say_number};
+use text::narrow;
 
 // The numbers of a line, by their places.
 const PART: usize = 0;
@@ -270,29 +271,29 @@ fn is_event(t: Tried) -> bool {
 }
 
 // Whether anything changed is told only where the call is refused.
-fn tell_tried(t: Tried) {
+fn tell_tried(host: &Host, t: Tried) {
     if t.number == 0 {
-        say(b"fine");
+        host.say(b"fine");
         return;
     }
-    say(b"refused ");
-    say_number(text::wide(t.number));
+    host.say(b"refused ");
+    host.say_number(text::wide(t.number));
     if is_event(t) {
-        say(b" at ");
-        say_number(t.place);
+        host.say(b" at ");
+        host.say_number(t.place);
     }
     if t.kept {
-        say(b", unchanged");
+        host.say(b", unchanged");
     } else {
-        say(b", CHANGED");
+        host.say(b", CHANGED");
     }
 }
 
 // Prints the code where it is taken; one more where it is refused 5 at 0 with nothing changed.
-fn tell_code(t: Tried, code: u8, refused: usize) -> usize {
+fn tell_code(host: &Host, t: Tried, code: u8, refused: usize) -> usize {
     if t.number == 0 {
-        say_number(text::wide(code));
-        say(b" ");
+        host.say_number(text::wide(code));
+        host.say(b" ");
     }
     if is_event(t) {
         if t.place == 0 {
@@ -304,108 +305,110 @@ fn tell_code(t: Tried, code: u8, refused: usize) -> usize {
     refused
 }
 
-fn one_code(v: [usize; 16], list: bool, refused: usize) -> usize {
+fn one_code(host: &Host, v: [usize; 16], list: bool, refused: usize) -> usize {
     let code = narrow(v[CODE]);
     if list {
-        return tell_code(try_run(v, Loss::Old, b""), code, refused);
+        return tell_code(host, try_run(v, Loss::Old, b""), code, refused);
     }
-    tell_code(try_step(v, Loss::Old, b""), code, refused)
+    tell_code(host, try_step(v, Loss::Old, b""), code, refused)
 }
 
-fn codes(v: [usize; 16], list: bool) -> usize {
+fn codes(host: &Host, v: [usize; 16], list: bool) -> usize {
     let mut with = v;
     let mut refused = 0;
     let mut code = 0;
     while code < 256 {
         with[CODE] = code;
-        refused = one_code(with, list, refused);
+        refused = one_code(host, with, list, refused);
         code += 1;
     }
     refused
 }
 
 // Every code, in a step or as a list of one event.
-fn every_code(v: [usize; 16], list: bool) {
-    let refused = codes(v, list);
-    say(b"taken, ");
-    say_number(refused);
-    say(b" refused ");
-    say_number(text::wide(parts::number(Refusal::BadEvent(0))));
-    say(b" at 0, unchanged");
+fn every_code(host: &Host, v: [usize; 16], list: bool) {
+    let refused = codes(host, v, list);
+    host.say(b"taken, ");
+    host.say_number(refused);
+    host.say(b" refused ");
+    host.say_number(text::wide(parts::number(Refusal::BadEvent(0))));
+    host.say(b" at 0, unchanged");
 }
 
-fn step_and_run(v: [usize; 16], loss: Loss, page: &[u8]) {
-    say(b"step ");
-    tell_tried(try_step(v, loss, page));
-    say(b"; run ");
-    tell_tried(try_run(v, loss, page));
+fn step_and_run(host: &Host, v: [usize; 16], loss: Loss, page: &[u8]) {
+    host.say(b"step ");
+    tell_tried(host, try_step(v, loss, page));
+    host.say(b"; run ");
+    tell_tried(host, try_run(v, loss, page));
 }
 
-fn call_list(letter: u8, v: [usize; 16]) {
-    say(b"run ");
+fn call_list(host: &Host, letter: u8, v: [usize; 16]) {
+    host.say(b"run ");
     if letter == b'l' {
-        every_code(v, true);
+        every_code(host, v, true);
         return;
     }
-    tell_tried(try_run(v, Loss::Old, b""));
+    tell_tried(host, try_run(v, Loss::Old, b""));
 }
 
-fn call(letter: u8, v: [usize; 16], typed: &[u8]) {
+fn call(host: &Host, letter: u8, v: [usize; 16], typed: &[u8]) {
     match letter {
         b'a' => {
-            say(b"deliver ");
-            tell_tried(try_deliver(v));
-            say(b"; ");
-            step_and_run(v, Loss::Old, b"");
+            host.say(b"deliver ");
+            tell_tried(host, try_deliver(v));
+            host.say(b"; ");
+            step_and_run(host, v, Loss::Old, b"");
         }
-        b'b' => step_and_run(v, Loss::Old, b""),
-        b'p' => cuts::tell_page(v),
-        b'c' => cuts::tell_cut(v, typed),
+        b'b' => step_and_run(host, v, Loss::Old, b""),
+        b'p' => cuts::tell_page(host, v),
+        b'c' => cuts::tell_cut(host, v, typed),
         b's' => {
-            say(b"step ");
-            every_code(v, false);
+            host.say(b"step ");
+            every_code(host, v, false);
         }
         b'i' => {
-            say(b"save ");
-            images::tell_save(v);
+            host.say(b"save ");
+            images::tell_save(host, v);
         }
         b'o' => {
-            say(b"load ");
-            images::tell_load(v);
+            host.say(b"load ");
+            images::tell_load(host, v);
         }
-        _ => call_list(letter, v),
+        _ => call_list(host, letter, v),
     }
 }
 
-fn one(line: &[u8]) {
+fn one(host: &Host, line: &[u8]) {
     if 0 < line.len() {
         let tried = cases::label(line);
         let n = cases::place(tried, b'/');
-        say(cases::cut(tried, 0, n));
-        say(b": ");
+        host.say(cases::cut(tried, 0, n));
+        host.say(b": ");
         call(
+            host,
             line[0],
             cases::numbers(line),
             cases::cut(tried, n, tried.len()),
         );
-        say(b"\n");
+        host.say(b"\n");
     }
 }
 
-fn each(text: &[u8]) {
+fn each(host: &Host, text: &[u8]) {
     let mut start = 0;
     let mut i = 0;
     while i < text.len() {
         if text[i] == b'\n' {
-            one(cases::cut(text, start, i));
+            one(host, cases::cut(text, start, i));
             start = i + 1;
         }
         i += 1;
     }
 }
 
-fn main() {
+fn main(rt: HostRuntime) {
+    let host = Host::new(rt);
     let mut buf = io::large_buffer();
-    let n = io::read_full(STDIN_FILENO, &mut buf);
-    each(&buf[..n]);
+    let n = host.read_full(STDIN, &mut buf);
+    each(&host, &buf[..n]);
 }

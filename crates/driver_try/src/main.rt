@@ -1,10 +1,11 @@
 // Runs the driver on requests, limits and values out of range, and prints what it answers.
 #![tactic(auto)]
+
 ghost use Rattle.std.specs.Prelude.{◌≤◌};
 
 use driver::{Answer, Counts, Driver, Failed, Phase, Place, Request, Slot};
+use host::Host;
 use parts::{ArrayAddress, IdLocation, Verdict};
-use text::{say, say_number};
 
 // How a run ended: 0 done, the refusal's number and its page or index, or 255 for no end.
 #[derive(Clone, Copy)]
@@ -128,57 +129,60 @@ fn drive(request: Request, low: usize, buffer: &mut [u8]) -> Tally {
     }
 }
 
-fn tell(n: usize) {
-    say(b" ");
-    say_number(n);
+fn tell(host: &Host, n: usize) {
+    host.say(b" ");
+    host.say_number(n);
 }
 
-fn say_first(buffer: &[u8; 128]) {
-    tell(text::wide(buffer[0]));
+fn say_first(host: &Host, buffer: &[u8; 128]) {
+    tell(host, text::wide(buffer[0]));
 }
 
-fn say_tally(t: Tally) {
-    tell(text::wide(t.number));
-    tell(t.place);
-    tell(t.polls);
-    tell(t.bytes);
-    tell(t.events);
-    tell(t.clocks);
+fn say_tally(host: &Host, t: Tally) {
+    tell(host, text::wide(t.number));
+    tell(host, t.place);
+    tell(host, t.polls);
+    tell(host, t.bytes);
+    tell(host, t.events);
+    tell(host, t.clocks);
 }
 
 // Writes number, page or index, polls, bytes, events, clocks, and the first byte of the buffer.
-fn run(label: &[u8], request: Request, low: usize) {
+fn run(host: &Host, label: &[u8], request: Request, low: usize) {
     let mut buffer = [90u8; 128];
     let n = request.length;
-    say(label);
+    host.say(label);
     if n <= 128 {
         let t = drive(request, low, &mut buffer[..n]);
-        say_tally(t);
+        say_tally(host, t);
     }
-    say_first(&buffer);
-    say(b"\n");
+    say_first(host, &buffer);
+    host.say(b"\n");
 }
 
-fn judged(label: &[u8], request: Request) {
-    say(label);
-    tell(text::wide(parts::verdict_number(driver::judge(request))));
-    say(b"\n");
+fn judged(host: &Host, label: &[u8], request: Request) {
+    host.say(label);
+    tell(
+        host,
+        text::wide(parts::verdict_number(driver::judge(request))),
+    );
+    host.say(b"\n");
 }
 
 // One step of a driver made by hand, on a buffer of n bytes: number, page or index, position, and the first byte of the buffer.
-fn step(label: &[u8], d: Driver, n: usize) {
+fn step(host: &Host, label: &[u8], d: Driver, n: usize) {
     let mut buffer = [90u8; 128];
-    say(label);
+    host.say(label);
     if n <= 128 {
         let asked = driver::next(d, 0, &mut buffer[..n]);
         let answer = asked.answer;
         let t = ended(answer, 0, 0);
-        tell(text::wide(t.number));
-        tell(t.place);
-        tell(asked.driver.counts.at);
+        tell(host, text::wide(t.number));
+        tell(host, t.place);
+        tell(host, asked.driver.counts.at);
     }
-    say_first(&buffer);
-    say(b"\n");
+    say_first(host, &buffer);
+    host.say(b"\n");
 }
 
 fn made(phase: Phase, at: usize, seen: usize, tries: usize, polls: usize) -> Driver {
@@ -206,79 +210,142 @@ fn made_for(
     }
 }
 
-fn requests() {
-    judged(b"part 6", array(6, false, 0, 1, 1));
-    judged(b"part 0, enable 1", enabled(0, 1));
-    judged(b"part 2, enable 7", enabled(2, 7));
-    judged(b"part 2, enable 8", enabled(2, 8));
-    judged(b"part 2 at 8192, 0 bytes", array(2, false, 8192, 0, 1));
-    judged(b"part 2 at 8192, 1 byte", array(2, false, 8192, 1, 1));
-    judged(b"part 2 at 8191, 1 byte", array(2, false, 8191, 1, 1));
+fn requests(host: &Host) {
+    judged(host, b"part 6", array(6, false, 0, 1, 1));
+    judged(host, b"part 0, enable 1", enabled(0, 1));
+    judged(host, b"part 2, enable 7", enabled(2, 7));
+    judged(host, b"part 2, enable 8", enabled(2, 8));
     judged(
+        host,
+        b"part 2 at 8192, 0 bytes",
+        array(2, false, 8192, 0, 1),
+    );
+    judged(host, b"part 2 at 8192, 1 byte", array(2, false, 8192, 1, 1));
+    judged(host, b"part 2 at 8191, 1 byte", array(2, false, 8191, 1, 1));
+    judged(
+        host,
         b"address and length too large",
         array(2, true, 18446744073709551615, 2, 1),
     );
-    judged(b"budget 0", array(2, false, 0, 1, 0));
-    judged(b"budget 0, no bytes", array(2, false, 0, 0, 0));
-    judged(b"budget 1", array(2, false, 0, 1, 1));
-    judged(b"budget 1000", array(2, false, 0, 1, 1000));
-    judged(b"budget 1001", array(2, false, 0, 1, 1001));
-    judged(b"budget 1001, read", array(2, true, 0, 1, 1001));
-    judged(b"identification page to its end", ident(3, false, 30, 2, 1));
+    judged(host, b"budget 0", array(2, false, 0, 1, 0));
+    judged(host, b"budget 0, no bytes", array(2, false, 0, 0, 0));
+    judged(host, b"budget 1", array(2, false, 0, 1, 1));
+    judged(host, b"budget 1000", array(2, false, 0, 1, 1000));
+    judged(host, b"budget 1001", array(2, false, 0, 1, 1001));
+    judged(host, b"budget 1001, read", array(2, true, 0, 1, 1001));
     judged(
+        host,
+        b"identification page to its end",
+        ident(3, false, 30, 2, 1),
+    );
+    judged(
+        host,
         b"identification page over its end",
         ident(3, false, 30, 3, 1),
     );
-    judged(b"no identification page, 0 bytes", ident(2, true, 0, 0, 1));
+    judged(
+        host,
+        b"no identification page, 0 bytes",
+        ident(2, true, 0, 0, 1),
+    );
 }
 
-fn runs() {
+fn write_runs(host: &Host) {
     run(
+        host,
         b"part 2 at 8192, 0 bytes",
         array(2, false, 8192, 0, 1),
         60000,
     );
     run(
+        host,
         b"part 2 at 8191, 1 byte",
         array(2, false, 8191, 1, 1),
         60000,
     );
-    run(b"part 2 at 30, 5 bytes", array(2, false, 30, 5, 10), 60000);
-    run(b"always released", array(2, false, 30, 5, 10), 0);
-    run(b"address released", array(2, false, 30, 5, 10), 28);
-    run(b"data released", array(2, false, 30, 5, 10), 37);
-    run(b"polls released", array(2, false, 30, 5, 10), 49);
     run(
+        host,
+        b"part 2 at 30, 5 bytes",
+        array(2, false, 30, 5, 10),
+        60000,
+    );
+    run(host, b"always released", array(2, false, 30, 5, 10), 0);
+    run(host, b"address released", array(2, false, 30, 5, 10), 28);
+    run(host, b"data released", array(2, false, 30, 5, 10), 37);
+    run(host, b"polls released", array(2, false, 30, 5, 10), 49);
+    run(
+        host,
         b"part 0 at 250, 40 bytes",
         array(0, false, 250, 40, 1),
         60000,
     );
-    run(b"identification write", ident(1, false, 3, 13, 2), 60000);
-    run(b"read, always low", array(4, true, 32700, 68, 0), 60000);
     run(
+        host,
+        b"identification write",
+        ident(1, false, 3, 13, 2),
+        60000,
+    );
+}
+
+fn read_runs(host: &Host) {
+    run(
+        host,
+        b"read, always low",
+        array(4, true, 32700, 68, 0),
+        60000,
+    );
+    run(
+        host,
         b"read, low to the second select",
         array(4, true, 32700, 68, 0),
         39,
     );
     run(
+        host,
         b"read, second select released",
         array(4, true, 32700, 68, 0),
         38,
     );
-    run(b"read of 0 bytes", array(4, true, 32768, 0, 0), 0);
-    run(b"identification read", ident(5, true, 63, 1, 0), 60000);
-    run(b"refused request", array(2, false, 30, 5, 0), 60000);
+    run(host, b"read of 0 bytes", array(4, true, 32768, 0, 0), 0);
+    run(
+        host,
+        b"identification read",
+        ident(5, true, 63, 1, 0),
+        60000,
+    );
 }
 
-fn values() {
-    step(b"in range", made(Phase::Ready, 0, 0, 0, 0), 5);
-    step(b"buffer of 4", made(Phase::Ready, 0, 0, 0, 0), 4);
-    step(b"position 6", made(Phase::Ready, 6, 0, 0, 0), 5);
-    step(b"seen past the position", made(Phase::Ready, 1, 2, 0, 0), 5);
-    step(b"9 bits", made(Phase::Bits(Slot::Data, 9), 0, 0, 0, 0), 5);
-    step(b"11 polls for a page", made(Phase::Rest, 2, 0, 11, 11), 5);
-    step(b"21 polls in all", made(Phase::Rest, 2, 0, 1, 21), 5);
+fn runs(host: &Host) {
+    write_runs(host);
+    read_runs(host);
+    run(host, b"refused request", array(2, false, 30, 5, 0), 60000);
+}
+
+fn values(host: &Host) {
+    step(host, b"in range", made(Phase::Ready, 0, 0, 0, 0), 5);
+    step(host, b"buffer of 4", made(Phase::Ready, 0, 0, 0, 0), 4);
+    step(host, b"position 6", made(Phase::Ready, 6, 0, 0, 0), 5);
     step(
+        host,
+        b"seen past the position",
+        made(Phase::Ready, 1, 2, 0, 0),
+        5,
+    );
+    step(
+        host,
+        b"9 bits",
+        made(Phase::Bits(Slot::Data, 9), 0, 0, 0, 0),
+        5,
+    );
+    step(
+        host,
+        b"11 polls for a page",
+        made(Phase::Rest, 2, 0, 11, 11),
+        5,
+    );
+    step(host, b"21 polls in all", made(Phase::Rest, 2, 0, 1, 21), 5);
+    step(
+        host,
         b"a byte read in a write",
         made(Phase::Bits(Slot::Take, 8), 0, 0, 0, 0),
         5,
@@ -287,51 +354,53 @@ fn values() {
 
 // A refused driver made by hand: at the last address byte of parts with one and with two, at a data byte that was not sent, in the
 // second part.
-fn endings() {
+fn endings(host: &Host) {
     let last = Phase::Over(Failed::AtLow);
     let high = Phase::Over(Failed::AtHigh);
     let data = Phase::Over(Failed::AtData);
     let narrow = array(0, false, 30, 5, 10);
-    step(b"last of two", made(last, 2, 2, 1, 1), 5);
-    step(b"last of one", made_for(narrow, last, 2, 2, 1, 1), 5);
+    step(host, b"last of two", made(last, 2, 2, 1, 1), 5);
+    step(host, b"last of one", made_for(narrow, last, 2, 2, 1, 1), 5);
     step(
+        host,
         b"first of two, of which there is one",
         made_for(narrow, high, 2, 2, 1, 1),
         5,
     );
-    step(b"no data byte", made(data, 0, 0, 0, 0), 5);
-    step(b"third data byte", made(data, 3, 2, 1, 1), 5);
+    step(host, b"no data byte", made(data, 0, 0, 0, 0), 5);
+    step(host, b"third data byte", made(data, 3, 2, 1, 1), 5);
 }
 
-fn fails(label: &[u8], request: Request, low: usize) {
-    say(label);
-    tell(low);
-    run(b":", request, low);
+fn fails(host: &Host, label: &[u8], request: Request, low: usize) {
+    host.say(label);
+    tell(host, low);
+    run(host, b":", request, low);
 }
 
 // Which byte goes unanswered, on a line that fails after each number of askings.
-fn sweep(label: &[u8], request: Request, most: usize) {
+fn sweep(host: &Host, label: &[u8], request: Request, most: usize) {
     let mut low: usize = 0;
     while low < most {
-        fails(label, request, low);
+        fails(host, label, request, low);
         low += 1;
     }
 }
 
 // Writes of five bytes over a page's end, and reads.
-fn sweeps() {
-    sweep(b"write 0", array(0, false, 14, 5, 2), 112);
-    sweep(b"write 2", array(2, false, 30, 5, 2), 130);
-    sweep(b"write 5", array(5, false, 62, 5, 2), 130);
-    sweep(b"read 0", array(0, true, 300, 1, 0), 42);
-    sweep(b"read 2", array(2, true, 70, 1, 0), 51);
-    sweep(b"identification 5", ident(5, false, 3, 1, 1), 51);
+fn sweeps(host: &Host) {
+    sweep(host, b"write 0", array(0, false, 14, 5, 2), 112);
+    sweep(host, b"write 2", array(2, false, 30, 5, 2), 130);
+    sweep(host, b"write 5", array(5, false, 62, 5, 2), 130);
+    sweep(host, b"read 0", array(0, true, 300, 1, 0), 42);
+    sweep(host, b"read 2", array(2, true, 70, 1, 0), 51);
+    sweep(host, b"identification 5", ident(5, false, 3, 1, 1), 51);
 }
 
-fn main() {
-    requests();
-    runs();
-    values();
-    endings();
-    sweeps();
+fn main(rt: HostRuntime) {
+    let host = Host::new(rt);
+    requests(&host);
+    runs(&host);
+    values(&host);
+    endings(&host);
+    sweeps(&host);
 }

@@ -14,10 +14,10 @@ ghost use Rattle.chip_laws.specs.Runs.{steps_of};
 ghost use Rattle.trace.specs.Trace.{codes_of, refusal_text_of, traced_verdict_of, traced_of, trace_of, laying_of};
 
 use chip::Stepped;
+use host::Host;
 use line::{Line, Phase, Recv, Target};
 use parts::{Loss, Refusal, Verdict};
 use state::Chip;
-use text::{say, say_address, say_byte, say_number};
 use trace::Traced;
 
 // The clocks since the last Start, Stop or whole byte.
@@ -39,22 +39,22 @@ struct Told {
 
 // ---- words
 
-fn places(first: usize, last: usize) {
-    say_number(first);
+fn places(host: &Host, first: usize, last: usize) {
+    host.say_number(first);
     if first < last {
-        say(b"-");
-        say_number(last);
+        host.say(b"-");
+        host.say_number(last);
     }
-    say(b": ");
+    host.say(b": ");
 }
 
-fn tell_target(target: Target) {
+fn tell_target(host: &Host, target: Target) {
     match target {
         Target::Array => {
-            say(b"array");
+            host.say(b"array");
         }
         Target::Ident => {
-            say(b"identification page");
+            host.say(b"identification page");
         }
     }
 }
@@ -108,11 +108,11 @@ fn nothing(place: usize) -> Note {
     }
 }
 
-fn tell_answered(released: bool) {
+fn tell_answered(host: &Host, released: bool) {
     if released {
-        say(b", not acknowledged\n");
+        host.say(b", not acknowledged\n");
     } else {
-        say(b", acknowledged\n");
+        host.say(b", acknowledged\n");
     }
 }
 
@@ -124,78 +124,86 @@ fn page_of(part: u8) -> u16
 }
 
 // The byte that turned back to the page start: the counter stands there already (rule 3; `rolled` of the crate line).
-fn tell_rolled(part: u8, counter: u16) {
+fn tell_rolled(host: &Host, part: u8, counter: u16) {
     let p = page_of(part);
     if counter % p == 0 {
         if counter < 32768 {
-            say(b"  warning: turned back to the page start: this and later bytes land from ");
-            say_address(counter as usize);
-            say(b" on, not from ");
-            say_address((counter + p) as usize);
-            say(b"\n");
+            host.say(b"  warning: turned back to the page start: this and later bytes land from ");
+            host.say_address(counter as usize);
+            host.say(b" on, not from ");
+            host.say_address((counter + p) as usize);
+            host.say(b"\n");
         }
     }
 }
 
-fn tell_fill(part: u8, target: Target, more: bool, counter: u16, released: bool) {
-    say(b" data for ");
-    tell_target(target);
-    say(b" at ");
-    say_address(counter as usize);
-    tell_answered(released);
+fn tell_fill(host: &Host, part: u8, target: Target, more: bool, counter: u16, released: bool) {
+    host.say(b" data for ");
+    tell_target(host, target);
+    host.say(b" at ");
+    host.say_address(counter as usize);
+    tell_answered(host, released);
     if !released {
         if more {
-            tell_rolled(part, counter);
+            tell_rolled(host, part, counter);
         }
     }
 }
 
-fn tell_named(name: &[u8], released: bool) {
-    say(name);
-    tell_answered(released);
+fn tell_named(host: &Host, name: &[u8], released: bool) {
+    host.say(name);
+    tell_answered(host, released);
 }
 
-fn tell_received(part: u8, recv: Recv, counter: u16, released: bool) {
+fn tell_received(host: &Host, part: u8, recv: Recv, counter: u16, released: bool) {
     match recv {
-        Recv::Select => tell_named(b" select", released),
-        Recv::AddressHigh(_) => tell_named(b" address, high byte", released),
-        Recv::AddressLow(_, _) => tell_named(b" address", released),
-        Recv::Fill(t, more) => tell_fill(part, t, more, counter, released),
-        Recv::LockByte => tell_named(b" lock data", released),
-        Recv::LockTaken(_) => tell_named(b" second lock data", released),
+        Recv::Select => tell_named(host, b" select", released),
+        Recv::AddressHigh(_) => tell_named(host, b" address, high byte", released),
+        Recv::AddressLow(_, _) => tell_named(host, b" address", released),
+        Recv::Fill(t, more) => tell_fill(host, part, t, more, counter, released),
+        Recv::LockByte => tell_named(host, b" lock data", released),
+        Recv::LockTaken(_) => tell_named(host, b" second lock data", released),
     }
 }
 
-fn tell_sent(target: Target, byte: u8, last: bool) {
-    say_byte(byte);
-    say(b" read from ");
-    tell_target(target);
-    tell_answered(last);
+fn tell_sent(host: &Host, target: Target, byte: u8, last: bool) {
+    host.say_byte(byte);
+    host.say(b" read from ");
+    tell_target(host, target);
+    tell_answered(host, last);
 }
 
-fn tell_heard(byte: u8, why: &[u8]) {
-    say_byte(byte);
-    say(why);
+fn tell_heard(host: &Host, byte: u8, why: &[u8]) {
+    host.say_byte(byte);
+    host.say(why);
 }
 
-fn tell_taken(part: u8, recv: Recv, counter: u16, byte: u8, released: bool) {
-    say_byte(byte);
-    tell_received(part, recv, counter, released);
+fn tell_taken(host: &Host, part: u8, recv: Recv, counter: u16, byte: u8, released: bool) {
+    host.say_byte(byte);
+    tell_received(host, part, recv, counter, released);
 }
 
 // The line of a whole byte; `before` is the chip at its ninth clock.
-fn tell_byte(part: u8, note: Note, place: usize, before: Line, one: bool, released: bool) {
+fn tell_byte(
+    host: &Host,
+    part: u8,
+    note: Note,
+    place: usize,
+    before: Line,
+    one: bool,
+    released: bool,
+) {
     let phase = before.phase;
     let core = before.core;
     let counter = core.counter;
     let sent = note.sent;
     let seen = note.seen;
-    places(note.first, place);
+    places(host, note.first, place);
     match phase {
-        Phase::Idle => tell_heard(sent, b", not addressed\n"),
-        Phase::Receive(r) => tell_taken(part, r, counter, sent, released),
-        Phase::Send(t) => tell_sent(t, seen, one),
-        Phase::Busy(_) => tell_heard(sent, b", not acknowledged: a cycle is running\n"),
+        Phase::Idle => tell_heard(host, sent, b", not addressed\n"),
+        Phase::Receive(r) => tell_taken(host, part, r, counter, sent, released),
+        Phase::Send(t) => tell_sent(host, t, seen, one),
+        Phase::Busy(_) => tell_heard(host, sent, b", not acknowledged: a cycle is running\n"),
     }
 }
 
@@ -210,38 +218,38 @@ fn is_busy(phase: Phase) -> bool {
     }
 }
 
-fn tell_end(place: usize, code: u8) {
-    places(place, place);
+fn tell_end(host: &Host, place: usize, code: u8) {
+    places(host, place, place);
     if code == 4 {
-        say(b"cycle ended\n");
+        host.say(b"cycle ended\n");
     } else {
-        say(b"cycle given up by the reset\n");
+        host.say(b"cycle given up by the reset\n");
     }
 }
 
-fn tell_cycle(place: usize, code: u8, before: Line, after: Line, cycles: u8) {
+fn tell_cycle(host: &Host, place: usize, code: u8, before: Line, after: Line, cycles: u8) {
     let was = before.phase;
     let now = after.phase;
     if 0 < cycles {
-        places(place, place);
-        say(b"cycle begun\n");
+        places(host, place, place);
+        host.say(b"cycle begun\n");
     } else {
         let ran = is_busy(was);
         let runs = is_busy(now);
         if ran {
             if !runs {
-                tell_end(place, code);
+                tell_end(host, place, code);
             }
         }
     }
 }
 
-fn tell_cut(note: Note, place: usize) {
+fn tell_cut(host: &Host, note: Note, place: usize) {
     if 0 < note.clocks {
         if note.clocks < 9 {
-            places(note.first, place);
-            say_number(text::wide(note.clocks));
-            say(b" clocks of a byte, given up\n");
+            places(host, note.first, place);
+            host.say_number(text::wide(note.clocks));
+            host.say(b" clocks of a byte, given up\n");
         }
     }
 }
@@ -254,10 +262,10 @@ fn cuts(code: u8) -> bool {
     code == 8
 }
 
-fn tell_other(note: Note, place: usize, code: u8) -> Note {
+fn tell_other(host: &Host, note: Note, place: usize, code: u8) -> Note {
     let cut = cuts(code);
     if cut {
-        tell_cut(note, place);
+        tell_cut(host, note, place);
         return nothing(place);
     }
     note
@@ -265,28 +273,45 @@ fn tell_other(note: Note, place: usize, code: u8) -> Note {
 
 // ---- the walk
 
-fn tell_clock(part: u8, note: Note, place: usize, before: Line, code: u8, level: u8) -> Note {
+fn tell_clock(
+    host: &Host,
+    part: u8,
+    note: Note,
+    place: usize,
+    before: Line,
+    code: u8,
+    level: u8,
+) -> Note {
     let one = code == 1;
     let released = level == 1;
     let next = clocked(note, place, one, released);
     if next.clocks == 9 {
-        tell_byte(part, next, place, before, one, released);
+        tell_byte(host, part, next, place, before, one, released);
         return nothing(place);
     }
     next
 }
 
-fn tell(part: u8, note: Note, place: usize, before: Line, code: u8, stepped: Stepped) -> Note {
+fn tell(
+    host: &Host,
+    part: u8,
+    note: Note,
+    place: usize,
+    before: Line,
+    code: u8,
+    stepped: Stepped,
+) -> Note {
     let held = stepped.chip;
     let after = held.line;
-    tell_cycle(place, code, before, after, stepped.cycles);
+    tell_cycle(host, place, code, before, after, stepped.cycles);
     if code < 2 {
-        return tell_clock(part, note, place, before, code, stepped.level);
+        return tell_clock(host, part, note, place, before, code, stepped.level);
     }
-    tell_other(note, place, code)
+    tell_other(host, note, place, code)
 }
 
 fn turn(
+    host: &Host,
     part: u8,
     enable: u8,
     held: Chip,
@@ -302,7 +327,7 @@ fn turn(
 {
     let before = held.line;
     let stepped = chip::step(part, enable, Loss::Old, b"", held, array, id, code);
-    let next = tell(part, note, place, before, code, stepped);
+    let next = tell(host, part, note, place, before, code, stepped);
     Told {
         stepped: stepped,
         note: next,
@@ -311,6 +336,7 @@ fn turn(
 
 // Every letter's step, one after the other: the levels into the lent buffer, and the sum of the cycles.
 fn follow(
+    host: &Host,
     part: u8,
     enable: u8,
     first: Chip,
@@ -330,7 +356,7 @@ fn follow(
     let mut i = 0;
     while i < letters.len() {
         let code = trace::code_of(letters[i]);
-        let t = turn(part, enable, held, note, i, code, array, id);
+        let t = turn(host, part, enable, held, note, i, code, array, id);
         let s = t.stepped;
         let noted = t.note;
         let next = s.chip;
@@ -345,6 +371,7 @@ fn follow(
 
 // From delivery. A text that is judged fine: its steps are its run.
 fn walk(
+    host: &Host,
     part: u8,
     enable: u8,
     letters: &[u8],
@@ -360,10 +387,11 @@ fn walk(
 {
     let delivered = chip::deliver(part, array, id);
     let held = delivered.chip;
-    follow(part, enable, held, letters, array, id, levels)
+    follow(host, part, enable, held, letters, array, id, levels)
 }
 
 fn tell_fitted(
+    host: &Host,
     part: u8,
     enable: u8,
     letters: &[u8],
@@ -377,11 +405,11 @@ fn tell_fitted(
     ensures answer { result ≡ (laying_of out.old (traced_of part enable (codes_of letters.now))).answer }
     ensures text { out.new ≡ (laying_of out.old (traced_of part enable (codes_of letters.now))).out }
 {
-    let cycles = walk(part, enable, letters, array, id, levels);
+    let cycles = walk(host, part, enable, letters, array, id, levels);
     trace::print(part, Verdict::Fine, levels, cycles, out)
 }
 
-fn tell_letters(part: u8, enable: u8, letters: &[u8], out: &mut [u8]) -> Traced
+fn tell_letters(host: &Host, part: u8, enable: u8, letters: &[u8], out: &mut [u8]) -> Traced
     requires { traced_verdict_of part enable (codes_of letters.now) ≡ Fine }
     ensures answer { result ≡ (laying_of out.old (traced_of part enable (codes_of letters.now))).answer }
     ensures text { out.new ≡ (laying_of out.old (traced_of part enable (codes_of letters.now))).out }
@@ -391,6 +419,7 @@ fn tell_letters(part: u8, enable: u8, letters: &[u8], out: &mut [u8]) -> Traced
     let mut levels = [0u8; 32768];
     let n = letters.len();
     tell_fitted(
+        host,
         part,
         enable,
         letters,
@@ -410,14 +439,14 @@ fn refused(r: Refusal, out: &mut [u8]) -> Traced
 }
 
 // The answer of `trace`, from one reading and one run of the text; the run is told on the way. Of a refused text nothing is told.
-pub fn explain(text: &[u8], out: &mut [u8]) -> Traced
+pub fn explain(host: &Host, text: &[u8], out: &mut [u8]) -> Traced
     ensures answer { result ≡ (laying_of out.old (trace_of text.now)).answer }
     ensures text { out.new ≡ (laying_of out.old (trace_of text.now)).out }
 {
     let judged = trace::judge(text);
     let verdict = judged.verdict;
     match verdict {
-        Verdict::Fine => tell_letters(judged.part, judged.enable, trace::letters(text), out),
+        Verdict::Fine => tell_letters(host, judged.part, judged.enable, trace::letters(text), out),
         Verdict::Refused(r) => refused(r, out),
     }
 }

@@ -1,6 +1,7 @@
 // Stored chips: an image, an Intel HEX file or raw bytes that are read, and each of them written into a file that is there whole or not at
 // all. A chip is held as its bytes.
 #![tactic(auto)]
+
 pub mod counts;
 pub mod lost;
 mod saved;
@@ -13,7 +14,7 @@ mod why;
 ghost use Rattle.std.specs.Prelude.{◌≡◌, length};
 
 use hexfile::HexRead;
-use libc::STDIN_FILENO;
+use host::{Host, STDIN};
 use parts::{Loss, Refusal, Verdict};
 use wear::Most;
 use words::{Job, Number, form, status};
@@ -45,58 +46,58 @@ pub fn room() -> [u8; 1048577]
     [0; 1048577]
 }
 
-fn warn(what: &[u8]) {
-    tell::say(what);
+fn warn(host: &Host, what: &[u8]) {
+    tell::say(host, what);
 }
 
 // Why a file that is read is of no use: nothing is answered.
-pub fn complain(word: usize, what: &[u8]) {
-    warn(b"sapwoodle: ");
-    tell::name(word);
-    warn(what);
-    status::trouble();
+pub fn complain(host: &Host, word: usize, what: &[u8]) {
+    warn(host, b"sapwoodle: ");
+    tell::name(host, word);
+    warn(host, what);
+    status::trouble(host);
 }
 
-pub fn unread(word: usize) {
-    complain(word, b": cannot be read\n");
+pub fn unread(host: &Host, word: usize) {
+    complain(host, word, b": cannot be read\n");
 }
 
 // The file of this name, opened; below 0 where it cannot be, and standard error has the reason.
-pub fn open_named(name: &[u8]) -> i32 {
-    let fd = os::open_read(name);
+pub fn open_named(host: &Host, name: &[u8]) -> i32 {
+    let fd = host.open_read(name);
     if fd < 0 {
-        words::failed(name);
+        words::failed(host, name);
     }
     fd
 }
 
 // The file that a word names, opened; below 0 where it cannot be, and standard error has the reason.
-pub fn open(word: usize) -> i32 {
-    if words::is_input(word) {
-        return STDIN_FILENO;
+pub fn open(host: &Host, word: usize) -> i32 {
+    if words::is_input(host, word) {
+        return STDIN;
     }
     let mut name = io::buffer();
-    let n = os::arg(word, &mut name);
-    open_named(&name[..n])
+    let n = host.arg(word, &mut name);
+    open_named(host, &name[..n])
 }
 
-pub fn close(word: usize, fd: i32) {
-    if !words::is_input(word) {
-        libc::close(fd);
+pub fn close(host: &Host, word: usize, fd: i32) {
+    if !words::is_input(host, word) {
+        host.close(fd);
     }
 }
 
 // All that the file has which a word names, into a buffer that `room` made; of a longer one as much as there is room for.
-pub fn contents(word: usize, to: &mut [u8]) -> Number {
-    let fd = open(word);
+pub fn contents(host: &Host, word: usize, to: &mut [u8]) -> Number {
+    let fd = open(host, word);
     if fd < 0 {
         return Number { ok: false, n: 0 };
     }
-    let got = words::read_all(fd, to);
+    let got = words::read_all(host, fd, to);
     if !got.ok {
-        unread(word);
+        unread(host, word);
     }
-    close(word, fd);
+    close(host, word, fd);
     got
 }
 
@@ -113,23 +114,28 @@ pub fn delivered(part: u8, held: &mut [u8], array: &mut [u8], id: &mut [u8]) -> 
 }
 
 // A file that is too long is not looked at, and has no number; of a longer image the length is wrong.
-pub fn too_long(word: usize, n: usize) -> bool {
+pub fn too_long(host: &Host, word: usize, n: usize) -> bool {
     if n <= MOST {
         return false;
     }
-    complain(word, b": got more than 1048576 bytes, wanted no more\n");
+    complain(
+        host,
+        word,
+        b": got more than 1048576 bytes, wanted no more\n",
+    );
     true
 }
 
-fn told(verdict: Verdict, word: usize, part: u8, text: &[u8]) {
+fn told(host: &Host, verdict: Verdict, word: usize, part: u8, text: &[u8]) {
     match verdict {
         Verdict::Fine => {}
-        Verdict::Refused(r) => why::tell(word, part, text, r),
+        Verdict::Refused(r) => why::tell(host, word, part, text, r),
     }
 }
 
 // A chip as delivered with the array of a text.
 fn hex_chip(
+    host: &Host,
     word: usize,
     part: u8,
     text: &[u8],
@@ -140,11 +146,12 @@ fn hex_chip(
     delivered(part, held, array, id);
     let read = hexfile::read(part, text, array);
     let verdict = read.verdict;
-    told(verdict, word, part, text);
+    told(host, verdict, word, part, text);
     read
 }
 
 fn hex_from(
+    host: &Host,
     word: usize,
     part: u8,
     bytes: &mut [u8],
@@ -152,22 +159,23 @@ fn hex_from(
     array: &mut [u8],
     id: &mut [u8],
 ) -> HexReady {
-    let got = contents(word, bytes);
+    let got = contents(host, word, bytes);
     let n = got.n;
     if !got.ok {
         return HexReady::Told;
     }
-    if too_long(word, n) {
+    if too_long(host, word, n) {
         return HexReady::Told;
     }
     if n <= bytes.len() {
-        return HexReady::Read(hex_chip(word, part, &bytes[0..n], held, array, id));
+        return HexReady::Read(hex_chip(host, word, part, &bytes[0..n], held, array, id));
     }
     HexReady::Told
 }
 
 // The chip that the HEX file named by a word has.
 pub fn hex_fetched(
+    host: &Host,
     word: usize,
     part: u8,
     held: &mut [u8],
@@ -175,7 +183,7 @@ pub fn hex_fetched(
     id: &mut [u8],
 ) -> HexReady {
     let mut bytes = room();
-    hex_from(word, part, &mut bytes, held, array, id)
+    hex_from(host, word, part, &mut bytes, held, array, id)
 }
 
 // ---- reading an image
@@ -216,20 +224,21 @@ fn is_image(part: u8, bytes: &[u8]) -> bool {
 }
 
 // An image of another part is not what was meant; anything else is no image.
-fn other(word: usize, part: u8, bytes: &[u8]) -> Ready {
+fn other(host: &Host, word: usize, part: u8, bytes: &[u8]) -> Ready {
     let found = image::part_in(bytes);
     if is_image(found, bytes) {
-        complain(word, b": got an image of part ");
-        tell::number(text::wide(found));
-        warn(b", wanted part ");
-        tell::number(text::wide(part));
-        warn(b"\n");
+        complain(host, word, b": got an image of part ");
+        tell::number(host, text::wide(found));
+        warn(host, b", wanted part ");
+        tell::number(host, text::wide(part));
+        warn(host, b"\n");
         return Ready::Told;
     }
     Ready::Judged(Verdict::Refused(Refusal::BadImage), false, unworn())
 }
 
 fn load(
+    host: &Host,
     word: usize,
     part: u8,
     enable: u8,
@@ -242,7 +251,7 @@ fn load(
     let l = image_worn::load_worn(bytes, enable, array, id, counts);
     let loaded = l.loaded;
     if loaded.part != part {
-        return other(word, part, bytes);
+        return other(host, word, part, bytes);
     }
     let verdict = loaded.verdict;
     let worst = l.worst;
@@ -252,6 +261,7 @@ fn load(
 
 // An image: of one that is refused standard error has the reason.
 fn image_chip(
+    host: &Host,
     word: usize,
     part: u8,
     enable: u8,
@@ -261,17 +271,18 @@ fn image_chip(
     id: &mut [u8],
     counts: &mut [u32],
 ) -> Ready {
-    let ready = load(word, part, enable, bytes, held, array, id, counts);
+    let ready = load(host, word, part, enable, bytes, held, array, id, counts);
     if refused(ready) {
-        shape::tell(word, bytes);
-        shape::or_raw(part, bytes);
-        warn(b"\n");
+        shape::tell(host, word, bytes);
+        shape::or_raw(host, part, bytes);
+        warn(host, b"\n");
     }
     ready
 }
 
 // A chip as delivered with these bytes as its array.
 fn raw_chip(
+    host: &Host,
     word: usize,
     part: u8,
     bytes: &[u8],
@@ -284,14 +295,14 @@ fn raw_chip(
         parts::copy(array, 0, bytes);
         return verdict;
     }
-    shape::tell_length(word, bytes.len(), array.len());
+    shape::tell_length(host, word, bytes.len(), array.len());
     Verdict::Refused(Refusal::BadImage)
 }
 
 // What a file is: its name may say it, else what stands in it does.
-pub fn form_in(word: usize, part: u8, bytes: &[u8]) -> u8 {
+pub fn form_in(host: &Host, word: usize, part: u8, bytes: &[u8]) -> u8 {
     let f = parts::facts_of(part);
-    let named = form::of_word(word);
+    let named = form::of_word(host, word);
     if named != form::UNSAID {
         return named;
     }
@@ -306,6 +317,7 @@ pub fn form_in(word: usize, part: u8, bytes: &[u8]) -> u8 {
 
 // The chip of a file's bytes, of any form. What has no counts leaves those that are lent, which are zeros.
 pub fn chip_in(
+    host: &Host,
     word: usize,
     part: u8,
     enable: u8,
@@ -315,25 +327,26 @@ pub fn chip_in(
     id: &mut [u8],
     counts: &mut [u32],
 ) -> Ready {
-    match form_in(word, part, bytes) {
+    match form_in(host, word, part, bytes) {
         form::HEX => {
-            if too_long(word, bytes.len()) {
+            if too_long(host, word, bytes.len()) {
                 return Ready::Told;
             }
-            let read = hex_chip(word, part, bytes, held, array, id);
+            let read = hex_chip(host, word, part, bytes, held, array, id);
             let verdict = read.verdict;
             Ready::Judged(verdict, false, unworn())
         }
         form::RAW => Ready::Judged(
-            raw_chip(word, part, bytes, held, array, id),
+            raw_chip(host, word, part, bytes, held, array, id),
             false,
             unworn(),
         ),
-        _ => image_chip(word, part, enable, bytes, held, array, id, counts),
+        _ => image_chip(host, word, part, enable, bytes, held, array, id, counts),
     }
 }
 
 fn chip_from(
+    host: &Host,
     word: usize,
     part: u8,
     enable: u8,
@@ -343,11 +356,21 @@ fn chip_from(
     id: &mut [u8],
     counts: &mut [u32],
 ) -> Ready {
-    let got = contents(word, bytes);
+    let got = contents(host, word, bytes);
     let n = got.n;
     if got.ok {
         if n <= bytes.len() {
-            return chip_in(word, part, enable, &bytes[0..n], held, array, id, counts);
+            return chip_in(
+                host,
+                word,
+                part,
+                enable,
+                &bytes[0..n],
+                held,
+                array,
+                id,
+                counts,
+            );
         }
     }
     Ready::Told
@@ -355,6 +378,7 @@ fn chip_from(
 
 // The chip that the file named by a word has.
 pub fn fetched(
+    host: &Host,
     word: usize,
     part: u8,
     enable: u8,
@@ -364,7 +388,9 @@ pub fn fetched(
     counts: &mut [u32],
 ) -> Ready {
     let mut bytes = room();
-    chip_from(word, part, enable, &mut bytes, held, array, id, counts)
+    chip_from(
+        host, word, part, enable, &mut bytes, held, array, id, counts,
+    )
 }
 
 // ---- the chip that a command asks for
@@ -380,6 +406,7 @@ pub fn judged(job: Job) -> Verdict {
 
 // As delivered, or from the image.
 pub fn at_first(
+    host: &Host,
     job: Job,
     held: &mut [u8],
     array: &mut [u8],
@@ -389,7 +416,7 @@ pub fn at_first(
     if job.image == 0 {
         return Ready::Judged(delivered(job.part, held, array, id), false, unworn());
     }
-    fetched(job.image, job.part, job.own, held, array, id, counts)
+    fetched(host, job.image, job.part, job.own, held, array, id, counts)
 }
 
 fn pinned(
@@ -456,17 +483,24 @@ pub fn keeps(job: Job) -> bool {
 }
 
 // Whether the file stands that a job saves, in its form and without counts; or none is asked for.
-pub fn save(job: Job, held: &[u8], array: &[u8], id: &[u8]) -> bool {
+pub fn save(host: &Host, job: Job, held: &[u8], array: &[u8], id: &[u8]) -> bool {
     if job.save == 0 {
         return true;
     }
-    saved::formed(job, held, array, id)
+    saved::formed(host, job, held, array, id)
 }
 
 // The same, with the counts where the job keeps them.
-pub fn save_kept(job: Job, held: &[u8], array: &[u8], id: &[u8], counts: &[u32]) -> bool {
+pub fn save_kept(
+    host: &Host,
+    job: Job,
+    held: &[u8],
+    array: &[u8],
+    id: &[u8],
+    counts: &[u32],
+) -> bool {
     if keeps(job) {
-        return saved::worn(job.save, job.part, held, array, id, counts);
+        return saved::worn(host, job.save, job.part, held, array, id, counts);
     }
-    save(job, held, array, id)
+    save(host, job, held, array, id)
 }

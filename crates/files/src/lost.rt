@@ -1,5 +1,6 @@
 // What the array alone, as Intel HEX or as raw bytes, does not hold of a chip: told, since it is left out.
 use crate::tell::say;
+use host::Host;
 use state::Chip;
 
 fn as_delivered(part: u8, id: &[u8], array: &mut [u8], own: &mut [u8]) -> bool {
@@ -19,18 +20,25 @@ fn id_delivered(part: u8, id: &[u8]) -> bool {
 }
 
 // `worn`: there are counts of wear.
-pub fn tell(part: u8, chip: Chip, id: &[u8], worn: bool) {
+pub fn tell(host: &Host, part: u8, chip: Chip, id: &[u8], worn: bool) {
     let line = chip.line;
     let core = line.core;
     if !id_delivered(part, id) {
         say(
+            host,
             b"sapwoodle: the identification page is not as delivered, and HEX and raw bytes do not hold it\n",
         );
     }
     if core.locked {
-        say(b"sapwoodle: the lock is not as delivered, and HEX and raw bytes do not hold it\n");
+        say(
+            host,
+            b"sapwoodle: the lock is not as delivered, and HEX and raw bytes do not hold it\n",
+        );
     }
     if worn {
-        say(b"sapwoodle: there are counts of wear, and HEX and raw bytes do not hold them\n");
+        say(
+            host,
+            b"sapwoodle: there are counts of wear, and HEX and raw bytes do not hold them\n",
+        );
     }
 }

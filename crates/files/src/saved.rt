@@ -1,26 +1,28 @@
 // A chip in a file: as an EPR image, as Intel HEX or as the raw bytes of its array.
 use crate::lost;
 use crate::store::store;
+use host::Host;
 use image::Saved;
 use words::{Job, form};
 
-fn save_in(word: usize, saved: Saved, out: &[u8]) -> bool {
+fn save_in(host: &Host, word: usize, saved: Saved, out: &[u8]) -> bool {
     let n = saved.length;
     if n <= out.len() {
-        return store(word, &out[0..n]);
+        return store(host, word, &out[0..n]);
     }
     false
 }
 
 // Of version 1.
-fn plain(word: usize, part: u8, held: &[u8], array: &[u8], id: &[u8]) -> bool {
+fn plain(host: &Host, word: usize, part: u8, held: &[u8], array: &[u8], id: &[u8]) -> bool {
     let mut out = [0u8; 32839];
     let saved = image::save(part, pack_chip::unpack(held), array, id, &mut out);
-    save_in(word, saved, &out)
+    save_in(host, word, saved, &out)
 }
 
 // Of version 2.
 pub(crate) fn worn(
+    host: &Host,
     word: usize,
     part: u8,
     held: &[u8],
@@ -30,32 +32,32 @@ pub(crate) fn worn(
 ) -> bool {
     let mut out = [0u8; 65607];
     let saved = image_worn::save_worn(part, pack_chip::unpack(held), array, id, counts, &mut out);
-    save_in(word, saved, &out)
+    save_in(host, word, saved, &out)
 }
 
-fn spelled(word: usize, part: u8, array: &[u8], out: &mut [u8]) -> bool {
+fn spelled(host: &Host, word: usize, part: u8, array: &[u8], out: &mut [u8]) -> bool {
     let written = hexfile::write(part, array, out);
     let n = written.length;
     if n <= out.len() {
-        return store(word, &out[0..n]);
+        return store(host, word, &out[0..n]);
     }
     false
 }
 
 // The text of the largest array fits.
-fn hex(word: usize, part: u8, array: &[u8]) -> bool {
+fn hex(host: &Host, word: usize, part: u8, array: &[u8]) -> bool {
     let mut out = [0u8; 90124];
-    spelled(word, part, array, &mut out)
+    spelled(host, word, part, array, &mut out)
 }
 
 // Without counts. What the array alone does not hold is told.
-pub(crate) fn formed(job: Job, held: &[u8], array: &[u8], id: &[u8]) -> bool {
+pub(crate) fn formed(host: &Host, job: Job, held: &[u8], array: &[u8], id: &[u8]) -> bool {
     if job.form == form::EPR {
-        return plain(job.save, job.part, held, array, id);
+        return plain(host, job.save, job.part, held, array, id);
     }
-    lost::tell(job.part, pack_chip::unpack(held), id, job.wear);
+    lost::tell(host, job.part, pack_chip::unpack(held), id, job.wear);
     if job.form == form::HEX {
-        return hex(job.save, job.part, array);
+        return hex(host, job.save, job.part, array);
     }
-    store(job.save, array)
+    store(host, job.save, array)
 }

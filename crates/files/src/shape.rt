@@ -1,5 +1,6 @@
 // Why a file is no image: what stands there and what was wanted, on standard error. A file of counts has a mark, a version and a part too.
 use crate::tell::{byte, name, number, say};
+use host::Host;
 
 // Room for one byte more than the largest image has, so that a longer file is seen to be too long.
 pub const ROOM: usize = 65608;
@@ -15,13 +16,13 @@ const LOCK: usize = 6;
 // ---- what both kinds of files have
 
 // `mark 45h 50h 52h`: the bytes may be none that can be shown.
-pub fn mark(bytes: &[u8]) {
-    say(b"mark ");
-    byte(parts::byte_at(bytes, 0));
-    say(b" ");
-    byte(parts::byte_at(bytes, 1));
-    say(b" ");
-    byte(parts::byte_at(bytes, 2));
+pub fn mark(host: &Host, bytes: &[u8]) {
+    say(host, b"mark ");
+    byte(host, parts::byte_at(bytes, 0));
+    say(host, b" ");
+    byte(host, parts::byte_at(bytes, 1));
+    say(host, b" ");
+    byte(host, parts::byte_at(bytes, 2));
 }
 
 pub fn marked(bytes: &[u8], last: u8) -> bool {
@@ -31,11 +32,11 @@ pub fn marked(bytes: &[u8], last: u8) -> bool {
 }
 
 // `version 0003h`
-pub fn version(bytes: &[u8]) {
+pub fn version(host: &Host, bytes: &[u8]) {
     let high = text::hex(parts::byte_at(bytes, 3));
-    say(b"version ");
-    say(&[high[0], high[1]]);
-    byte(parts::byte_at(bytes, 4));
+    say(host, b"version ");
+    say(host, &[high[0], high[1]]);
+    byte(host, parts::byte_at(bytes, 4));
 }
 
 pub fn versioned(bytes: &[u8], least: u8, most: u8) -> bool {
@@ -43,21 +44,21 @@ pub fn versioned(bytes: &[u8], least: u8, most: u8) -> bool {
     (parts::byte_at(bytes, 3) == 0) & (least <= low) & (low <= most)
 }
 
-pub fn no_part(part: u8) {
-    say(b"part ");
-    number(text::wide(part));
-    say(b", wanted 0 to 5");
+pub fn no_part(host: &Host, part: u8) {
+    say(host, b"part ");
+    number(host, text::wide(part));
+    say(host, b", wanted 0 to 5");
 }
 
 // Of a file that is longer than any, not all was read: no more than there was room for.
-pub fn found(n: usize, room: usize) {
-    number(n);
+pub fn found(host: &Host, n: usize, room: usize) {
+    number(host, n);
     if n == 1 {
-        return say(b" byte");
+        return say(host, b" byte");
     }
-    say(b" bytes");
+    say(host, b" bytes");
     if (n == room) | (n == WHOLE) {
-        say(b" or more");
+        say(host, b" or more");
     }
 }
 
@@ -71,97 +72,97 @@ pub fn length_of(version: u8, part: u8) -> usize {
     image_worn::worn_length(part)
 }
 
-fn length(n: usize, wanted: usize) {
-    say(b"got ");
-    found(n, ROOM);
-    say(b", wanted ");
-    number(wanted);
+fn length(host: &Host, n: usize, wanted: usize) {
+    say(host, b"got ");
+    found(host, n, ROOM);
+    say(host, b", wanted ");
+    number(host, wanted);
 }
 
 // A part without an identification page has no lock.
-fn lock(flag: u8, ident: bool) {
-    say(b"found lock byte ");
-    byte(flag);
-    say(b", wanted 00h");
+fn lock(host: &Host, flag: u8, ident: bool) {
+    say(host, b"found lock byte ");
+    byte(host, flag);
+    say(host, b", wanted 00h");
     if ident {
-        say(b" or 01h");
+        say(host, b" or 01h");
     }
 }
 
-fn behind_version(part: u8, ident: bool, bytes: &[u8]) {
+fn behind_version(host: &Host, part: u8, ident: bool, bytes: &[u8]) {
     let wanted = length_of(parts::byte_at(bytes, 4), part);
     if bytes.len() != wanted {
-        return length(bytes.len(), wanted);
+        return length(host, bytes.len(), wanted);
     }
-    lock(parts::byte_at(bytes, LOCK), ident);
+    lock(host, parts::byte_at(bytes, LOCK), ident);
 }
 
-fn no_mark(bytes: &[u8]) {
-    say(b"found ");
-    mark(bytes);
-    say(b", wanted 45h 50h 52h, EPR");
+fn no_mark(host: &Host, bytes: &[u8]) {
+    say(host, b"found ");
+    mark(host, bytes);
+    say(host, b", wanted 45h 50h 52h, EPR");
 }
 
 // Refusal 1 is given before 12; a file that is no image at all is to be seen as one.
-fn unknown(part: u8, bytes: &[u8]) {
-    say(b"found ");
-    no_part(part);
+fn unknown(host: &Host, part: u8, bytes: &[u8]) {
+    say(host, b"found ");
+    no_part(host, part);
     if !marked(bytes, b'R') {
-        say(b"; ");
-        no_mark(bytes);
+        say(host, b"; ");
+        no_mark(host, bytes);
     }
 }
 
-fn malformed(part: u8, ident: bool, bytes: &[u8]) {
+fn malformed(host: &Host, part: u8, ident: bool, bytes: &[u8]) {
     if !marked(bytes, b'R') {
-        return no_mark(bytes);
+        return no_mark(host, bytes);
     }
     if !versioned(bytes, 1, 2) {
-        say(b"found ");
-        version(bytes);
-        return say(b", wanted 0001h or 0002h");
+        say(host, b"found ");
+        version(host, bytes);
+        return say(host, b", wanted 0001h or 0002h");
     }
-    behind_version(part, ident, bytes);
+    behind_version(host, part, ident, bytes);
 }
 
 // Of few bytes neither version nor part is known.
-fn reason(bytes: &[u8]) {
+fn reason(host: &Host, bytes: &[u8]) {
     let part = image::part_in(bytes);
     let f = parts::facts_of(part);
     if bytes.len() < HEAD {
-        length(bytes.len(), image::image_length(0));
-        return say(b" or more");
+        length(host, bytes.len(), image::image_length(0));
+        return say(host, b" or more");
     }
     if !f.known {
-        return unknown(part, bytes);
+        return unknown(host, part, bytes);
     }
-    malformed(part, f.ident, bytes);
+    malformed(host, part, f.ident, bytes);
 }
 
 // `FILE: `, and the first that is wrong of bytes that are no image; with no line end.
-pub fn tell(word: usize, bytes: &[u8]) {
-    name(word);
-    say(b": ");
-    reason(bytes);
+pub fn tell(host: &Host, word: usize, bytes: &[u8]) {
+    name(host, word);
+    say(host, b": ");
+    reason(host, bytes);
 }
 
 // What else the bytes could have been, where they have no mark: the array of a part.
-pub(crate) fn or_raw(part: u8, bytes: &[u8]) {
+pub(crate) fn or_raw(host: &Host, part: u8, bytes: &[u8]) {
     let f = parts::facts_of(part);
     if !marked(bytes, b'R') {
-        say(b"; or ");
-        number(f.size);
-        say(b" raw bytes, got ");
-        found(bytes.len(), WHOLE);
+        say(host, b"; or ");
+        number(host, f.size);
+        say(host, b" raw bytes, got ");
+        found(host, bytes.len(), WHOLE);
     }
 }
 
 // `FILE: got 8191 bytes, wanted 8192`
-pub(crate) fn tell_length(word: usize, n: usize, wanted: usize) {
-    name(word);
-    say(b": got ");
-    found(n, WHOLE);
-    say(b", wanted ");
-    number(wanted);
-    say(b"\n");
+pub(crate) fn tell_length(host: &Host, word: usize, n: usize, wanted: usize) {
+    name(host, word);
+    say(host, b": got ");
+    found(host, n, WHOLE);
+    say(host, b", wanted ");
+    number(host, wanted);
+    say(host, b"\n");
 }

@@ -1,6 +1,7 @@
 // A file that is written: it is there whole or not at all, and what was there before stays until then. What is below /dev/ is no file that
 // can be replaced, and is written where it is.
 use crate::{extend, tell};
+use host::Host;
 use words::status;
 
 // A file under way: its descriptor, below 0 where it cannot be written, which was said; and how many bytes of the name beside are its own for
@@ -18,136 +19,135 @@ fn is_device(name: &[u8]) -> bool {
     false
 }
 
-// A name that no file has, so that nothing that a run before left is in the way; made once more, since the first is its owner's alone and this
-// one is as the system makes files.
-fn made(beside: &mut [u8]) -> i32 {
-    let fd = os::create_temp(beside);
-    if fd < 0 {
-        return fd;
-    }
-    libc::close(fd);
-    os::unlink(beside);
-    os::create(beside)
+// A name that no file has, so that nothing that a run before left is in the way. The file is as the system makes files.
+fn made(host: &Host, beside: &mut [u8]) -> i32 {
+    host.create_temp(beside)
 }
 
-fn said(name: &[u8], fd: i32, n: usize) -> Begun {
+fn said(host: &Host, name: &[u8], fd: i32, n: usize) -> Begun {
     if fd < 0 {
-        words::failed(name);
+        words::failed(host, name);
     }
     Begun { fd, n }
 }
 
-fn begin_beside(name: &[u8], beside: &mut [u8]) -> Begun {
+fn begin_beside(host: &Host, name: &[u8], beside: &mut [u8]) -> Begun {
     let n = extend(beside, 0, name);
     let k = extend(beside, n, b".XXXXXX");
     if k <= beside.len() {
-        let fd = made(&mut beside[0..k]);
-        return said(name, fd, k);
+        let fd = made(host, &mut beside[0..k]);
+        return said(host, name, fd, k);
     }
     Begun { fd: -1, n: 0 }
 }
 
-fn begin_named(name: &[u8], beside: &mut [u8]) -> Begun {
+fn begin_named(host: &Host, name: &[u8], beside: &mut [u8]) -> Begun {
     if name.len() == 0 {
-        words::trouble(b"a file that is written has a name, and one that is not too long\n");
+        words::trouble(
+            host,
+            b"a file that is written has a name, and one that is not too long\n",
+        );
         return Begun { fd: -1, n: 0 };
     }
     if is_device(name) {
-        let fd = os::open_overwrite(name);
-        return said(name, fd, 0);
+        let fd = host.open_overwrite(name);
+        return said(host, name, fd, 0);
     }
-    begin_beside(name, beside)
+    begin_beside(host, name, beside)
 }
 
 // The file that a word names, to be written; `beside` has its name for now.
-pub fn begin(word: usize, beside: &mut [u8]) -> Begun {
-    if words::is_input(word) {
-        words::trouble(b"a file that is written has a name: - is for standard input\n");
+pub fn begin(host: &Host, word: usize, beside: &mut [u8]) -> Begun {
+    if words::is_input(host, word) {
+        words::trouble(
+            host,
+            b"a file that is written has a name: - is for standard input\n",
+        );
         return Begun { fd: -1, n: 0 };
     }
     let mut name = io::buffer();
-    let n = os::arg(word, &mut name);
-    begin_named(&name[..n], beside)
+    let n = host.arg(word, &mut name);
+    begin_named(host, &name[..n], beside)
 }
 
 // The bytes are on the disk, and the file is closed. What is no file of a disk has none to be on.
-fn closed(fd: i32, synced: i32) -> bool {
-    let closed = libc::close(fd);
+fn closed(host: &Host, fd: i32, synced: i32) -> bool {
+    let closed = host.close(fd);
     (0 <= synced) & (0 <= closed)
 }
 
-fn given_up(name: &[u8], beside: &[u8]) -> bool {
-    words::failed(name);
-    os::unlink(beside);
+fn given_up(host: &Host, name: &[u8], beside: &[u8]) -> bool {
+    words::failed(host, name);
+    host.unlink(beside);
     false
 }
 
-fn finish_beside(fd: i32, name: &[u8], beside: &[u8]) -> bool {
-    let synced = libc::fsync(fd);
-    if !closed(fd, synced) {
-        return given_up(name, beside);
+fn finish_beside(host: &Host, fd: i32, name: &[u8], beside: &[u8]) -> bool {
+    let synced = host.fsync(fd);
+    if !closed(host, fd, synced) {
+        return given_up(host, name, beside);
     }
-    if os::rename(beside, name) < 0 {
-        return given_up(name, beside);
+    if host.rename(beside, name) < 0 {
+        return given_up(host, name, beside);
     }
     true
 }
 
-fn finish_there(fd: i32, name: &[u8]) -> bool {
-    let done = closed(fd, 0);
+fn finish_there(host: &Host, fd: i32, name: &[u8]) -> bool {
+    let done = closed(host, fd, 0);
     if !done {
-        words::failed(name);
+        words::failed(host, name);
     }
     done
 }
 
-fn finish_whole(fd: i32, name: &[u8], beside: &[u8]) -> bool {
+fn finish_whole(host: &Host, fd: i32, name: &[u8], beside: &[u8]) -> bool {
     if beside.len() == 0 {
-        return finish_there(fd, name);
+        return finish_there(host, fd, name);
     }
-    finish_beside(fd, name, beside)
+    finish_beside(host, fd, name, beside)
 }
 
 // What the system said of it is not known here any more.
-fn finish_part(fd: i32, name: &[u8], beside: &[u8]) -> bool {
-    libc::close(fd);
-    os::unlink(beside);
-    tell::say(b"sapwoodle: ");
-    tell::say(name);
-    tell::say(b": not all of it could be written\n");
-    status::trouble();
+fn finish_part(host: &Host, fd: i32, name: &[u8], beside: &[u8]) -> bool {
+    host.close(fd);
+    host.unlink(beside);
+    tell::say(host, b"sapwoodle: ");
+    tell::say(host, name);
+    tell::say(host, b": not all of it could be written\n");
+    status::trouble(host);
     false
 }
 
-fn finish_named(fd: i32, whole: bool, name: &[u8], beside: &[u8]) -> bool {
+fn finish_named(host: &Host, fd: i32, whole: bool, name: &[u8], beside: &[u8]) -> bool {
     if whole {
-        return finish_whole(fd, name, beside);
+        return finish_whole(host, fd, name, beside);
     }
-    finish_part(fd, name, beside)
+    finish_part(host, fd, name, beside)
 }
 
 // Whether the file stands now; `whole`: all of it was written.
-pub fn finish(b: Begun, whole: bool, word: usize, beside: &[u8]) -> bool {
+pub fn finish(host: &Host, b: Begun, whole: bool, word: usize, beside: &[u8]) -> bool {
     let mut name = io::buffer();
-    let n = os::arg(word, &mut name);
+    let n = host.arg(word, &mut name);
     let k = b.n;
     if k <= beside.len() {
-        return finish_named(b.fd, whole, &name[..n], &beside[0..k]);
+        return finish_named(host, b.fd, whole, &name[..n], &beside[0..k]);
     }
     false
 }
 
-fn store_in(word: usize, bytes: &[u8], beside: &mut [u8]) -> bool {
-    let b = begin(word, beside);
+fn store_in(host: &Host, word: usize, bytes: &[u8], beside: &mut [u8]) -> bool {
+    let b = begin(host, word, beside);
     if b.fd < 0 {
         return false;
     }
-    let whole = io::write_all(b.fd, bytes);
-    finish(b, whole, word, beside)
+    let whole = host.write_all(b.fd, bytes);
+    finish(host, b, whole, word, beside)
 }
 
 // Whether the file stands that a word names.
-pub fn store(word: usize, bytes: &[u8]) -> bool {
+pub fn store(host: &Host, word: usize, bytes: &[u8]) -> bool {
     let mut beside = io::buffer();
-    store_in(word, bytes, &mut beside)
+    store_in(host, word, bytes, &mut beside)
 }

@@ -1,26 +1,26 @@
 // What is said on standard error.
-use libc::STDERR_FILENO;
+use host::{Host, STDERR};
 
-pub fn say(text: &[u8]) {
-    io::write_all(STDERR_FILENO, text);
+pub fn say(host: &Host, text: &[u8]) {
+    host.write_all(STDERR, text);
 }
 
 // A file that is read, by the word that names it.
-pub fn name(word: usize) {
-    if words::is_input(word) {
-        return say(b"standard input");
+pub fn name(host: &Host, word: usize) {
+    if words::is_input(host, word) {
+        return say(host, b"standard input");
     }
     let mut name = io::buffer();
-    let n = os::arg(word, &mut name);
-    say(&name[..n]);
+    let n = host.arg(word, &mut name);
+    say(host, &name[..n]);
 }
 
-pub fn number(n: usize) {
-    io::print_decimal(STDERR_FILENO, n as u64);
+pub fn number(host: &Host, n: usize) {
+    host.print_decimal(STDERR, n as u64);
 }
 
 // `45h`
-pub fn byte(b: u8) {
+pub fn byte(host: &Host, b: u8) {
     let d = text::hex(b);
-    say(&[d[0], d[1], b'h']);
+    say(host, &[d[0], d[1], b'h']);
 }

@@ -1,5 +1,6 @@
 // Why a HEX file was refused: one line for people on standard error, with the file and the number of the line, which is read again here.
 use crate::tell::{name, number, say};
+use host::Host;
 use parts::{Refusal, Verdict};
 
 // The lowest address that two records name, and the line of the earlier one; line 0 for none.
@@ -15,18 +16,18 @@ struct Span {
     end: usize,
 }
 
-fn byte(x: u8) {
+fn byte(host: &Host, x: u8) {
     let d = text::hex(x);
-    say(&[d[0], d[1]]);
+    say(host, &[d[0], d[1]]);
 }
 
 // `1FFFh`. A record goes no further than 100FEh: an address of 16 bits, and 255 bytes.
-fn address(a: usize) {
+fn address(host: &Host, a: usize) {
     let d = text::word(a);
     if 65535 < a {
-        say(b"1");
+        say(host, b"1");
     }
-    say(&[d[0], d[1], d[2], d[3], b'h']);
+    say(host, &[d[0], d[1], d[2], d[3], b'h']);
 }
 
 // ---- lines
@@ -148,16 +149,16 @@ fn span_in(line: &[u8]) -> Span {
 // ---- 16, no record
 
 // `'x'`, or `0x0D` of a byte that cannot be shown.
-fn shown(b: u8) {
+fn shown(host: &Host, b: u8) {
     if b < 32 {
-        say(b"0x");
-        return byte(b);
+        say(host, b"0x");
+        return byte(host, b);
     }
     if 126 < b {
-        say(b"0x");
-        return byte(b);
+        say(host, b"0x");
+        return byte(host, b);
     }
-    say(&[b'\'', b, b'\'']);
+    say(host, &[b'\'', b, b'\'']);
 }
 
 // The first byte behind the colon that is no digit; the line's length where all are.
@@ -172,61 +173,62 @@ fn no_digit(line: &[u8]) -> usize {
     line.len()
 }
 
-fn stray(line: &[u8], i: usize, wanted: &[u8]) {
-    say(b"found ");
-    shown(parts::byte_at(line, i));
-    say(b" in column ");
+fn stray(host: &Host, line: &[u8], i: usize, wanted: &[u8]) {
+    say(host, b"found ");
+    shown(host, parts::byte_at(line, i));
+    say(host, b" in column ");
     if i < line.len() {
-        number(i + 1);
+        number(host, i + 1);
     }
-    say(b", wanted ");
-    say(wanted);
+    say(host, b", wanted ");
+    say(host, wanted);
 }
 
-fn typed(kind: u8) {
+fn typed(host: &Host, kind: u8) {
     if kind == 1 {
-        return say(b"found another end record, wanted :00000001FF");
+        return say(host, b"found another end record, wanted :00000001FF");
     }
-    say(b"found type ");
-    byte(kind);
+    say(host, b"found type ");
+    byte(host, kind);
     say(
+        host,
         b", wanted 00 or 01: objcopy -I ihex -O ihex IN OUT, or srec_cat IN -intel -o OUT -intel -address-length=2 -obs=16, makes a file without it",
     );
 }
 
 // All are digits, two a byte.
-fn miscounted(line: &[u8]) {
+fn miscounted(host: &Host, line: &[u8]) {
     let n = bytes_in(line);
     if n < 5 {
-        say(b"found ");
-        number(n);
-        return say(b" bytes, wanted 5 or more");
+        say(host, b"found ");
+        number(host, n);
+        return say(host, b" bytes, wanted 5 or more");
     }
     if n - 5 == count_in(line) {
-        return typed(byte_in(line, 3));
+        return typed(host, byte_in(line, 3));
     }
-    say(b"found ");
-    number(n - 5);
-    say(b" data bytes, wanted ");
-    number(count_in(line));
-    say(b" as the record says");
+    say(host, b"found ");
+    number(host, n - 5);
+    say(host, b" data bytes, wanted ");
+    number(host, count_in(line));
+    say(host, b" as the record says");
 }
 
-fn malformed(line: &[u8]) {
+fn malformed(host: &Host, line: &[u8]) {
     if line.len() == 0 {
-        return say(b"the line is empty, wanted a record");
+        return say(host, b"the line is empty, wanted a record");
     }
     if line[0] != b':' {
-        return stray(line, 0, b"':'");
+        return stray(host, line, 0, b"':'");
     }
     let i = no_digit(line);
     if i < line.len() {
-        return stray(line, i, b"a hexadecimal digit");
+        return stray(host, line, i, b"a hexadecimal digit");
     }
     if line.len() % 2 == 0 {
-        return say(b"found an odd number of digits, wanted two a byte");
+        return say(host, b"found an odd number of digits, wanted two a byte");
     }
-    miscounted(line);
+    miscounted(host, line);
 }
 
 // ---- 17, a wrong sum
@@ -242,13 +244,13 @@ fn sum_of(line: &[u8], n: usize) -> u8 {
     sum
 }
 
-fn missummed(line: &[u8]) {
+fn missummed(host: &Host, line: &[u8]) {
     let n = bytes_in(line);
     if 0 < n {
-        say(b"found sum ");
-        byte(byte_in(line, n - 1));
-        say(b", wanted ");
-        byte(std::num::wrapping_sub_u8(0, sum_of(line, n - 1)));
+        say(host, b"found sum ");
+        byte(host, byte_in(line, n - 1));
+        say(host, b", wanted ");
+        byte(host, std::num::wrapping_sub_u8(0, sum_of(line, n - 1)));
     }
 }
 
@@ -308,65 +310,65 @@ fn before(a: usize) -> usize {
 }
 
 // A record of no bytes is beyond too, by its address.
-fn beyond(span: Span, size: usize) {
+fn beyond(host: &Host, span: Span, size: usize) {
     if span.from == span.end {
-        say(b"found address ");
-        address(span.from);
-        say(b", wanted none beyond ");
-        return address(size);
+        say(host, b"found address ");
+        address(host, span.from);
+        say(host, b", wanted none beyond ");
+        return address(host, size);
     }
-    say(b"found bytes to ");
-    address(before(span.end));
-    say(b", wanted none beyond ");
-    address(before(size));
+    say(host, b"found bytes to ");
+    address(host, before(span.end));
+    say(host, b", wanted none beyond ");
+    address(host, before(size));
 }
 
-fn misplaced(text: &[u8], at: usize, span: Span, part: u8) {
+fn misplaced(host: &Host, text: &[u8], at: usize, span: Span, part: u8) {
     let f = parts::facts_of(part);
     if f.size < span.end {
-        return beyond(span, f.size);
+        return beyond(host, span, f.size);
     }
     let found = first_lap(text, at, span);
-    say(b"found ");
-    address(found.at);
-    say(b", named by line ");
-    number(found.line);
-    say(b" already");
+    say(host, b"found ");
+    address(host, found.at);
+    say(host, b", named by line ");
+    number(host, found.line);
+    say(host, b" already");
 }
 
 // ---- 19, the end
 
-fn endless(text: &[u8], at: usize) {
+fn endless(host: &Host, text: &[u8], at: usize) {
     if at < text.len() {
-        return say(b"found text behind the end record, wanted none");
+        return say(host, b"found text behind the end record, wanted none");
     }
-    say(b"found the end of the text, wanted :00000001FF");
+    say(host, b"found the end of the text, wanted :00000001FF");
 }
 
 // ---- the line
 
-fn begin(word: usize, line: usize) {
-    name(word);
-    say(b": line ");
-    number(line);
-    say(b": ");
+fn begin(host: &Host, word: usize, line: usize) {
+    name(host, word);
+    say(host, b": line ");
+    number(host, line);
+    say(host, b": ");
 }
 
-fn reason(part: u8, text: &[u8], at: usize, r: Refusal) {
+fn reason(host: &Host, part: u8, text: &[u8], at: usize, r: Refusal) {
     let line = line_at(text, at);
     match r {
-        Refusal::BadRecord(_) => malformed(line),
-        Refusal::BadSum(_) => missummed(line),
-        Refusal::Misplaced(_) => misplaced(text, at, span_in(line), part),
-        Refusal::NoEnd(_) => endless(text, at),
+        Refusal::BadRecord(_) => malformed(host, line),
+        Refusal::BadSum(_) => missummed(host, line),
+        Refusal::Misplaced(_) => misplaced(host, text, at, span_in(line), part),
+        Refusal::NoEnd(_) => endless(host, text, at),
         _ => {}
     }
 }
 
 // The refusals of a text: the others have no line.
-pub(crate) fn tell(word: usize, part: u8, text: &[u8], r: Refusal) {
+pub(crate) fn tell(host: &Host, word: usize, part: u8, text: &[u8], r: Refusal) {
     let line = parts::verdict_place(Verdict::Refused(r));
-    begin(word, line);
-    reason(part, text, start_of(text, line), r);
-    say(b"\n");
+    begin(host, word, line);
+    reason(host, part, text, start_of(text, line), r);
+    say(host, b"\n");
 }

@@ -2,52 +2,56 @@
 // text made of records, `w` writes an array and reads it back: the numbers of both are said below. Every buffer is filled first, so that each
 // answer also tells what was left alone.
 #![tactic(auto)]
+
 ghost use Rattle.std.specs.Prelude.{◌≡◌, ◌<◌, length};
 
 use cases::mixed;
-use libc::STDIN_FILENO;
+use host::{Host, STDIN};
 use parts::Verdict;
-use text::{say, say_number};
 
 // ---- what is told
 
-fn tell(name: &[u8], n: usize) {
-    say(name);
-    say_number(n);
+fn tell(host: &Host, name: &[u8], n: usize) {
+    host.say(name);
+    host.say_number(n);
 }
 
-fn tell_refusal(verdict: Verdict) {
-    tell(b"refused ", text::wide(parts::verdict_number(verdict)));
-    tell(b" at ", parts::verdict_place(verdict));
+fn tell_refusal(host: &Host, verdict: Verdict) {
+    tell(
+        host,
+        b"refused ",
+        text::wide(parts::verdict_number(verdict)),
+    );
+    tell(host, b" at ", parts::verdict_place(verdict));
 }
 
-fn tell_verdict(verdict: Verdict) {
+fn tell_verdict(host: &Host, verdict: Verdict) {
     match verdict {
         Verdict::Fine => {
-            say(b"done");
+            host.say(b"done");
         }
-        Verdict::Refused(_) => tell_refusal(verdict),
+        Verdict::Refused(_) => tell_refusal(host, verdict),
     }
 }
 
-fn tell_read(part: u8, text: &[u8], array: &mut [u8]) {
+fn tell_read(host: &Host, part: u8, text: &[u8], array: &mut [u8]) {
     cases::fill(array, 7);
     let r = hexfile::read(part, text, array);
     let verdict = r.verdict;
-    tell_verdict(verdict);
-    tell(b", records ", r.records);
-    tell(b", named ", r.named);
-    tell(b", array ", mixed(array));
-    say(b"\n");
+    tell_verdict(host, verdict);
+    tell(host, b", records ", r.records);
+    tell(host, b", named ", r.named);
+    tell(host, b", array ", mixed(array));
+    host.say(b"\n");
 }
 
 // Of a length of the array; 0 stands for the part's own.
-fn lent(part: u8, n: usize, text: &[u8], array: &mut [u8]) {
+fn lent(host: &Host, part: u8, n: usize, text: &[u8], array: &mut [u8]) {
     let f = parts::facts_of(part);
     if n == 0 {
-        return tell_read(part, text, fitted::first(array, f.size));
+        return tell_read(host, part, text, fitted::first(array, f.size));
     }
-    tell_read(part, text, fitted::first(array, n));
+    tell_read(host, part, text, fitted::first(array, n));
 }
 
 // ---- texts that are typed
@@ -90,11 +94,17 @@ fn spell(typed: &[u8], to: &mut [u8]) -> usize {
     i
 }
 
-fn typed(line: &[u8], text: &mut [u8], array: &mut [u8]) {
+fn typed(host: &Host, line: &[u8], text: &mut [u8], array: &mut [u8]) {
     let v = cases::numbers(line);
     let at = third(line);
     let n = spell(cases::cut(line, at, line.len()), text);
-    lent(text::narrow(v[0]), v[1], cases::cut(text, 0, n), array);
+    lent(
+        host,
+        text::narrow(v[0]),
+        v[1],
+        cases::cut(text, 0, n),
+        array,
+    );
 }
 
 // ---- texts made of records
@@ -232,47 +242,54 @@ fn make(text: &mut [u8], v: [usize; 16]) -> usize {
     add_last(text, n, v[9], v[7] == 1, v[8] == 1)
 }
 
-fn made(line: &[u8], text: &mut [u8], array: &mut [u8]) {
+fn made(host: &Host, line: &[u8], text: &mut [u8], array: &mut [u8]) {
     let v = cases::numbers(line);
     let n = make(text, v);
-    tell(b"text of ", n);
-    tell(b" bytes, ", mixed(cases::cut(text, 0, n)));
-    say(b": ");
-    lent(text::narrow(v[0]), v[1], cases::cut(text, 0, n), array);
+    tell(host, b"text of ", n);
+    tell(host, b" bytes, ", mixed(cases::cut(text, 0, n)));
+    host.say(b": ");
+    lent(
+        host,
+        text::narrow(v[0]),
+        v[1],
+        cases::cut(text, 0, n),
+        array,
+    );
 }
 
 // ---- arrays written, and read back
 
-fn back(part: u8, n: usize, text: &[u8], array: &mut [u8]) {
+fn back(host: &Host, part: u8, n: usize, text: &[u8], array: &mut [u8]) {
     let before = mixed(array);
     cases::fill(array, 99);
     let r = hexfile::read(part, cases::cut(text, 0, n), array);
     let verdict = r.verdict;
-    say(b"; back ");
-    tell_verdict(verdict);
-    tell(b", records ", r.records);
-    tell(b", named ", r.named);
+    host.say(b"; back ");
+    tell_verdict(host, verdict);
+    tell(host, b", records ", r.records);
+    tell(host, b", named ", r.named);
     if before == mixed(array) {
-        say(b", the same");
+        host.say(b", the same");
     }
 }
 
-fn told(part: u8, text: &mut [u8], array: &mut [u8]) {
+fn told(host: &Host, part: u8, text: &mut [u8], array: &mut [u8]) {
     let w = hexfile::write(part, array, text);
     let verdict = w.verdict;
-    tell_verdict(verdict);
-    tell(b", length ", w.length);
-    tell(b", text ", mixed(text));
-    back(part, w.length, text, array);
-    say(b"\n");
+    tell_verdict(host, verdict);
+    tell(host, b", length ", w.length);
+    tell(host, b", text ", mixed(text));
+    back(host, part, w.length, text, array);
+    host.say(b"\n");
 }
 
 // `w PART LENGTH ROOM FIRST`: an array of so many bytes from the first on, into so much room.
-fn written(line: &[u8], text: &mut [u8], array: &mut [u8]) {
+fn written(host: &Host, line: &[u8], text: &mut [u8], array: &mut [u8]) {
     let v = cases::numbers(line);
     cases::fill(text, 1);
     cases::fill(array, text::narrow(v[3]));
     told(
+        host,
         text::narrow(v[0]),
         fitted::first(text, v[2]),
         fitted::first(array, v[1]),
@@ -281,33 +298,40 @@ fn written(line: &[u8], text: &mut [u8], array: &mut [u8]) {
 
 // ---- lines
 
-fn one(line: &[u8], text: &mut [u8], array: &mut [u8]) {
+fn one(host: &Host, line: &[u8], text: &mut [u8], array: &mut [u8]) {
     if line.len() == 0 {
         return;
     }
-    say(line);
-    say(b"\n  ");
+    host.say(line);
+    host.say(b"\n  ");
     match line[0] {
-        b't' => typed(line, text, array),
-        b'g' => made(line, text, array),
-        _ => written(line, text, array),
+        b't' => typed(host, line, text, array),
+        b'g' => made(host, line, text, array),
+        _ => written(host, line, text, array),
     }
 }
 
 // Where the line that is under way begins, once byte i is seen.
-fn ended(input: &[u8], start: usize, i: usize, text: &mut [u8], array: &mut [u8]) -> usize {
+fn ended(
+    host: &Host,
+    input: &[u8],
+    start: usize,
+    i: usize,
+    text: &mut [u8],
+    array: &mut [u8],
+) -> usize {
     if parts::byte_at(input, i) != b'\n' {
         return start;
     }
-    one(cases::cut(input, start, i), text, array);
+    one(host, cases::cut(input, start, i), text, array);
     cases::more(i)
 }
 
-fn each(input: &[u8], text: &mut [u8], array: &mut [u8]) {
+fn each(host: &Host, input: &[u8], text: &mut [u8], array: &mut [u8]) {
     let mut start = 0;
     let mut i = 0;
     while i < input.len() {
-        start = ended(input, start, i, text, array);
+        start = ended(host, input, start, i, text, array);
         i += 1;
     }
 }
@@ -318,10 +342,11 @@ fn blank() -> [u8; 92200]
     [0; 92200]
 }
 
-fn main() {
+fn main(rt: HostRuntime) {
+    let host = Host::new(rt);
     let mut input = io::large_buffer();
-    let n = io::read_full(STDIN_FILENO, &mut input);
+    let n = host.read_full(STDIN, &mut input);
     let mut text = blank();
     let mut array = [0u8; 32769];
-    each(&input[..n], &mut text, &mut array);
+    each(&host, &input[..n], &mut text, &mut array);
 }

@@ -1,8 +1,10 @@
 // The command `image`: what a stored image holds, and an image of one version made into one of the other.
 #![tactic(auto)]
+
 pub mod show;
 
 use files::shape;
+use host::Host;
 use image::Saved;
 use parts::{Refusal, Verdict};
 use words::answer;
@@ -12,35 +14,43 @@ use words::imaging::Imaging;
 // ---- what is no image
 
 // Standard error has the reason.
-fn refuse(word: usize, bytes: &[u8], r: Refusal) -> bool {
-    shape::tell(word, bytes);
-    files::tell::say(b"\n");
-    let told = answer::refused(r);
+fn refuse(host: &Host, word: usize, bytes: &[u8], r: Refusal) -> bool {
+    shape::tell(host, word, bytes);
+    files::tell::say(host, b"\n");
+    let told = answer::refused(host, r);
     if parts::number(r) == parts::number(Refusal::NoPart) {
-        return answer::no_part(told);
+        return answer::no_part(host, told);
     }
-    answer::no_image(told)
+    answer::no_image(host, told)
 }
 
 // ---- what an image holds
 
 // Every part has the enable 0.
-fn load(word: usize, bytes: &[u8], array: &mut [u8], id: &mut [u8], counts: &mut [u32]) -> bool {
+fn load(
+    host: &Host,
+    word: usize,
+    bytes: &[u8],
+    array: &mut [u8],
+    id: &mut [u8],
+    counts: &mut [u32],
+) -> bool {
     let l = image_worn::load_worn(bytes, 0, array, id, counts);
     let loaded = l.loaded;
     let verdict = loaded.verdict;
     match verdict {
-        Verdict::Fine => show::info(bytes, l.worst, counts),
-        Verdict::Refused(r) => refuse(word, bytes, r),
+        Verdict::Fine => show::info(host, bytes, l.worst, counts),
+        Verdict::Refused(r) => refuse(host, word, bytes, r),
     }
 }
 
-fn info_of(word: usize, bytes: &[u8]) -> bool {
+fn info_of(host: &Host, word: usize, bytes: &[u8]) -> bool {
     let part = image::part_in(bytes);
     let mut array = [0u8; 32768];
     let mut id = [0u8; 64];
     let mut counts = [0u32; 8192];
     load(
+        host,
         word,
         bytes,
         fitted::array(part, &mut array),
@@ -71,33 +81,49 @@ fn worn_in(bytes: &[u8]) -> usize {
 }
 
 // `refused 21: `
-fn refused(r: Refusal) -> bool {
-    words::status::refused();
-    let told = number(say(true, b"refused "), text::wide(parts::number(r)));
-    say(told, b": ")
+fn refused(host: &Host, r: Refusal) -> bool {
+    words::status::refused(host);
+    let told = number(
+        host,
+        say(host, true, b"refused "),
+        text::wide(parts::number(r)),
+    );
+    say(host, told, b": ")
 }
 
-fn lost(worn: usize) -> bool {
-    let told = number(refused(Refusal::CountsLost), worn);
+fn lost(host: &Host, worn: usize) -> bool {
+    let told = number(host, refused(host, Refusal::CountsLost), worn);
     if worn == 1 {
-        return say(told, b" group has a count that version 1 cannot hold\n");
+        return say(
+            host,
+            told,
+            b" group has a count that version 1 cannot hold\n",
+        );
     }
-    say(told, b" groups have counts that version 1 cannot hold\n")
+    say(
+        host,
+        told,
+        b" groups have counts that version 1 cannot hold\n",
+    )
 }
 
-fn name(ok: bool, word: usize) -> bool {
-    if words::is_input(word) {
-        return say(ok, b"standard input");
+fn name(host: &Host, ok: bool, word: usize) -> bool {
+    if words::is_input(host, word) {
+        return say(host, ok, b"standard input");
     }
     let mut text = io::buffer();
-    let n = os::arg(word, &mut text);
-    say(ok, &text[..n])
+    let n = host.arg(word, &mut text);
+    say(host, ok, &text[..n])
 }
 
-fn already(asked: Imaging) -> bool {
-    let named = name(refused(Refusal::BadImage), asked.file);
-    let told = number(say(named, b" is version "), text::wide(asked.version));
-    say(told, b" already\n")
+fn already(host: &Host, asked: Imaging) -> bool {
+    let named = name(host, refused(host, Refusal::BadImage), asked.file);
+    let told = number(
+        host,
+        say(host, named, b" is version "),
+        text::wide(asked.version),
+    );
+    say(host, told, b" already\n")
 }
 
 fn formed(version: u8, bytes: &[u8]) -> bool {
@@ -105,24 +131,32 @@ fn formed(version: u8, bytes: &[u8]) -> bool {
     image::formed(version, shape::length_of(version, part), part, bytes)
 }
 
-fn unmade(asked: Imaging, bytes: &[u8], r: Refusal) -> bool {
+fn unmade(host: &Host, asked: Imaging, bytes: &[u8], r: Refusal) -> bool {
     let n = parts::number(r);
     if n == parts::number(Refusal::CountsLost) {
-        return lost(worn_in(bytes));
+        return lost(host, worn_in(bytes));
     }
     if n == parts::number(Refusal::BadImage) {
         if formed(asked.version, bytes) {
-            return already(asked);
+            return already(host, asked);
         }
     }
-    refuse(asked.file, bytes, r)
+    refuse(host, asked.file, bytes, r)
 }
 
 // The file stands before anything is told.
-fn made(asked: Imaging, bytes: &[u8]) -> bool {
-    if files::store::store(asked.out, bytes) {
-        let told = number(say(true, b"version "), text::wide(asked.version));
-        return say(number(say(told, b", "), bytes.len()), b" bytes\n");
+fn made(host: &Host, asked: Imaging, bytes: &[u8]) -> bool {
+    if files::store::store(host, asked.out, bytes) {
+        let told = number(
+            host,
+            say(host, true, b"version "),
+            text::wide(asked.version),
+        );
+        return say(
+            host,
+            number(host, say(host, told, b", "), bytes.len()),
+            b" bytes\n",
+        );
     }
     false
 }
@@ -134,42 +168,42 @@ fn converted(version: u8, bytes: &[u8], out: &mut [u8]) -> Saved {
     image_worn::to_worn(bytes, out)
 }
 
-fn convert_in(asked: Imaging, bytes: &[u8], out: &mut [u8]) -> bool {
+fn convert_in(host: &Host, asked: Imaging, bytes: &[u8], out: &mut [u8]) -> bool {
     let saved = converted(asked.version, bytes, out);
     let verdict = saved.verdict;
     let n = saved.length;
     match verdict {
         Verdict::Fine => {
             if n <= out.len() {
-                return made(asked, &out[0..n]);
+                return made(host, asked, &out[0..n]);
             }
             false
         }
-        Verdict::Refused(r) => unmade(asked, bytes, r),
+        Verdict::Refused(r) => unmade(host, asked, bytes, r),
     }
 }
 
 // The largest image fits.
-fn convert(asked: Imaging, bytes: &[u8]) -> bool {
+fn convert(host: &Host, asked: Imaging, bytes: &[u8]) -> bool {
     let mut out = [0u8; shape::ROOM];
-    convert_in(asked, bytes, &mut out)
+    convert_in(host, asked, bytes, &mut out)
 }
 
 // ---- the file
 
-fn work_on(asked: Imaging, bytes: &[u8]) -> bool {
+fn work_on(host: &Host, asked: Imaging, bytes: &[u8]) -> bool {
     if asked.converts {
-        return convert(asked, bytes);
+        return convert(host, asked, bytes);
     }
-    info_of(asked.file, bytes)
+    info_of(host, asked.file, bytes)
 }
 
-fn read(asked: Imaging, bytes: &mut [u8]) -> bool {
-    let got = files::contents(asked.file, bytes);
+fn read(host: &Host, asked: Imaging, bytes: &mut [u8]) -> bool {
+    let got = files::contents(host, asked.file, bytes);
     let n = got.n;
     if got.ok {
         if n <= bytes.len() {
-            return work_on(asked, &bytes[0..n]);
+            return work_on(host, asked, &bytes[0..n]);
         }
     }
     false
@@ -178,11 +212,11 @@ fn read(asked: Imaging, bytes: &mut [u8]) -> bool {
 // ---- the command: `next` is the first word behind `image`, and the words end before `end`
 
 // False where nothing, or not all, could be answered: standard error has the reason.
-pub fn image_command(next: usize, end: usize) -> bool {
-    let asked = words::imaging::asked(next, end);
+pub fn image_command(host: &Host, next: usize, end: usize) -> bool {
+    let asked = words::imaging::asked(host, next, end);
     if !asked.ok {
         return false;
     }
     let mut bytes = [0u8; shape::ROOM];
-    read(asked, &mut bytes)
+    read(host, asked, &mut bytes)
 }

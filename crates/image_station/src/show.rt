@@ -1,4 +1,5 @@
 // What is told of an image and of counts. Each function is told whether what stands before it was written, and says so of its own.
+use host::Host;
 use parts::Verdict;
 use wear::Most;
 use words::answer;
@@ -7,10 +8,10 @@ use words::report::{first_of, or_more};
 
 // ---- counts
 
-pub fn big(ok: bool, n: u64) -> bool {
+pub fn big(host: &Host, ok: bool, n: u64) -> bool {
     let mut text = [0u8; 20];
     let k = io::decimal(n, &mut text);
-    say(ok, &text[..k])
+    say(host, ok, &text[..k])
 }
 
 // The limit is for the proof alone.
@@ -37,57 +38,61 @@ pub fn worn(counts: &[u32]) -> usize {
 // ---- an image
 
 // The part's number and its name.
-pub fn part_named(ok: bool, part: u8, between: &[u8]) -> bool {
-    let named = say(number(say(ok, b"part "), text::wide(part)), between);
-    named && answer::written(words::say_name(part))
+pub fn part_named(host: &Host, ok: bool, part: u8, between: &[u8]) -> bool {
+    let named = say(
+        host,
+        number(host, say(host, ok, b"part "), text::wide(part)),
+        between,
+    );
+    named && answer::written(host, words::say_name(host, part))
 }
 
-fn lock(ok: bool, locked: bool) -> bool {
+fn lock(host: &Host, ok: bool, locked: bool) -> bool {
     if locked {
-        return say(ok, b", locked, ");
+        return say(host, ok, b", locked, ");
     }
-    say(ok, b", unlocked, ")
+    say(host, ok, b", unlocked, ")
 }
 
-fn head(version: u8, image: &[u8]) -> bool {
-    let one = number(say(true, b"EPR version "), text::wide(version));
-    let two = part_named(say(one, b", "), image::part_in(image), b" ");
-    let three = lock(two, image::lock_in(image));
-    say(number(three, image.len()), b" bytes; ")
+fn head(host: &Host, version: u8, image: &[u8]) -> bool {
+    let one = number(host, say(host, true, b"EPR version "), text::wide(version));
+    let two = part_named(host, say(host, one, b", "), image::part_in(image), b" ");
+    let three = lock(host, two, image::lock_in(image));
+    say(host, number(host, three, image.len()), b" bytes; ")
 }
 
 // The group with most; none where none is worn.
-fn most(ok: bool, size: usize, worst: Most) -> bool {
+fn most(host: &Host, ok: bool, size: usize, worst: Most) -> bool {
     if worst.count == 0 {
         return ok;
     }
-    let named = number(say(ok, b", most group "), worst.group);
-    let there = address(say(named, b" ("), first_of(worst.group, size));
-    let told = big(say(there, b") "), worst.count as u64);
-    or_more(told, worst.count)
+    let named = number(host, say(host, ok, b", most group "), worst.group);
+    let there = address(host, say(host, named, b" ("), first_of(worst.group, size));
+    let told = big(host, say(host, there, b") "), worst.count as u64);
+    or_more(host, told, worst.count)
 }
 
-fn tally(ok: bool, part: u8, worst: Most, counts: &[u32]) -> bool {
+fn tally(host: &Host, ok: bool, part: u8, worst: Most, counts: &[u32]) -> bool {
     let f = parts::facts_of(part);
     let r = wear::report(part, counts);
     let verdict = r.verdict;
     match verdict {
         Verdict::Fine => {
-            let one = number(say(ok, b"worn groups "), worn(counts));
-            let two = big(say(one, b", total "), r.total);
-            let three = most(or_more(two, worst.count), f.group, worst);
-            say(three, b"\n")
+            let one = number(host, say(host, ok, b"worn groups "), worn(counts));
+            let two = big(host, say(host, one, b", total "), r.total);
+            let three = most(host, or_more(host, two, worst.count), f.group, worst);
+            say(host, three, b"\n")
         }
         Verdict::Refused(_) => false,
     }
 }
 
 // An image in one line, with its counts and their worst beside it.
-pub fn info(image: &[u8], worst: Most, counts: &[u32]) -> bool {
+pub fn info(host: &Host, image: &[u8], worst: Most, counts: &[u32]) -> bool {
     let version = parts::byte_at(image, 4);
-    let told = head(version, image);
+    let told = head(host, version, image);
     if version == 1 {
-        return say(told, b"no counts\n");
+        return say(host, told, b"no counts\n");
     }
-    tally(told, image::part_in(image), worst, counts)
+    tally(host, told, image::part_in(image), worst, counts)
 }

@@ -2,11 +2,12 @@
 // and a number for all that it was lent to write into. A line is a letter for the call (`call`), sixteen numbers and, after a colon, what is tried;
 // behind a slash the counts that stand before the call.
 #![tactic(auto)]
+
 use cases::{behind, counts, cut, front};
+use host::{Host, STDIN};
 use image::{Loaded, Saved};
-use libc::STDIN_FILENO;
 use state::Chip;
-use text::{narrow, say, say_number};
+use text::narrow;
 use wear::Most;
 
 // The numbers of a line, by their places.
@@ -87,39 +88,55 @@ fn make_image(v: [usize; 16], image: &mut [u8]) {
 
 // ---- what is printed
 
-fn tell(words: &[u8], n: usize) {
-    say(words);
-    say_number(n);
+fn tell(host: &Host, words: &[u8], n: usize) {
+    host.say(words);
+    host.say_number(n);
 }
 
-fn tell_saved(saved: Saved, out: &[u8]) {
+fn tell_saved(host: &Host, saved: Saved, out: &[u8]) {
     let verdict = saved.verdict;
-    tell(b"verdict ", text::wide(parts::verdict_number(verdict)));
-    tell(b", length ", saved.length);
-    tell(b", out ", cases::mixed(out));
+    tell(
+        host,
+        b"verdict ",
+        text::wide(parts::verdict_number(verdict)),
+    );
+    tell(host, b", length ", saved.length);
+    tell(host, b", out ", cases::mixed(out));
 }
 
 // Of the chip all that its state has.
-fn tell_loaded(loaded: Loaded) {
+fn tell_loaded(host: &Host, loaded: Loaded) {
     let mut held = [0u8; 137];
     let verdict = loaded.verdict;
     pack_chip::pack(loaded.chip, &mut held);
-    tell(b"verdict ", text::wide(parts::verdict_number(verdict)));
-    tell(b", part ", text::wide(loaded.part));
-    tell(b", lock ", text::wide(held[4]));
-    tell(b", chip ", cases::mixed(&held));
+    tell(
+        host,
+        b"verdict ",
+        text::wide(parts::verdict_number(verdict)),
+    );
+    tell(host, b", part ", text::wide(loaded.part));
+    tell(host, b", lock ", text::wide(held[4]));
+    tell(host, b", chip ", cases::mixed(&held));
 }
 
 // ---- saving
 
-fn tell_save_of(part: u8, chip: Chip, array: &[u8], id: &[u8], own: &[u32], room: usize) {
+fn tell_save_of(
+    host: &Host,
+    part: u8,
+    chip: Chip,
+    array: &[u8],
+    id: &[u8],
+    own: &[u32],
+    room: usize,
+) {
     let mut out = [0u8; LARGE];
     cases::fill(&mut out, 50);
     let saved = image_worn::save_worn(part, chip, array, id, own, fitted::first(&mut out, room));
-    tell_saved(saved, &out);
+    tell_saved(host, saved, &out);
 }
 
-fn tell_save(v: [usize; 16], typed: &[u8]) {
+fn tell_save(host: &Host, v: [usize; 16], typed: &[u8]) {
     let mut array = [0u8; CELLS];
     let mut id = [0u8; IDENT];
     let mut own = [0u32; GROUPS];
@@ -127,6 +144,7 @@ fn tell_save(v: [usize; 16], typed: &[u8]) {
     cases::fill(&mut id, 100);
     counts::read(&mut own, typed);
     tell_save_of(
+        host,
         narrow(v[PART]),
         chip_of(v),
         cut(&array, 0, v[ARRAY]),
@@ -138,12 +156,13 @@ fn tell_save(v: [usize; 16], typed: &[u8]) {
 
 // ---- loading
 
-fn tell_worst(worst: Most) {
-    tell(b"; worst ", worst.group);
-    tell(b" with ", worst.count as usize);
+fn tell_worst(host: &Host, worst: Most) {
+    tell(host, b"; worst ", worst.group);
+    tell(host, b" with ", worst.count as usize);
 }
 
 fn load(
+    host: &Host,
     old: bool,
     enable: u8,
     image: &[u8],
@@ -153,18 +172,19 @@ fn load(
 ) -> Loaded {
     if old {
         let read = image::load(image, enable, array, id);
-        tell_loaded(read);
+        tell_loaded(host, read);
         return read;
     }
     let worn = image_worn::load_worn(image, enable, array, id, own);
     let loaded = worn.loaded;
-    tell_loaded(loaded);
-    tell_worst(worn.worst);
+    tell_loaded(host, loaded);
+    tell_worst(host, worn.worst);
     loaded
 }
 
 // What was loaded is saved again with its counts.
 fn tell_again(
+    host: &Host,
     old: bool,
     enable: u8,
     image: &[u8],
@@ -172,12 +192,12 @@ fn tell_again(
     id: &mut [u8],
     own: &mut [u32],
 ) {
-    let loaded = load(old, enable, image, array, id, own);
-    say(b"; again ");
-    tell_save_of(loaded.part, loaded.chip, array, id, own, LARGE);
+    let loaded = load(host, old, enable, image, array, id, own);
+    host.say(b"; again ");
+    tell_save_of(host, loaded.part, loaded.chip, array, id, own, LARGE);
 }
 
-fn tell_load_of(v: [usize; 16], old: bool, image: &[u8], typed: &[u8]) {
+fn tell_load_of(host: &Host, v: [usize; 16], old: bool, image: &[u8], typed: &[u8]) {
     let mut array = [0u8; CELLS];
     let mut id = [0u8; IDENT];
     let mut own = [0u32; GROUPS];
@@ -185,6 +205,7 @@ fn tell_load_of(v: [usize; 16], old: bool, image: &[u8], typed: &[u8]) {
     cases::fill(&mut id, 100);
     counts::read(&mut own, typed);
     tell_again(
+        host,
         old,
         narrow(v[ENABLE]),
         image,
@@ -192,15 +213,15 @@ fn tell_load_of(v: [usize; 16], old: bool, image: &[u8], typed: &[u8]) {
         fitted::first(&mut id, v[ID]),
         counts::first(&mut own, v[COUNTS]),
     );
-    tell(b"; array ", cases::mixed(&array));
-    tell(b", id ", cases::mixed(&id));
-    tell(b", counts ", counts::mixed(&own));
+    tell(host, b"; array ", cases::mixed(&array));
+    tell(host, b", id ", cases::mixed(&id));
+    tell(host, b", counts ", counts::mixed(&own));
 }
 
-fn tell_load(v: [usize; 16], old: bool, typed: &[u8]) {
+fn tell_load(host: &Host, v: [usize; 16], old: bool, typed: &[u8]) {
     let mut image = [narrow(v[WITH]); LARGE];
     make_image(v, &mut image);
-    tell_load_of(v, old, cut(&image, 0, v[LENGTH]), typed);
+    tell_load_of(host, v, old, cut(&image, 0, v[LENGTH]), typed);
 }
 
 // ---- converting
@@ -213,71 +234,72 @@ fn convert(back: bool, image: &[u8], out: &mut [u8]) -> Saved {
 }
 
 // Into a buffer with room for any image.
-fn tell_other_way(back: bool, image: &[u8]) {
+fn tell_other_way(host: &Host, back: bool, image: &[u8]) {
     let mut out = [0u8; LARGE];
     cases::fill(&mut out, 50);
     let saved = convert(back, image, &mut out);
-    tell_saved(saved, &out);
+    tell_saved(host, saved, &out);
 }
 
 // What is answered is converted again the other way; where the call is refused, that is no byte.
-fn tell_convert_of(room: usize, back: bool, image: &[u8]) {
+fn tell_convert_of(host: &Host, room: usize, back: bool, image: &[u8]) {
     let mut out = [0u8; LARGE];
     cases::fill(&mut out, 50);
     let saved = convert(back, image, fitted::first(&mut out, room));
-    tell_saved(saved, &out);
-    say(b"; other way ");
-    tell_other_way(!back, cut(&out, 0, saved.length));
+    tell_saved(host, saved, &out);
+    host.say(b"; other way ");
+    tell_other_way(host, !back, cut(&out, 0, saved.length));
 }
 
-fn tell_convert(v: [usize; 16], back: bool) {
+fn tell_convert(host: &Host, v: [usize; 16], back: bool) {
     let mut image = [narrow(v[WITH]); LARGE];
     make_image(v, &mut image);
-    tell_convert_of(v[ROOM], back, cut(&image, 0, v[LENGTH]));
+    tell_convert_of(host, v[ROOM], back, cut(&image, 0, v[LENGTH]));
 }
 
 // ---- the lines
 
-fn tell_lengths(part: u8) {
-    tell(b"version 1 ", image::image_length(part));
-    tell(b", version 2 ", image_worn::worn_length(part));
+fn tell_lengths(host: &Host, part: u8) {
+    tell(host, b"version 1 ", image::image_length(part));
+    tell(host, b", version 2 ", image_worn::worn_length(part));
 }
 
-fn call(letter: u8, v: [usize; 16], typed: &[u8]) {
+fn call(host: &Host, letter: u8, v: [usize; 16], typed: &[u8]) {
     match letter {
-        b'n' => tell_lengths(narrow(v[PART])),
-        b's' => tell_save(v, typed),
-        b'l' => tell_load(v, false, typed),
-        b'o' => tell_load(v, true, typed),
-        b'w' => tell_convert(v, false),
-        _ => tell_convert(v, true),
+        b'n' => tell_lengths(host, narrow(v[PART])),
+        b's' => tell_save(host, v, typed),
+        b'l' => tell_load(host, v, false, typed),
+        b'o' => tell_load(host, v, true, typed),
+        b'w' => tell_convert(host, v, false),
+        _ => tell_convert(host, v, true),
     }
 }
 
-fn one(line: &[u8]) {
+fn one(host: &Host, line: &[u8]) {
     if 0 < line.len() {
         let tried = cases::label(line);
-        say(front(tried, b'/'));
-        say(b": ");
-        call(line[0], cases::numbers(line), behind(tried, b'/'));
-        say(b"\n");
+        host.say(front(tried, b'/'));
+        host.say(b": ");
+        call(host, line[0], cases::numbers(line), behind(tried, b'/'));
+        host.say(b"\n");
     }
 }
 
-fn each(text: &[u8]) {
+fn each(host: &Host, text: &[u8]) {
     let mut start = 0;
     let mut i = 0;
     while i < text.len() {
         if text[i] == b'\n' {
-            one(cut(text, start, i));
+            one(host, cut(text, start, i));
             start = i + 1;
         }
         i += 1;
     }
 }
 
-fn main() {
+fn main(rt: HostRuntime) {
+    let host = Host::new(rt);
     let mut buf = [0u8; 131072];
-    let n = io::read_full(STDIN_FILENO, &mut buf);
-    each(&buf[..n]);
+    let n = host.read_full(STDIN, &mut buf);
+    each(&host, &buf[..n]);
 }

@@ -1,6 +1,7 @@
 // Two files, page by page. Each function that tells is told whether the lines before it were written, and says so of its own.
 use crate::source;
 use files::Ready;
+use host::Host;
 use parts::{Refusal, Verdict};
 use words::answer::{address, byte, count, differs, number, say};
 use words::looking::Looking;
@@ -56,25 +57,29 @@ fn unlike_in(one: &[u8], two: &[u8], from: usize, n: usize) -> Unlike {
     u
 }
 
-fn counted(ok: bool, bytes: usize) -> bool {
+fn counted(host: &Host, ok: bool, bytes: usize) -> bool {
     if bytes == 1 {
-        return say(ok, b": 1 byte differs, first ");
+        return say(host, ok, b": 1 byte differs, first ");
     }
-    say(number(say(ok, b": "), bytes), b" bytes differ, first ")
+    say(
+        host,
+        number(host, say(host, ok, b": "), bytes),
+        b" bytes differ, first ",
+    )
 }
 
 // The end of a line: how many, and the first as each file has it.
-fn tell_unlike(ok: bool, u: Unlike, one: &[u8], two: &[u8]) -> bool {
+fn tell_unlike(host: &Host, ok: bool, u: Unlike, one: &[u8], two: &[u8]) -> bool {
     let at = u.first;
-    let there = say(address(counted(ok, u.bytes), at), b": ");
-    let left = byte(there, parts::byte_at(one, at));
-    let right = byte(say(left, b", "), parts::byte_at(two, at));
-    say(right, b"\n")
+    let there = say(host, address(host, counted(host, ok, u.bytes), at), b": ");
+    let left = byte(host, there, parts::byte_at(one, at));
+    let right = byte(host, say(host, left, b", "), parts::byte_at(two, at));
+    say(host, right, b"\n")
 }
 
 // ---- the array
 
-fn page(t: Tally, size: usize, p: usize, one: &[u8], two: &[u8]) -> Tally {
+fn page(host: &Host, t: Tally, size: usize, p: usize, one: &[u8], two: &[u8]) -> Tally {
     let u = unlike_in(one, two, first_of(p, size), size);
     if u.bytes == 0 {
         return t;
@@ -85,13 +90,13 @@ fn page(t: Tally, size: usize, p: usize, one: &[u8], two: &[u8]) -> Tally {
         from: 0,
     };
     Tally {
-        ok: tell_unlike(report::page(t.ok, ground, p), u, one, two),
+        ok: tell_unlike(host, report::page(host, t.ok, ground, p), u, one, two),
         pages: sum(t.pages, 1),
         bytes: sum(t.bytes, u.bytes),
     }
 }
 
-fn pages(size: usize, n: usize, one: &[u8], two: &[u8]) -> Tally {
+fn pages(host: &Host, size: usize, n: usize, one: &[u8], two: &[u8]) -> Tally {
     let mut t = Tally {
         ok: true,
         pages: 0,
@@ -99,7 +104,7 @@ fn pages(size: usize, n: usize, one: &[u8], two: &[u8]) -> Tally {
     };
     let mut p = 0;
     while p < n {
-        t = page(t, size, p, one, two);
+        t = page(host, t, size, p, one, two);
         p += 1;
     }
     t
@@ -112,11 +117,11 @@ fn page_count(part: u8) -> usize {
 
 // ---- what else there is
 
-fn ident(ok: bool, u: Unlike, one: &[u8], two: &[u8]) -> bool {
+fn ident(host: &Host, ok: bool, u: Unlike, one: &[u8], two: &[u8]) -> bool {
     if u.bytes == 0 {
         return ok;
     }
-    tell_unlike(say(ok, b"identification page"), u, one, two)
+    tell_unlike(host, say(host, ok, b"identification page"), u, one, two)
 }
 
 fn is_locked(held: &[u8]) -> bool {
@@ -126,26 +131,27 @@ fn is_locked(held: &[u8]) -> bool {
     core.locked
 }
 
-fn lock(ok: bool, one: bool, two: bool) -> bool {
+fn lock(host: &Host, ok: bool, one: bool, two: bool) -> bool {
     if one == two {
         return ok;
     }
     if one {
-        return say(ok, b"lock: locked, unlocked\n");
+        return say(host, ok, b"lock: locked, unlocked\n");
     }
-    say(ok, b"lock: unlocked, locked\n")
+    say(host, ok, b"lock: unlocked, locked\n")
 }
 
 // The last line, of what differs.
-fn total(ok: bool, t: Tally, all: usize) -> bool {
-    status::refused();
-    let paged = number(say(ok, b"pages "), t.pages);
-    let among = number(say(paged, b" of "), all);
-    count(among, b" differ, bytes ", t.bytes)
+fn total(host: &Host, ok: bool, t: Tally, all: usize) -> bool {
+    status::refused(host);
+    let paged = number(host, say(host, ok, b"pages "), t.pages);
+    let among = number(host, say(host, paged, b" of "), all);
+    count(host, among, b" differ, bytes ", t.bytes)
 }
 
 // Two chips of a part, each as it is held, with its array and its identification page.
 fn tell(
+    host: &Host,
     part: u8,
     held_one: &[u8],
     one: &[u8],
@@ -156,20 +162,26 @@ fn tell(
 ) -> bool {
     let f = parts::facts_of(part);
     let all = page_count(part);
-    let t = pages(f.page, all, one, two);
+    let t = pages(host, f.page, all, one, two);
     let u = unlike_in(id_one, id_two, 0, id_one.len());
     let locked_one = is_locked(held_one);
     let locked_two = is_locked(held_two);
     if (t.pages == 0) & (u.bytes == 0) & (locked_one == locked_two) {
-        return say(t.ok, b"same\n");
+        return say(host, t.ok, b"same\n");
     }
-    let told = lock(ident(t.ok, u, id_one, id_two), locked_one, locked_two);
-    total(told, t, all)
+    let told = lock(
+        host,
+        ident(host, t.ok, u, id_one, id_two),
+        locked_one,
+        locked_two,
+    );
+    total(host, told, t, all)
 }
 
 // ---- the second file's chip
 
 fn load_two(
+    host: &Host,
     l: Looking,
     part: u8,
     bytes: &[u8],
@@ -181,17 +193,18 @@ fn load_two(
     id: &mut [u8],
     counts: &mut [u32],
 ) -> bool {
-    let ready = files::chip_in(l.two, part, 0, bytes, held, array, id, counts);
+    let ready = files::chip_in(host, l.two, part, 0, bytes, held, array, id, counts);
     let Ready::Judged(verdict, _, _) = ready else {
         return false;
     };
     match verdict {
-        Verdict::Fine => tell(part, held_one, one, id_one, held, array, id),
-        Verdict::Refused(r) => source::refuse(r),
+        Verdict::Fine => tell(host, part, held_one, one, id_one, held, array, id),
+        Verdict::Refused(r) => source::refuse(host, r),
     }
 }
 
 fn lend_two(
+    host: &Host,
     l: Looking,
     part: u8,
     bytes: &[u8],
@@ -204,6 +217,7 @@ fn lend_two(
     let mut counts = [0u32; 8192];
     let mut held = [0u8; pack_chip::LENGTH];
     load_two(
+        host,
         l,
         part,
         bytes,
@@ -220,6 +234,7 @@ fn lend_two(
 // ---- the first file's chip
 
 fn load_one(
+    host: &Host,
     l: Looking,
     part: u8,
     bytes: &[u8],
@@ -229,22 +244,23 @@ fn load_one(
     id: &mut [u8],
     counts: &mut [u32],
 ) -> bool {
-    let ready = files::chip_in(l.one, part, 0, bytes, held, array, id, counts);
+    let ready = files::chip_in(host, l.one, part, 0, bytes, held, array, id, counts);
     let Ready::Judged(verdict, _, _) = ready else {
         return false;
     };
     match verdict {
-        Verdict::Fine => lend_two(l, part, bytes_two, held, array, id),
-        Verdict::Refused(r) => source::refuse(r),
+        Verdict::Fine => lend_two(host, l, part, bytes_two, held, array, id),
+        Verdict::Refused(r) => source::refuse(host, r),
     }
 }
 
-fn lend_one(l: Looking, part: u8, bytes: &[u8], bytes_two: &[u8]) -> bool {
+fn lend_one(host: &Host, l: Looking, part: u8, bytes: &[u8], bytes_two: &[u8]) -> bool {
     let mut array = [0u8; 32768];
     let mut id = [0u8; 64];
     let mut counts = [0u32; 8192];
     let mut held = [0u8; pack_chip::LENGTH];
     load_one(
+        host,
         l,
         part,
         bytes,
@@ -259,55 +275,59 @@ fn lend_one(l: Looking, part: u8, bytes: &[u8], bytes_two: &[u8]) -> bool {
 // ---- the files
 
 // The first that names a part says it.
-fn said(l: Looking, one: &[u8], two: &[u8]) -> Number {
-    let first = source::said(l, l.one, one);
+fn said(host: &Host, l: Looking, one: &[u8], two: &[u8]) -> Number {
+    let first = source::said(host, l, l.one, one);
     if first.ok {
         return first;
     }
-    source::said(l, l.two, two)
+    source::said(host, l, l.two, two)
 }
 
-fn look(l: Looking, one: &[u8], two: &[u8]) -> bool {
-    let part = said(l, one, two);
+fn look(host: &Host, l: Looking, one: &[u8], two: &[u8]) -> bool {
+    let part = said(host, l, one, two);
     if part.ok {
-        return lend_one(l, text::narrow(part.n), one, two);
+        return lend_one(host, l, text::narrow(part.n), one, two);
     }
-    files::complain(l.one, b": names no part: write PART before the files\n");
+    files::complain(
+        host,
+        l.one,
+        b": names no part: write PART before the files\n",
+    );
     false
 }
 
-fn read_two(l: Looking, one: &[u8], bytes: &mut [u8]) -> bool {
-    let got = files::contents(l.two, bytes);
+fn read_two(host: &Host, l: Looking, one: &[u8], bytes: &mut [u8]) -> bool {
+    let got = files::contents(host, l.two, bytes);
     let n = got.n;
     if got.ok {
         if n <= bytes.len() {
-            return look(l, one, &bytes[0..n]);
+            return look(host, l, one, &bytes[0..n]);
         }
     }
     false
 }
 
-fn open_two(l: Looking, one: &[u8]) -> bool {
+fn open_two(host: &Host, l: Looking, one: &[u8]) -> bool {
     let mut bytes = files::room();
-    read_two(l, one, &mut bytes)
+    read_two(host, l, one, &mut bytes)
 }
 
-fn read_one(l: Looking, bytes: &mut [u8]) -> bool {
-    let got = files::contents(l.one, bytes);
+fn read_one(host: &Host, l: Looking, bytes: &mut [u8]) -> bool {
+    let got = files::contents(host, l.one, bytes);
     let n = got.n;
     if got.ok {
         if n <= bytes.len() {
-            return open_two(l, &bytes[0..n]);
+            return open_two(host, l, &bytes[0..n]);
         }
     }
     false
 }
 
 // 1 is given before a file is looked at.
-pub(crate) fn open(l: Looking) -> bool {
+pub(crate) fn open(host: &Host, l: Looking) -> bool {
     if source::unknown(l) {
-        return source::refuse(Refusal::NoPart);
+        return source::refuse(host, Refusal::NoPart);
     }
     let mut bytes = files::room();
-    read_one(l, &mut bytes)
+    read_one(host, l, &mut bytes)
 }

@@ -1,6 +1,7 @@
 // The bytes of a file, byte for byte as `hexdump -C` prints them. Each function is told whether the lines before it were written, and says so
 // of its own.
 use crate::source;
+use host::Host;
 use parts::Refusal;
 use words::answer::say;
 use words::looking::Looking;
@@ -54,29 +55,29 @@ fn spell(line: &mut [u8], row: &[u8]) {
     }
 }
 
-fn offset(ok: bool, at: usize) -> bool {
+fn offset(host: &Host, ok: bool, at: usize) -> bool {
     let mut digits = [0u8; 16];
     let k = io::hex(at as u64, 8, &mut digits);
-    say(ok, &digits[..k])
+    say(host, ok, &digits[..k])
 }
 
 // As much of a line as so many bytes fill; its offset is told before, and the tests are for the proof alone.
-fn cut(ok: bool, line: &[u8], bytes: usize) -> bool {
+fn cut(host: &Host, ok: bool, line: &[u8], bytes: usize) -> bool {
     let end = onward(sign_column(bytes), 2);
     if 8 < end {
         if end <= line.len() {
-            return say(ok, &line[8..end]);
+            return say(host, ok, &line[8..end]);
         }
     }
     ok
 }
 
-fn row_told(ok: bool, at: usize, row: &[u8]) -> bool {
+fn row_told(host: &Host, ok: bool, at: usize, row: &[u8]) -> bool {
     let mut line = [b' '; WIDTH];
     spell(&mut line, row);
     parts::copy(&mut line, BAR, b"|");
     parts::copy(&mut line, sign_column(row.len()), b"|\n");
-    cut(offset(ok, at), &line, row.len())
+    cut(host, offset(host, ok, at), &line, row.len())
 }
 
 // ---- the lines
@@ -111,32 +112,36 @@ fn as_before(memory: &[u8], from: usize, k: usize) -> bool {
 }
 
 // A `*` stands for all that are as the one before.
-fn left_out(t: Seen) -> Seen {
-    let ok = if t.alike { t.ok } else { say(t.ok, b"*\n") };
+fn left_out(host: &Host, t: Seen) -> Seen {
+    let ok = if t.alike {
+        t.ok
+    } else {
+        say(host, t.ok, b"*\n")
+    };
     Seen { ok, alike: true }
 }
 
-fn row(t: Seen, all: bool, memory: &[u8], from: usize, k: usize) -> Seen {
+fn row(host: &Host, t: Seen, all: bool, memory: &[u8], from: usize, k: usize) -> Seen {
     if !all {
         if as_before(memory, from, k) {
-            return left_out(t);
+            return left_out(host, t);
         }
     }
     let at = place(from, k);
     Seen {
-        ok: row_told(t.ok, at, row_of(memory, at)),
+        ok: row_told(host, t.ok, at, row_of(memory, at)),
         alike: false,
     }
 }
 
-fn rows(memory: &[u8], from: usize, all: bool, n: usize) -> bool {
+fn rows(host: &Host, memory: &[u8], from: usize, all: bool, n: usize) -> bool {
     let mut t = Seen {
         ok: true,
         alike: false,
     };
     let mut k = 0;
     while k < n {
-        t = row(t, all, memory, from, k);
+        t = row(host, t, all, memory, from, k);
         k += 1;
     }
     t.ok
@@ -149,56 +154,56 @@ fn lines(bytes: usize) -> usize {
 }
 
 // From a place to the end of a memory, and the end.
-fn told(memory: &[u8], from: usize, all: bool) -> bool {
+fn told(host: &Host, memory: &[u8], from: usize, all: bool) -> bool {
     let n = if from < memory.len() {
         lines(memory.len() - from)
     } else {
         0
     };
-    let done = rows(memory, from, all, n);
-    say(offset(done, memory.len()), b"\n")
+    let done = rows(host, memory, from, all, n);
+    say(host, offset(host, done, memory.len()), b"\n")
 }
 
 // ---- what is asked for
 
-fn beyond() -> bool {
-    source::refuse(Refusal::Beyond)
+fn beyond(host: &Host) -> bool {
+    source::refuse(host, Refusal::Beyond)
 }
 
 // As hexdump has it: where no bytes are asked for there is no line, and of what goes to the end there is always the last one.
-fn stretch(l: Looking, memory: &[u8], end: usize) -> bool {
+fn stretch(host: &Host, l: Looking, memory: &[u8], end: usize) -> bool {
     if l.whole {
-        return told(memory, l.from, l.all);
+        return told(host, memory, l.from, l.all);
     }
     if l.length == 0 {
         return true;
     }
     if end <= memory.len() {
-        return told(&memory[0..end], l.from, l.all);
+        return told(host, &memory[0..end], l.from, l.all);
     }
-    beyond()
+    beyond(host)
 }
 
-fn within(l: Looking, memory: &[u8]) -> bool {
+fn within(host: &Host, l: Looking, memory: &[u8]) -> bool {
     let from = l.from;
     if memory.len() < from {
-        return beyond();
+        return beyond(host);
     }
     if !l.whole {
         if memory.len() - from < l.length {
-            return beyond();
+            return beyond(host);
         }
     }
-    stretch(l, memory, onward(from, l.length))
+    stretch(host, l, memory, onward(from, l.length))
 }
 
-pub(crate) fn tell(l: Looking, part: u8, array: &[u8], id: &[u8]) -> bool {
+pub(crate) fn tell(host: &Host, l: Looking, part: u8, array: &[u8], id: &[u8]) -> bool {
     let f = parts::facts_of(part);
     if !l.ident {
-        return within(l, array);
+        return within(host, l, array);
     }
     if f.ident {
-        return within(l, id);
+        return within(host, l, id);
     }
-    beyond()
+    beyond(host)
 }

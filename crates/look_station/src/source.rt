@@ -1,18 +1,19 @@
 // Which part a file is of, and what is answered where it is of none.
 use files::shape;
+use host::Host;
 use parts::Refusal;
 use words::looking::Looking;
 use words::report::Ground;
 use words::{Number, form, report};
 
 // Of what is refused here no place is told.
-pub(crate) fn refuse(r: Refusal) -> bool {
+pub(crate) fn refuse(host: &Host, r: Refusal) -> bool {
     let nowhere = Ground {
         page: 1,
         ident: false,
         from: 0,
     };
-    report::refused(nowhere, r)
+    report::refused(host, nowhere, r)
 }
 
 // Whether a part is asked for that there is not.
@@ -22,9 +23,9 @@ pub(crate) fn unknown(l: Looking) -> bool {
 }
 
 // An EPR image names its part. Bytes that are taken for another form may begin as one does, and name none.
-fn said_in(word: usize, bytes: &[u8]) -> Number {
+fn said_in(host: &Host, word: usize, bytes: &[u8]) -> Number {
     let part = image::part_in(bytes);
-    let is_image = files::form_in(word, part, bytes) == form::EPR;
+    let is_image = files::form_in(host, word, part, bytes) == form::EPR;
     Number {
         ok: is_image & shape::marked(bytes, b'R'),
         n: text::wide(part),
@@ -32,17 +33,17 @@ fn said_in(word: usize, bytes: &[u8]) -> Number {
 }
 
 // The part that is asked for, else the one that the file names.
-pub(crate) fn said(l: Looking, word: usize, bytes: &[u8]) -> Number {
+pub(crate) fn said(host: &Host, l: Looking, word: usize, bytes: &[u8]) -> Number {
     if l.named {
         return Number {
             ok: true,
             n: text::wide(l.part),
         };
     }
-    said_in(word, bytes)
+    said_in(host, word, bytes)
 }
 
-pub(crate) fn unsaid(word: usize) -> bool {
-    files::complain(word, b": names no part: write PART before the file\n");
+pub(crate) fn unsaid(host: &Host, word: usize) -> bool {
+    files::complain(host, word, b": names no part: write PART before the file\n");
     false
 }

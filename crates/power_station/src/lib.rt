@@ -1,12 +1,14 @@
 // The command `power`: which bytes a loss of power in each cycle of a write may spoil. Driver and model run the write on a part as delivered; at
 // each Stop that begins a cycle a copy of the chip loses its power. Also what `write --cut` shares with it.
 #![tactic(auto)]
+
 pub mod cut;
 
 ghost use Rattle.std.specs.Prelude.{◌≡◌, length};
 
 use cut::Under;
 use driver::{Place, Request};
+use host::Host;
 use parts::{ArrayAddress, IdLocation, Verdict};
 use words::answer::{count, number, say};
 use words::report::Ground;
@@ -145,29 +147,29 @@ pub fn take(
 
 // ---- what is told
 
-fn plural(ok: bool, n: usize) -> bool {
-    let told = number(ok, n);
+fn plural(host: &Host, ok: bool, n: usize) -> bool {
+    let told = number(host, ok, n);
     if n == 1 {
-        return say(told, b" byte");
+        return say(host, told, b" byte");
     }
-    say(told, b" bytes")
+    say(host, told, b" bytes")
 }
 
 // `M24C64: groups of 4 bytes`
-fn heading(part: u8) -> bool {
+fn heading(host: &Host, part: u8) -> bool {
     let f = parts::facts_of(part);
-    let named = answer::written(words::say_name(part));
-    let told = plural(say(named, b": groups of "), f.group);
-    say(told, b"\n")
+    let named = answer::written(host, words::say_name(host, part));
+    let told = plural(host, say(host, named, b": groups of "), f.group);
+    say(host, told, b"\n")
 }
 
-fn beside(ok: bool, n: usize) -> bool {
+fn beside(host: &Host, ok: bool, n: usize) -> bool {
     let told = if n == 0 {
-        say(ok, b", no byte")
+        say(host, ok, b", no byte")
     } else {
-        plural(say(ok, b", "), n)
+        plural(host, say(host, ok, b", "), n)
     };
-    say(told, b" beside those written\n")
+    say(host, told, b" beside those written\n")
 }
 
 // Guarded for the proof alone: no array has so many bytes.
@@ -181,11 +183,11 @@ fn sum(n: usize, more: usize) -> usize {
 }
 
 // `0024h..0027h, 2 bytes beside those written`
-fn spoiled(a: Asked, w: Told, before: &[u8], after: &[u8]) -> Told {
+fn spoiled(host: &Host, a: Asked, w: Told, before: &[u8], after: &[u8]) -> Told {
     let all = cut::differing(before, after, 0, 0);
     let more = cut::differing(before, after, a.at, a.length);
     Told {
-        ok: beside(answer::spans(w.ok, before, after), more),
+        ok: beside(host, answer::spans(host, w.ok, before, after), more),
         pages: cut::counted(w.pages, true),
         bytes: sum(w.bytes, all),
         beside: sum(w.beside, more),
@@ -193,27 +195,27 @@ fn spoiled(a: Asked, w: Told, before: &[u8], after: &[u8]) -> Told {
     }
 }
 
-fn named(a: Asked, w: Told, p: usize) -> Told {
+fn named(host: &Host, a: Asked, w: Told, p: usize) -> Told {
     let f = parts::facts_of(a.part);
-    let told = say(w.ok, b"page ");
-    let placed = answer::address(told, report::first_of(p, f.page));
+    let told = say(host, w.ok, b"page ");
+    let placed = answer::address(host, told, report::first_of(p, f.page));
     Told {
-        ok: say(placed, b": "),
+        ok: say(host, placed, b": "),
         ..w
     }
 }
 
-fn named_ident(w: Told) -> Told {
+fn named_ident(host: &Host, w: Told) -> Told {
     Told {
-        ok: say(w.ok, b"identification page: "),
+        ok: say(host, w.ok, b"identification page: "),
         ..w
     }
 }
 
-fn totals(w: Told) -> bool {
-    let pages = number(say(w.ok, b"pages "), w.pages);
-    let bytes = number(say(pages, b" bytes "), w.bytes);
-    count(bytes, b" beside ", w.beside)
+fn totals(host: &Host, w: Told) -> bool {
+    let pages = number(host, say(host, w.ok, b"pages "), w.pages);
+    let bytes = number(host, say(host, pages, b" bytes "), w.bytes);
+    count(host, bytes, b" beside ", w.beside)
 }
 
 // ---- the run
@@ -269,6 +271,7 @@ fn lose_with(
 
 // What then differs. The driver never locks.
 fn tell_lost(
+    host: &Host,
     a: Asked,
     w: Told,
     held: &[u8],
@@ -280,14 +283,15 @@ fn tell_lost(
     let now = cut::cycle_of(a.part, pack_chip::unpack(held));
     match now {
         Under::Nothing => w,
-        Under::Page(p) => spoiled(a, named(a, w, p), array, other),
-        Under::Ident => spoiled(a, named_ident(w), id, other_id),
+        Under::Page(p) => spoiled(host, a, named(host, a, w, p), array, other),
+        Under::Ident => spoiled(host, a, named_ident(host, w), id, other_id),
         Under::Lock => w,
     }
 }
 
 // One event of the tape; where it begins a cycle, that one is cut on the copy.
 fn step(
+    host: &Host,
     a: Asked,
     w: Told,
     code: u8,
@@ -301,12 +305,13 @@ fn step(
     if t.begins {
         copy(array, id, other, other_id);
         lose_with(a, held, array, id, other, other_id);
-        return tell_lost(a, w, held, array, id, other, other_id);
+        return tell_lost(host, a, w, held, array, id, other, other_id);
     }
     w
 }
 
 fn walk(
+    host: &Host,
     a: Asked,
     first: Told,
     held: &mut [u8],
@@ -319,7 +324,7 @@ fn walk(
     let mut w = first;
     let mut i = 0;
     while i < events.len() {
-        w = step(a, w, events[i], held, array, id, other, other_id);
+        w = step(host, a, w, events[i], held, array, id, other, other_id);
         i += 1;
     }
     w
@@ -327,6 +332,7 @@ fn walk(
 
 // The tape goes over a part as delivered.
 fn tell_all(
+    host: &Host,
     a: Asked,
     held: &mut [u8],
     array: &mut [u8],
@@ -337,16 +343,20 @@ fn tell_all(
 ) -> bool {
     files::delivered(a.part, held, array, id);
     let first = Told {
-        ok: heading(a.part),
+        ok: heading(host, a.part),
         pages: 0,
         bytes: 0,
         beside: 0,
     };
-    totals(walk(a, first, held, array, id, other, other_id, events))
+    totals(
+        host,
+        walk(host, a, first, held, array, id, other, other_id, events),
+    )
 }
 
 // The tape's first events, all that there are: no write with one poll a page has more than it keeps.
 fn tell_sent(
+    host: &Host,
     job: Job,
     sent: usize,
     held: &mut [u8],
@@ -363,7 +373,7 @@ fn tell_sent(
         length: job.length,
     };
     if sent <= events.len() {
-        return tell_all(a, held, array, id, other, other_id, &events[0..sent]);
+        return tell_all(host, a, held, array, id, other, other_id, &events[0..sent]);
     }
     false
 }
@@ -383,6 +393,7 @@ fn tried(
 }
 
 fn run(
+    host: &Host,
     job: Job,
     held: &mut [u8],
     array: &mut [u8],
@@ -396,18 +407,19 @@ fn run(
     let e = tried(job, held, array, id, data, &mut events, &mut levels);
     let verdict = e.verdict;
     match verdict {
-        Verdict::Fine => tell_sent(job, e.sent, held, array, id, other, other_id, &events),
-        Verdict::Refused(r) => report::refused(ground(job), r),
+        Verdict::Fine => tell_sent(host, job, e.sent, held, array, id, other, other_id, &events),
+        Verdict::Refused(r) => report::refused(host, ground(job), r),
     }
 }
 
-fn lend(job: Job, data: &mut [u8]) -> bool {
+fn lend(host: &Host, job: Job, data: &mut [u8]) -> bool {
     let mut held = [0u8; pack_chip::LENGTH];
     let mut array = [0u8; 32768];
     let mut id = [0u8; 64];
     let mut other = [0u8; 32768];
     let mut other_id = [0u8; 64];
     run(
+        host,
         job,
         &mut held,
         fitted::array(job.part, &mut array),
@@ -419,18 +431,18 @@ fn lend(job: Job, data: &mut [u8]) -> bool {
 }
 
 // What is written does not matter: zeros.
-fn answer_in(job: Job, data: &mut [u8]) -> bool {
+fn answer_in(host: &Host, job: Job, data: &mut [u8]) -> bool {
     let n = limited(job.length);
-    lend(Job { length: n, ..job }, fitted::first(data, n))
+    lend(host, Job { length: n, ..job }, fitted::first(data, n))
 }
 
 // `power PART ADDRESS LENGTH ..`: `next` is the first word behind the command's, and the words end before `end`. False where not all could be
 // answered: standard error has the reason.
-pub fn power_command(next: usize, end: usize) -> bool {
-    let job = words::power_asked(next, end);
+pub fn power_command(host: &Host, next: usize, end: usize) -> bool {
+    let job = words::power_asked(host, next, end);
     if job.ok {
         let mut data = [0u8; 32769];
-        return answer_in(job, &mut data);
+        return answer_in(host, job, &mut data);
     }
     false
 }

@@ -1,6 +1,7 @@
 // A write whose power is lost before an event (document 02, §5). The run is recorded on copies; the chip as it was then takes the tape up to that
 // event, and a reset.
 use driver::{Answer, Driver};
+use host::Host;
 use parts::{Refusal, Verdict};
 use power_station::cut::Under;
 use power_station::{Ended, TAPE, Taken, cut, ground, request};
@@ -215,49 +216,58 @@ fn lost(job: Job, page: &[u8], c: Chip, array: &mut [u8], id: &mut [u8]) -> Chip
 
 // ---- what is told
 
-pub fn wrong_page(r: Refusal, n: usize, wanted: usize) -> bool {
+pub fn wrong_page(host: &Host, r: Refusal, n: usize, wanted: usize) -> bool {
     let named = say(
-        answer::refused(r),
+        host,
+        answer::refused(host, r),
         b"the page lent for a loss of power: got ",
     );
-    let told = number(named, n);
-    answer::count(told, b" bytes, wanted ", wanted)
+    let told = number(host, named, n);
+    answer::count(host, told, b" bytes, wanted ", wanted)
 }
 
-fn tell_under(ok: bool, job: Job, under: Under) -> bool {
+fn tell_under(host: &Host, ok: bool, job: Job, under: Under) -> bool {
     match under {
-        Under::Nothing => say(ok, b"in no cycle\n"),
+        Under::Nothing => say(host, ok, b"in no cycle\n"),
         Under::Page(p) => {
-            let named = say(ok, b"in the cycle of ");
-            say(report::page(named, ground(job), p), b"\n")
+            let named = say(host, ok, b"in the cycle of ");
+            say(host, report::page(host, named, ground(job), p), b"\n")
         }
-        Under::Ident => say(ok, b"in the cycle of the identification page\n"),
-        Under::Lock => say(ok, b"in a locking cycle\n"),
+        Under::Ident => say(host, ok, b"in the cycle of the identification page\n"),
+        Under::Lock => say(host, ok, b"in a locking cycle\n"),
     }
 }
 
 // `cut before event 96, in the cycle of page 1 (0020h to 003Fh)`
-fn tell_cut(job: Job, under: Under) -> bool {
-    let named = say(true, b"cut before event ");
-    let told = number(named, job.cut);
-    tell_under(say(told, b", "), job, under)
+fn tell_cut(host: &Host, job: Job, under: Under) -> bool {
+    let named = say(host, true, b"cut before event ");
+    let told = number(host, named, job.cut);
+    tell_under(host, say(host, told, b", "), job, under)
 }
 
-fn tell_figures(ok: bool, job: Job, f: Standing, polls: usize, bytes: usize) -> bool {
-    report::figures(ok, bytes, job.length, polls, f.cycles, f.clocks)
+fn tell_figures(host: &Host, ok: bool, job: Job, f: Standing, polls: usize, bytes: usize) -> bool {
+    report::figures(host, ok, bytes, job.length, polls, f.cycles, f.clocks)
 }
 
 // A verdict where the driver had finished by then.
-fn tell_driver(ok: bool, job: Job, f: Standing) -> bool {
+fn tell_driver(host: &Host, ok: bool, job: Job, f: Standing) -> bool {
     if !ok {
         return false;
     }
     let next = f.next;
     match next {
-        Answer::Send(_) => tell_figures(say(true, b"under way\n"), job, f, f.polls, f.bytes),
+        Answer::Send(_) => tell_figures(
+            host,
+            say(host, true, b"under way\n"),
+            job,
+            f,
+            f.polls,
+            f.bytes,
+        ),
         Answer::Done(polls, bytes) => {
             tell_figures(
-                report::head(ground(job), Verdict::Fine),
+                host,
+                report::head(host, ground(job), Verdict::Fine),
                 job,
                 f,
                 polls,
@@ -265,32 +275,52 @@ fn tell_driver(ok: bool, job: Job, f: Standing) -> bool {
             )
         }
         Answer::Refused(r, polls, bytes) => {
-            tell_figures(report::refused(ground(job), r), job, f, polls, bytes)
+            tell_figures(
+                host,
+                report::refused(host, ground(job), r),
+                job,
+                f,
+                polls,
+                bytes,
+            )
         }
     }
 }
 
-fn tell_place(ok: bool, ident: bool, at: usize) -> bool {
-    let named = if ident { say(ok, b"location ") } else { ok };
-    answer::address(named, at)
+fn tell_place(host: &Host, ok: bool, ident: bool, at: usize) -> bool {
+    let named = if ident {
+        say(host, ok, b"location ")
+    } else {
+        ok
+    };
+    answer::address(host, named, at)
 }
 
 // `0024h: FFh -> 00h beside`
-fn tell_byte(ok: bool, ident: bool, at: usize, is_asked: bool, old: u8, new: u8) -> bool {
+fn tell_byte(
+    host: &Host,
+    ok: bool,
+    ident: bool,
+    at: usize,
+    is_asked: bool,
+    old: u8,
+    new: u8,
+) -> bool {
     if old == new {
         return ok;
     }
-    let placed = tell_place(ok, ident, at);
-    let from = answer::byte(say(placed, b": "), old);
-    let to = answer::byte(say(from, b" -> "), new);
+    let placed = tell_place(host, ok, ident, at);
+    let from = answer::byte(host, say(host, placed, b": "), old);
+    let to = answer::byte(host, say(host, from, b" -> "), new);
     if is_asked {
-        return say(to, b" asked\n");
+        return say(host, to, b" asked\n");
     }
-    say(to, b" beside\n")
+    say(host, to, b" beside\n")
 }
 
 // Each byte of a memory that is not as before the run; so many from a place on were asked to be written.
 fn tell_bytes(
+    host: &Host,
     ok: bool,
     ident: bool,
     from: usize,
@@ -303,18 +333,18 @@ fn tell_bytes(
     while i < after.len() {
         let old = parts::byte_at(before, i);
         let new = parts::byte_at(after, i);
-        told = tell_byte(told, ident, i, cut::inside(i, from, many), old, new);
+        told = tell_byte(host, told, ident, i, cut::inside(i, from, many), old, new);
         i += 1;
     }
     told
 }
 
 // Of the memory that is not asked for no byte is.
-fn tell_memory(ok: bool, job: Job, ident: bool, before: &[u8], after: &[u8]) -> bool {
+fn tell_memory(host: &Host, ok: bool, job: Job, ident: bool, before: &[u8], after: &[u8]) -> bool {
     if ident == job.ident {
-        return tell_bytes(ok, ident, job.at, job.length, before, after);
+        return tell_bytes(host, ok, ident, job.at, job.length, before, after);
     }
-    tell_bytes(ok, ident, 0, 0, before, after)
+    tell_bytes(host, ok, ident, 0, 0, before, after)
 }
 
 fn put(tape: &mut [u8], at: usize, x: u8) {
@@ -332,25 +362,28 @@ fn taped(job: Job, events: &mut [u8], levels: &mut [u8]) -> usize {
     cut::counted(at, true)
 }
 
-fn tell_tape(ok: bool, job: Job, events: &mut [u8], levels: &mut [u8]) -> bool {
+fn tell_tape(host: &Host, ok: bool, job: Job, events: &mut [u8], levels: &mut [u8]) -> bool {
     let n = taped(job, events, levels);
-    crate::tell_tape(ok, job.events, n, events, levels)
+    crate::tell_tape(host, ok, job.events, n, events, levels)
 }
 
 // ---- the run
 
 // The cut is at an event of the tape, or behind its last.
-fn on_tape(k: usize, sent: usize) -> bool {
+fn on_tape(host: &Host, k: usize, sent: usize) -> bool {
     if sent < k {
-        words::trouble(b"--cut: got ");
-        files::tell::number(k);
-        files::tell::say(b", wanted no more than the ");
-        files::tell::number(sent);
-        files::tell::say(b" events of the run\n");
+        words::trouble(host, b"--cut: got ");
+        files::tell::number(host, k);
+        files::tell::say(host, b", wanted no more than the ");
+        files::tell::number(host, sent);
+        files::tell::say(host, b" events of the run\n");
         return false;
     }
     if TAPE <= k {
-        words::trouble(b"--cut goes up to 393215: no more events of a run are kept\n");
+        words::trouble(
+            host,
+            b"--cut goes up to 393215: no more events of a run are kept\n",
+        );
         return false;
     }
     true
@@ -389,6 +422,7 @@ fn cut_chip(
 
 // `was` has what stood before the run.
 fn tell(
+    host: &Host,
     job: Job,
     found: Standing,
     array: &[u8],
@@ -399,16 +433,17 @@ fn tell(
     levels: &mut [u8],
 ) -> bool {
     let under = found.under;
-    let named = tell_cut(job, under);
-    let told = tell_driver(named, job, found);
-    let taped = tell_tape(told, job, events, levels);
-    let listed = tell_memory(taped, job, false, was, array);
-    let all = tell_memory(listed, job, true, was_id, id);
-    crate::tell_worst(all, job, found.worst)
+    let named = tell_cut(host, job, under);
+    let told = tell_driver(host, named, job, found);
+    let taped = tell_tape(host, told, job, events, levels);
+    let listed = tell_memory(host, taped, job, false, was, array);
+    let all = tell_memory(host, listed, job, true, was_id, id);
+    crate::tell_worst(host, all, job, found.worst)
 }
 
 // The wires up to the cut; the loss of power is no event of the wires, but it ends a cycle.
 fn drawn(
+    host: &Host,
     job: Job,
     held: &[u8],
     array: &mut [u8],
@@ -416,15 +451,16 @@ fn drawn(
     events: &mut [u8],
     levels: &mut [u8],
 ) -> bool {
-    if !crate::sampled(job, job.cut, events, levels) {
+    if !crate::sampled(host, job, job.cut, events, levels) {
         return false;
     }
     let n = taped(job, events, levels);
-    crate::dumped(job, n, events, levels, held, array, id)
+    crate::dumped(host, job, n, events, levels, held, array, id)
 }
 
 // The chip before the run is kept for what is told.
 fn drawn_copy(
+    host: &Host,
     job: Job,
     held: &[u8],
     was: &[u8],
@@ -436,6 +472,7 @@ fn drawn_copy(
     let mut id = [0u8; 64];
     power_station::copy(was, was_id, &mut array, &mut id);
     drawn(
+        host,
         job,
         held,
         fitted::array(job.part, &mut array),
@@ -447,6 +484,7 @@ fn drawn_copy(
 
 // The files stand before the report is told.
 fn cut_run(
+    host: &Host,
     job: Job,
     page: &[u8],
     held: &mut [u8],
@@ -463,11 +501,11 @@ fn cut_run(
     let mut before = [0u8; pack_chip::LENGTH];
     pack_chip::pack(pack_chip::unpack(held), &mut before);
     let found = cut_chip(job, page, events, held, array, id, counts, worst, data);
-    if !drawn_copy(job, &before, was, was_id, events, levels) {
+    if !drawn_copy(host, job, &before, was, was_id, events, levels) {
         return false;
     }
-    if files::save_kept(job, held, array, id, counts) {
-        return tell(job, found, array, id, was, was_id, events, levels);
+    if files::save_kept(host, job, held, array, id, counts) {
+        return tell(host, job, found, array, id, was, was_id, events, levels);
     }
     false
 }
@@ -507,6 +545,7 @@ fn whole(
 
 // One that is refused before its first event is told as if nothing cut it.
 fn run_on(
+    host: &Host,
     job: Job,
     page: &[u8],
     held: &mut [u8],
@@ -533,10 +572,11 @@ fn run_on(
     );
     let verdict = e.verdict;
     if (e.sent == 0) & !crate::is_fine(verdict) {
-        return crate::tell_report(job, e);
+        return crate::tell_report(host, job, e);
     }
-    if on_tape(job.cut, e.sent) {
+    if on_tape(host, job.cut, e.sent) {
         return cut_run(
+            host,
             job,
             page,
             held,
@@ -555,6 +595,7 @@ fn run_on(
 }
 
 pub fn run(
+    host: &Host,
     job: Job,
     page: &[u8],
     held: &mut [u8],
@@ -567,6 +608,7 @@ pub fn run(
     let mut was = [0u8; 32768];
     let mut was_id = [0u8; 64];
     run_on(
+        host,
         job,
         page,
         held,

@@ -1,12 +1,14 @@
 // One write or read at a bench, as the words of a command line ask for it: driver and model together, on a chip as delivered or
 // on a stored one.
 #![tactic(auto)]
+
 mod cutting;
 mod show;
 mod wires;
 
 use bench::Kept;
 use files::Ready;
+use host::Host;
 use parts::{Loss, Refusal, Verdict};
 use power_station::{Ended, TAPE, ground, recorded, request};
 use wear::Most;
@@ -22,46 +24,53 @@ struct Counted {
 
 // ---- the run
 
-fn tell_cut(sent: usize) {
+fn tell_cut(host: &Host, sent: usize) {
     if TAPE < sent {
-        io::write_all(
-            libc::STDERR_FILENO,
+        host.write_all(
+            host::STDERR,
             b"sapwoodle: only the first 393216 events are shown\n",
         );
     }
 }
 
-fn tell_tape(ok: bool, shown: bool, sent: usize, events: &mut [u8], levels: &mut [u8]) -> bool {
+fn tell_tape(
+    host: &Host,
+    ok: bool,
+    shown: bool,
+    sent: usize,
+    events: &mut [u8],
+    levels: &mut [u8],
+) -> bool {
     if !shown {
         return ok;
     }
-    tell_cut(sent);
-    let told = answer::tape(ok, false, sent, events);
-    answer::tape(told, true, sent, levels)
+    tell_cut(host, sent);
+    let told = answer::tape(host, ok, false, sent, events);
+    answer::tape(host, told, true, sent, levels)
 }
 
-fn dump(ok: bool, job: Job, data: &[u8]) -> bool {
+fn dump(host: &Host, ok: bool, job: Job, data: &[u8]) -> bool {
     let n = job.length;
     if job.reads {
         if n <= data.len() {
-            return show::dump(ok, job.at, &data[0..n]);
+            return show::dump(host, ok, job.at, &data[0..n]);
         }
     }
     ok
 }
 
 // The tape's first events, all that there are.
-fn draw(word: usize, sent: usize, events: &[u8], levels: &[u8]) -> bool {
+fn draw(host: &Host, word: usize, sent: usize, events: &[u8], levels: &[u8]) -> bool {
     if sent <= events.len() {
         if sent <= levels.len() {
-            return wires::store(word, &events[0..sent], &levels[0..sent]);
+            return wires::store(host, word, &events[0..sent], &levels[0..sent]);
         }
     }
-    too_many()
+    too_many(host)
 }
 
-fn too_many() -> bool {
-    words::trouble(b"more than 393216 events, too many to draw\n");
+fn too_many(host: &Host) -> bool {
+    words::trouble(host, b"more than 393216 events, too many to draw\n");
     false
 }
 
@@ -70,15 +79,16 @@ fn is_fine(verdict: Verdict) -> bool {
 }
 
 // As samples.
-fn sampled(job: Job, sent: usize, events: &[u8], levels: &[u8]) -> bool {
+fn sampled(host: &Host, job: Job, sent: usize, events: &[u8], levels: &[u8]) -> bool {
     if job.drawn == 0 {
         return true;
     }
-    draw(job.drawn, sent, events, levels)
+    draw(host, job.drawn, sent, events, levels)
 }
 
 // As a value change dump, from the chip before the run on, which is lent for it.
 fn dumped(
+    host: &Host,
     job: Job,
     sent: usize,
     events: &[u8],
@@ -93,6 +103,7 @@ fn dumped(
     if sent <= events.len() {
         if sent <= levels.len() {
             return vcd::store(
+                host,
                 job.vcd,
                 job.part,
                 job.own,
@@ -104,11 +115,12 @@ fn dumped(
             );
         }
     }
-    too_many()
+    too_many(host)
 }
 
 // The wires of a run, done or not; of one that was refused before its first event there are none.
 fn drawn(
+    host: &Host,
     job: Job,
     verdict: Verdict,
     sent: usize,
@@ -121,24 +133,33 @@ fn drawn(
     if (sent == 0) & !is_fine(verdict) {
         return true;
     }
-    if sampled(job, sent, events, levels) {
-        return dumped(job, sent, events, levels, held, array, id);
+    if sampled(host, job, sent, events, levels) {
+        return dumped(host, job, sent, events, levels, held, array, id);
     }
     false
 }
 
 // A run that is not done leaves no file.
-fn saved(job: Job, verdict: Verdict, held: &[u8], array: &[u8], id: &[u8], counts: &[u32]) -> bool {
+fn saved(
+    host: &Host,
+    job: Job,
+    verdict: Verdict,
+    held: &[u8],
+    array: &[u8],
+    id: &[u8],
+    counts: &[u32],
+) -> bool {
     match verdict {
-        Verdict::Fine => files::save_kept(job, held, array, id, counts),
+        Verdict::Fine => files::save_kept(host, job, held, array, id, counts),
         Verdict::Refused(_) => true,
     }
 }
 
-fn tell_report(job: Job, e: Ended) -> bool {
+fn tell_report(host: &Host, job: Job, e: Ended) -> bool {
     let verdict = e.verdict;
     report::figures(
-        report::head(ground(job), verdict),
+        host,
+        report::head(host, ground(job), verdict),
         e.bytes,
         job.length,
         e.polls,
@@ -148,28 +169,33 @@ fn tell_report(job: Job, e: Ended) -> bool {
 }
 
 // The last line, where counts are saved: the most worn group, if there is one.
-fn tell_worst(ok: bool, job: Job, worst: Most) -> bool {
+fn tell_worst(host: &Host, ok: bool, job: Job, worst: Most) -> bool {
     let f = parts::facts_of(job.part);
     if files::keeps(job) & (0 < worst.count) {
-        return say(report::most(ok, f.group, worst.group, worst.count), b"\n");
+        return say(
+            host,
+            report::most(host, ok, f.group, worst.group, worst.count),
+            b"\n",
+        );
     }
     ok
 }
 
 // Of a run that is done: the bytes of a read, and the worst.
-fn tell_rest(ok: bool, job: Job, verdict: Verdict, data: &[u8], worst: Most) -> bool {
+fn tell_rest(host: &Host, ok: bool, job: Job, verdict: Verdict, data: &[u8], worst: Most) -> bool {
     match verdict {
-        Verdict::Fine => tell_worst(dump(ok, job, data), job, worst),
+        Verdict::Fine => tell_worst(host, dump(host, ok, job, data), job, worst),
         Verdict::Refused(_) => ok,
     }
 }
 
 // The worst is found as a file is loaded, so the counts bear it out, and this is never told.
-fn tell_wrong_worst() -> bool {
+fn tell_wrong_worst(host: &Host) -> bool {
     let r = parts::number(Refusal::BadState);
-    words::status::refused();
-    let told = answer::number(say(true, b"refused "), text::wide(r));
+    words::status::refused(host);
+    let told = answer::number(host, say(host, true, b"refused "), text::wide(r));
     say(
+        host,
         told,
         b": the stored worst group is not what the counts say\n",
     )
@@ -241,6 +267,7 @@ fn count(
 
 // The report, behind files that stand.
 fn told(
+    host: &Host,
     job: Job,
     e: Ended,
     worst: Most,
@@ -249,12 +276,13 @@ fn told(
     levels: &mut [u8],
 ) -> bool {
     let verdict = e.verdict;
-    let told = tell_report(job, e);
-    let taped = tell_tape(told, job.events, e.sent, events, levels);
-    tell_rest(taped, job, verdict, data, worst)
+    let told = tell_report(host, job, e);
+    let taped = tell_tape(host, told, job.events, e.sent, events, levels);
+    tell_rest(host, taped, job, verdict, data, worst)
 }
 
 fn run_taped(
+    host: &Host,
     job: Job,
     held: &mut [u8],
     array: &mut [u8],
@@ -270,17 +298,20 @@ fn run_taped(
 ) -> bool {
     let e = recorded(job, held, array, id, data, events, levels);
     let verdict = e.verdict;
-    if !drawn(job, verdict, e.sent, events, levels, before, was, was_id) {
+    if !drawn(
+        host, job, verdict, e.sent, events, levels, before, was, was_id,
+    ) {
         return false;
     }
-    if saved(job, verdict, held, array, id, counts) {
-        return told(job, e, worst, data, events, levels);
+    if saved(host, job, verdict, held, array, id, counts) {
+        return told(host, job, e, worst, data, events, levels);
     }
     false
 }
 
 // `was`, `was_id` and `before` are the chip before the run, from which it is drawn.
 fn run_on(
+    host: &Host,
     job: Job,
     held: &mut [u8],
     array: &mut [u8],
@@ -297,6 +328,7 @@ fn run_on(
     pack_chip::pack(pack_chip::unpack(held), before);
     power_station::copy(array, id, was, was_id);
     run_taped(
+        host,
         job,
         held,
         array,
@@ -313,6 +345,7 @@ fn run_on(
 }
 
 fn run(
+    host: &Host,
     job: Job,
     held: &mut [u8],
     array: &mut [u8],
@@ -325,6 +358,7 @@ fn run(
     let mut was_id = [0u8; 64];
     let mut before = [0u8; pack_chip::LENGTH];
     run_on(
+        host,
         job,
         held,
         array,
@@ -339,6 +373,7 @@ fn run(
 }
 
 fn run_or_cut(
+    host: &Host,
     job: Job,
     page: &[u8],
     held: &mut [u8],
@@ -349,16 +384,17 @@ fn run_or_cut(
     data: &mut [u8],
 ) -> bool {
     if job.cuts {
-        return cutting::run(job, page, held, array, id, counts, worst, data);
+        return cutting::run(host, job, page, held, array, id, counts, worst, data);
     }
     let c = count(job, held, array, id, data, counts, worst);
     if c.right {
-        return run(job, held, array, id, counts, c.worst, data);
+        return run(host, job, held, array, id, counts, c.worst, data);
     }
-    tell_wrong_worst()
+    tell_wrong_worst(host)
 }
 
 fn run_prepared(
+    host: &Host,
     verdict: Verdict,
     job: Job,
     page: &[u8],
@@ -371,12 +407,13 @@ fn run_prepared(
 ) -> bool {
     let ready = files::prepared(verdict, job, held, array, id);
     match ready {
-        Verdict::Fine => run_or_cut(job, page, held, array, id, counts, worst, data),
-        Verdict::Refused(r) => report::refused(ground(job), r),
+        Verdict::Fine => run_or_cut(host, job, page, held, array, id, counts, worst, data),
+        Verdict::Refused(r) => report::refused(host, ground(job), r),
     }
 }
 
 fn begin(
+    host: &Host,
     job: Job,
     page: &[u8],
     held: &mut [u8],
@@ -385,7 +422,7 @@ fn begin(
     counts: &mut [u32],
     data: &mut [u8],
 ) -> bool {
-    let first = files::at_first(job, held, array, id, counts);
+    let first = files::at_first(host, job, held, array, id, counts);
     match first {
         Ready::Told => false,
         Ready::Judged(verdict, worn, worst) => {
@@ -393,17 +430,20 @@ fn begin(
                 wear: job.wear | worn,
                 ..job
             };
-            run_prepared(verdict, kept, page, held, array, id, counts, worst, data)
+            run_prepared(
+                host, verdict, kept, page, held, array, id, counts, worst, data,
+            )
         }
     }
 }
 
-fn lend(job: Job, page: &[u8], data: &mut [u8]) -> bool {
+fn lend(host: &Host, job: Job, page: &[u8], data: &mut [u8]) -> bool {
     let mut array = [0u8; 32768];
     let mut id = [0u8; 64];
     let mut counts = [0u32; 8192];
     let mut held = [0u8; pack_chip::LENGTH];
     begin(
+        host,
         job,
         page,
         &mut held,
@@ -415,54 +455,54 @@ fn lend(job: Job, page: &[u8], data: &mut [u8]) -> bool {
 }
 
 // Refusal 3 is given before a stored chip is looked at.
-fn judged(job: Job, page: &[u8], data: &mut [u8]) -> bool {
+fn judged(host: &Host, job: Job, page: &[u8], data: &mut [u8]) -> bool {
     let f = parts::facts_of(job.part);
     let verdict = parts::loss_verdict(f, Loss::Lent(job.lock), page.len());
     match verdict {
-        Verdict::Fine => lend(job, page, data),
-        Verdict::Refused(r) => cutting::wrong_page(r, page.len(), f.page),
+        Verdict::Fine => lend(host, job, page, data),
+        Verdict::Refused(r) => cutting::wrong_page(host, r, page.len(), f.page),
     }
 }
 
-fn paged_in(job: Job, bytes: &mut [u8], data: &mut [u8]) -> bool {
-    let got = files::contents(job.page, bytes);
+fn paged_in(host: &Host, job: Job, bytes: &mut [u8], data: &mut [u8]) -> bool {
+    let got = files::contents(host, job.page, bytes);
     let n = got.n;
     if !got.ok {
         return false;
     }
-    if files::too_long(job.page, n) {
+    if files::too_long(host, job.page, n) {
         return false;
     }
     if n <= bytes.len() {
-        return judged(job, &bytes[0..n], data);
+        return judged(host, job, &bytes[0..n], data);
     }
     false
 }
 
 // The page that is lent for a loss of power, where a file has it.
-fn paged(job: Job, data: &mut [u8]) -> bool {
+fn paged(host: &Host, job: Job, data: &mut [u8]) -> bool {
     if job.page == 0 {
-        return lend(job, b"", data);
+        return lend(host, job, b"", data);
     }
     let mut bytes = files::room();
-    paged_in(job, &mut bytes, data)
+    paged_in(host, job, &mut bytes, data)
 }
 
 // 1 and 2 are given before a file is looked at. False where nothing, or not all, could be answered: standard error has the reason.
-fn answer(job: Job, data: &mut [u8]) -> bool {
+fn answer(host: &Host, job: Job, data: &mut [u8]) -> bool {
     let verdict = files::judged(job);
     match verdict {
-        Verdict::Fine => paged(job, data),
-        Verdict::Refused(r) => report::refused(ground(job), r),
+        Verdict::Fine => paged(host, job, data),
+        Verdict::Refused(r) => report::refused(host, ground(job), r),
     }
 }
 
-fn write_in(job: Job, data: &mut [u8]) -> bool {
-    let got = words::data(data, job.bytes);
+fn write_in(host: &Host, job: Job, data: &mut [u8]) -> bool {
+    let got = words::data(host, data, job.bytes);
     let n = got.n;
     if got.ok {
         if n <= data.len() {
-            return answer(Job { length: n, ..job }, &mut data[0..n]);
+            return answer(host, Job { length: n, ..job }, &mut data[0..n]);
         }
     }
     false
@@ -471,21 +511,21 @@ fn write_in(job: Job, data: &mut [u8]) -> bool {
 // ---- commands: `next` is the first word behind the command's, and the words end before `end`
 
 // `write PART ENABLE ADDRESS HEXBYTES ..`
-pub fn write_command(next: usize, end: usize) -> bool {
-    let job = words::asked(false, next, end);
+pub fn write_command(host: &Host, next: usize, end: usize) -> bool {
+    let job = words::asked(host, false, next, end);
     if job.ok {
         let mut data = [0u8; 32769];
-        return write_in(job, &mut data);
+        return write_in(host, job, &mut data);
     }
     false
 }
 
 // `read PART ENABLE ADDRESS LENGTH ..`
-pub fn read_command(next: usize, end: usize) -> bool {
-    let job = words::asked(true, next, end);
+pub fn read_command(host: &Host, next: usize, end: usize) -> bool {
+    let job = words::asked(host, true, next, end);
     if job.ok {
         let mut data = [0u8; 32769];
-        return answer(job, &mut data);
+        return answer(host, job, &mut data);
     }
     false
 }

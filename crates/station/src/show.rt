@@ -1,41 +1,42 @@
 // The bytes of a read, for people. Each function is told whether the lines before it were written, and says so of its own.
+use host::Host;
 use words::answer::say;
 use words::report::onward;
 
-fn hex(ok: bool, b: u8) -> bool {
+fn hex(host: &Host, ok: bool, b: u8) -> bool {
     let d = text::small_hex(b);
-    say(ok, &[b' ', d[0], d[1]])
+    say(host, ok, &[b' ', d[0], d[1]])
 }
 
-fn address(ok: bool, from: usize, i: usize) -> bool {
+fn address(host: &Host, ok: bool, from: usize, i: usize) -> bool {
     let at = onward(from, i);
     let mut text = [0u8; 16];
     let k = io::hex(at as u64, 4, &mut text);
-    say(ok, &text[..k])
+    say(host, ok, &text[..k])
 }
 
 // 16 bytes to a line, behind the address of the first.
-fn row(ok: bool, from: usize, i: usize) -> bool {
+fn row(host: &Host, ok: bool, from: usize, i: usize) -> bool {
     if i % 16 != 0 {
         return ok;
     }
     if i == 0 {
-        return say(address(ok, from, i), b":");
+        return say(host, address(host, ok, from, i), b":");
     }
-    let ended = say(ok, b"\n");
-    say(address(ended, from, i), b":")
+    let ended = say(host, ok, b"\n");
+    say(host, address(host, ended, from, i), b":")
 }
 
-pub fn dump(ok: bool, from: usize, shown: &[u8]) -> bool {
+pub fn dump(host: &Host, ok: bool, from: usize, shown: &[u8]) -> bool {
     let mut told = ok;
     let mut i = 0;
     while i < shown.len() {
-        told = row(told, from, i);
-        told = hex(told, shown[i]);
+        told = row(host, told, from, i);
+        told = hex(host, told, shown[i]);
         i += 1;
     }
     if i == 0 {
         return told;
     }
-    say(told, b"\n")
+    say(host, told, b"\n")
 }

@@ -2,6 +2,7 @@
 ghost use Rattle.std.specs.Prelude.{◌≡◌, length};
 
 use capture::{Stroke, Wires};
+use host::Host;
 
 // Room for a sample at rest and four for each event of a full tape.
 fn blank() -> [u8; 1572865]
@@ -39,16 +40,16 @@ fn draw_all(events: &[u8], levels: &[u8], out: &mut [u8]) -> usize {
     n
 }
 
-fn store_in(word: usize, events: &[u8], levels: &[u8], out: &mut [u8]) -> bool {
+fn store_in(host: &Host, word: usize, events: &[u8], levels: &[u8], out: &mut [u8]) -> bool {
     let n = draw_all(events, levels, out);
     if n <= out.len() {
-        return files::store::store(word, &out[0..n]);
+        return files::store::store(host, word, &out[0..n]);
     }
     false
 }
 
 // Whether the file stands that a word names.
-pub fn store(word: usize, events: &[u8], levels: &[u8]) -> bool {
+pub fn store(host: &Host, word: usize, events: &[u8], levels: &[u8]) -> bool {
     let mut out = blank();
-    store_in(word, events, levels, &mut out)
+    store_in(host, word, events, levels, &mut out)
 }

@@ -2,26 +2,29 @@
 // two files that they left: `same A B`.
 // The limit is for the proof alone.
 #![tactic(auto)]
+
+use host::Host;
+
 fn after(i: usize) -> usize {
     if i < 4000 { i + 1 } else { i }
 }
 
-fn say(text: &[u8]) {
-    io::write_all(libc::STDOUT_FILENO, text);
+fn say(host: &Host, text: &[u8]) {
+    host.write_all(host::STDOUT, text);
 }
 
 // ---- two files, byte for byte
 
-fn compare(one: &[u8], two: &[u8]) {
+fn compare(host: &Host, one: &[u8], two: &[u8]) {
     if check::same(one, two) {
-        return say(b"same\n");
+        return say(host, b"same\n");
     }
-    say(b"differ\n");
+    say(host, b"differ\n");
 }
 
-fn compare_in(first: usize, a: &mut [u8], b: &mut [u8]) {
-    let one = files::contents(first, a);
-    let two = files::contents(after(first), b);
+fn compare_in(host: &Host, first: usize, a: &mut [u8], b: &mut [u8]) {
+    let one = files::contents(host, first, a);
+    let two = files::contents(host, after(first), b);
     let n = one.n;
     let m = two.n;
     if !(one.ok & two.ok) {
@@ -29,45 +32,46 @@ fn compare_in(first: usize, a: &mut [u8], b: &mut [u8]) {
     }
     if n <= a.len() {
         if m <= b.len() {
-            compare(&a[0..n], &b[0..m]);
+            compare(host, &a[0..n], &b[0..m]);
         }
     }
 }
 
 // There is room for the largest image.
-fn same_command(first: usize) {
+fn same_command(host: &Host, first: usize) {
     let mut a = [0u8; 65608];
     let mut b = [0u8; 65608];
-    compare_in(first, &mut a, &mut b);
+    compare_in(host, first, &mut a, &mut b);
 }
 
 // ---- the commands
 
 // The command from a word on; an empty line stands before it.
-fn command(at: usize, end: usize) {
-    say(b"\n");
-    if words::is(at, b"same") {
-        return same_command(after(at));
+fn command(host: &Host, at: usize, end: usize) {
+    say(host, b"\n");
+    if words::is(host, at, b"same") {
+        return same_command(host, after(at));
     }
-    commands::command(at, end);
+    commands::command(host, at, end);
 }
 
 // Where the command that is under way begins.
-fn ended(first: usize, i: usize) -> usize {
-    if words::is(i, b"then") {
-        command(first, i);
+fn ended(host: &Host, first: usize, i: usize) -> usize {
+    if words::is(host, i, b"then") {
+        command(host, first, i);
         return after(i);
     }
     first
 }
 
-fn main() {
-    let count = os::arg_count();
+fn main(rt: HostRuntime) {
+    let host = Host::new(rt);
+    let count = host.arg_count();
     let mut first = 1;
     let mut i = 1;
     while i < count {
-        first = ended(first, i);
+        first = ended(&host, first, i);
         i += 1;
     }
-    command(first, count);
+    command(&host, first, count);
 }

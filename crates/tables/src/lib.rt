@@ -2,10 +2,11 @@
 // each place of it, the lock command, a chip that stays busy, a line that loses an acknowledge, power lost in a cycle, the most worn group
 // behind some writes, for any part of the table.
 #![tactic(auto)]
+
 use driver::{Answer, Driver, Place, Request};
+use host::Host;
 use parts::{ArrayAddress, Facts, Loss, Refusal, Spot};
 use state::Chip;
-use text::{say, say_address, say_byte, say_number, say_right};
 use wear::Most;
 use words::{answer, report};
 
@@ -477,153 +478,153 @@ fn id_write(a: usize, enable: u8, at: usize, byte: u8) -> Script {
 
 // ---- what is printed of a transfer
 
-fn tell_yes(yes: bool) {
+fn tell_yes(host: &Host, yes: bool) {
     if yes {
-        say(b"yes");
+        host.say(b"yes");
     } else {
-        say(b"no ");
+        host.say(b"no ");
     }
 }
 
 // The name of an address byte: it has a number where there are two.
-fn tell_address_name(a: usize, j: usize) {
-    say(b"address ");
+fn tell_address_name(host: &Host, a: usize, j: usize) {
+    host.say(b"address ");
     if a == 2 {
-        say_number(j);
+        host.say_number(j);
     } else {
-        say(b" ");
+        host.say(b" ");
     }
 }
 
 // The name of byte j of a transfer.
-fn tell_byte_name(a: usize, j: usize) {
+fn tell_byte_name(host: &Host, a: usize, j: usize) {
     if j == 0 {
-        say(b"select   ");
+        host.say(b"select   ");
         return;
     }
     if j <= a {
-        return tell_address_name(a, j);
+        return tell_address_name(host, a, j);
     }
-    say(b"data ");
-    say_number(j - a);
-    say(b"   ");
+    host.say(b"data ");
+    host.say_number(j - a);
+    host.say(b"   ");
 }
 
-fn tell_bit(t: usize) {
+fn tell_bit(host: &Host, t: usize) {
     if t == 8 {
-        say(b" acknowledge");
+        host.say(b" acknowledge");
     } else {
-        say(b" bit ");
-        say_number(more(t));
-        say(b"      ");
+        host.say(b" bit ");
+        host.say_number(more(t));
+        host.say(b"      ");
     }
 }
 
 // How many clocks, and what the last of them was.
-fn tell_place(a: usize, k: usize) {
-    say_right(k, 2);
+fn tell_place(host: &Host, a: usize, k: usize) {
+    host.say_right(k, 2);
     if k == 0 {
-        say(b"  Start                ");
+        host.say(b"  Start                ");
         return;
     }
-    say(b"  ");
+    host.say(b"  ");
     let t = less(k);
-    tell_byte_name(a, t / 9);
-    tell_bit(t % 9);
+    tell_byte_name(host, a, t / 9);
+    tell_bit(host, t % 9);
 }
 
-fn tell_cycle(begun: bool) {
+fn tell_cycle(host: &Host, begun: bool) {
     if begun {
-        say(b"   begins");
+        host.say(b"   begins");
     } else {
-        say(b"   -     ");
+        host.say(b"   -     ");
     }
 }
 
-fn tell_stored(a: u8, b: u8) -> bool {
-    say(b"   ");
-    say_byte(a);
-    say(b"    ");
-    say_byte(b);
-    say(b"\n")
+fn tell_stored(host: &Host, a: u8, b: u8) -> bool {
+    host.say(b"   ");
+    host.say_byte(a);
+    host.say(b"    ");
+    host.say_byte(b);
+    host.say(b"\n")
 }
 
 // ---- 2: Write Control rises
 
 // Place 0 is before the Start, place k + 1 after clock k, the last one after the Stop.
-fn tell_rise(a: usize, place: usize) {
+fn tell_rise(host: &Host, a: usize, place: usize) {
     if place == 0 {
-        say(b"    before the Start     ");
+        host.say(b"    before the Start     ");
         return;
     }
     let k = less(place);
     if clocks(a, 2) < k {
-        say(b"    after the Stop       ");
+        host.say(b"    after the Stop       ");
         return;
     }
-    tell_place(a, k);
+    tell_place(host, a, k);
 }
 
-fn tell_both(first: bool, second: bool) {
-    say(b"   ");
-    tell_yes(first);
-    say(b"     ");
-    tell_yes(second);
-    say(b"  ");
+fn tell_both(host: &Host, first: bool, second: bool) {
+    host.say(b"   ");
+    tell_yes(host, first);
+    host.say(b"     ");
+    tell_yes(host, second);
+    host.say(b"  ");
 }
 
 // ---- 3: the lock command
 
-fn tell_second(second: bool, k: usize) {
+fn tell_second(host: &Host, second: bool, k: usize) {
     if k < 5 {
-        say(b" -       ");
+        host.say(b" -       ");
         return;
     }
-    say(b" 00h ");
-    tell_yes(second);
-    say(b" ");
+    host.say(b" 00h ");
+    tell_yes(host, second);
+    host.say(b" ");
 }
 
-fn lock_line(k: usize, first: bool, second: bool, begun: bool, locked: bool) {
-    say_byte(lock_byte(k));
-    say(b" ");
-    tell_yes(first);
-    say(b"  ");
-    tell_second(second, k);
-    tell_cycle(begun);
-    say(b"   ");
-    tell_yes(locked);
+fn lock_line(host: &Host, k: usize, first: bool, second: bool, begun: bool, locked: bool) {
+    host.say_byte(lock_byte(k));
+    host.say(b" ");
+    tell_yes(host, first);
+    host.say(b"  ");
+    tell_second(host, second, k);
+    tell_cycle(host, begun);
+    host.say(b"   ");
+    tell_yes(host, locked);
 }
 
 // An identification write after the lock command: whether its byte is acknowledged, and what is then stored.
-fn later_line(first: bool, begun: bool, ident: u8) -> bool {
-    say(b"      ");
-    tell_yes(first);
-    tell_cycle(begun);
-    say(b"   ");
-    say_byte(ident);
-    say(b"\n")
+fn later_line(host: &Host, first: bool, begun: bool, ident: u8) -> bool {
+    host.say(b"      ");
+    tell_yes(host, first);
+    tell_cycle(host, begun);
+    host.say(b"   ");
+    host.say_byte(ident);
+    host.say(b"\n")
 }
 
 // ---- 4: a chip that stays busy
 
-fn tell_number(number: u8) {
+fn tell_number(host: &Host, number: u8) {
     if number == 0 {
-        say(b"done      ");
+        host.say(b"done      ");
         return;
     }
-    say(b"refused ");
-    say_right(text::wide(number), 2);
+    host.say(b"refused ");
+    host.say_right(text::wide(number), 2);
 }
 
-fn busy_line(d: usize, b: Told, last: u8, next: u8) -> bool {
-    say_right(d, 2);
-    say(b"     ");
-    tell_number(b.number);
-    say_right(b.polls, 7);
-    say_right(b.bytes, 7);
-    say_right(b.cycles, 7);
-    tell_stored(last, next)
+fn busy_line(host: &Host, d: usize, b: Told, last: u8, next: u8) -> bool {
+    host.say_right(d, 2);
+    host.say(b"     ");
+    tell_number(host, b.number);
+    host.say_right(b.polls, 7);
+    host.say_right(b.bytes, 7);
+    host.say_right(b.cycles, 7);
+    tell_stored(host, last, next)
 }
 
 // ---- 5: a line that loses one acknowledge
@@ -633,109 +634,109 @@ fn page_bytes(a: usize) -> usize {
     more(more(more(a)))
 }
 
-fn tell_lost_name(a: usize, j: usize) {
+fn tell_lost_name(host: &Host, a: usize, j: usize) {
     if j == 0 {
-        say(b"select       ");
+        host.say(b"select       ");
         return;
     }
     if j <= a {
-        tell_address_name(a, j);
-        say(b"    ");
+        tell_address_name(host, a, j);
+        host.say(b"    ");
         return;
     }
     if j - a == 1 {
-        say(b"data         ");
+        host.say(b"data         ");
     } else {
-        say(b"poll's select");
+        host.say(b"poll's select");
     }
 }
 
-fn tell_lost(a: usize, j: usize) {
+fn tell_lost(host: &Host, a: usize, j: usize) {
     let n = page_bytes(a);
     if 0 < n {
-        say(b"page ");
-        say_number(j / n);
-        say(b"  ");
-        tell_lost_name(a, j % n);
+        host.say(b"page ");
+        host.say_number(j / n);
+        host.say(b"  ");
+        tell_lost_name(host, a, j % n);
     }
 }
 
 // Of 10 the data byte's index, of the others the page.
-fn tell_spot(r: Refusal) {
+fn tell_spot(host: &Host, r: Refusal) {
     let spot = parts::spot_of(r);
     match spot {
         Spot::Nowhere => {
-            say(b"   -     ");
+            host.say(b"   -     ");
         }
         Spot::At(n) => {
             if parts::number(r) == parts::number(Refusal::NoData(0)) {
-                say(b"   byte ");
+                host.say(b"   byte ");
             } else {
-                say(b"   page ");
+                host.say(b"   page ");
             }
-            say_number(n);
+            host.say_number(n);
         }
     }
 }
 
-fn tell_counts(polls: usize, bytes: usize) {
-    say_right(polls, 7);
-    say_right(bytes, 7);
+fn tell_counts(host: &Host, polls: usize, bytes: usize) {
+    host.say_right(polls, 7);
+    host.say_right(bytes, 7);
 }
 
-fn tell_answer(answer: Answer) {
+fn tell_answer(host: &Host, answer: Answer) {
     match answer {
         Answer::Send(_) => {
-            say(b"   no end                            ");
+            host.say(b"   no end                            ");
         }
         Answer::Done(polls, bytes) => {
-            say(b"   done         -     ");
-            tell_counts(polls, bytes);
+            host.say(b"   done         -     ");
+            tell_counts(host, polls, bytes);
         }
         Answer::Refused(r, polls, bytes) => {
-            say(b"   ");
-            tell_number(parts::number(r));
-            tell_spot(r);
-            tell_counts(polls, bytes);
+            host.say(b"   ");
+            tell_number(host, parts::number(r));
+            tell_spot(host, r);
+            tell_counts(host, polls, bytes);
         }
     }
 }
 
 // ---- 6: power lost in the cycle
 
-fn tell_sent(page: usize, k: usize) {
+fn tell_sent(host: &Host, page: usize, k: usize) {
     match k {
         ONE => {
-            say(b"11h at 0005h                     ");
+            host.say(b"11h at 0005h                     ");
         }
         PAGE_END => {
-            say(b"11h and 22h at ");
-            say_address(less(less(page)));
-            say(b", page end   ");
+            host.say(b"11h and 22h at ");
+            host.say_address(less(less(page)));
+            host.say(b", page end   ");
         }
         ROLLED => {
-            say(b"11h and 22h at ");
-            say_address(less(page));
-            say(b", roll-over  ");
+            host.say(b"11h and 22h at ");
+            host.say_address(less(page));
+            host.say(b", roll-over  ");
         }
         IDENT => {
-            say(b"11h at location 05h              ");
+            host.say(b"11h at location 05h              ");
         }
         FLAG_0 => {
-            say(b"lock command, flag 0             ");
+            host.say(b"lock command, flag 0             ");
         }
         _ => {
-            say(b"lock command, flag 1             ");
+            host.say(b"lock command, flag 1             ");
         }
     }
 }
 
-fn power_line(page: usize, k: usize, begun: bool, locked: bool) {
-    tell_sent(page, k);
-    tell_cycle(begun);
-    say(b"   ");
-    tell_yes(locked);
-    say(b"      ");
+fn power_line(host: &Host, page: usize, k: usize, begun: bool, locked: bool) {
+    tell_sent(host, page, k);
+    tell_cycle(host, begun);
+    host.say(b"   ");
+    tell_yes(host, locked);
+    host.say(b"      ");
 }
 
 // ---- 7: the most worn group
@@ -761,15 +762,15 @@ fn count_at(counts: &[u32], group: usize) -> usize {
     0
 }
 
-fn worst_line(at: usize, low: usize, tall: usize, worst: Most) -> bool {
-    say_address(at);
-    say_right(low, 15);
-    say_right(tall, 9);
-    say(b"  most group ");
-    say_number(worst.group);
-    say(b": ");
-    say_number(wide(worst.count));
-    say(b"\n")
+fn worst_line(host: &Host, at: usize, low: usize, tall: usize, worst: Most) -> bool {
+    host.say_address(at);
+    host.say_right(low, 15);
+    host.say_right(tall, 9);
+    host.say(b"  most group ");
+    host.say_number(worst.group);
+    host.say(b": ");
+    host.say_number(wide(worst.count));
+    host.say(b"\n")
 }
 
 // ---- rows: each starts from delivery
@@ -782,15 +783,23 @@ fn write_of(a: usize, page: usize, enable: u8, table: u8, k: usize) -> Script {
 }
 
 // How many clocks before the Stop; or where the pin rises, and which data bytes were acknowledged.
-fn tell_write(a: usize, table: u8, k: usize, first: bool, second: bool) {
+fn tell_write(host: &Host, a: usize, table: u8, k: usize, first: bool, second: bool) {
     if table == STOPS {
-        return tell_place(a, k);
+        return tell_place(host, a, k);
     }
-    tell_rise(a, k);
-    tell_both(first, second);
+    tell_rise(host, a, k);
+    tell_both(host, first, second);
 }
 
-fn write_row(part: u8, enable: u8, table: u8, k: usize, array: &mut [u8], id: &mut [u8]) -> bool {
+fn write_row(
+    host: &Host,
+    part: u8,
+    enable: u8,
+    table: u8,
+    k: usize,
+    array: &mut [u8],
+    id: &mut [u8],
+) -> bool {
     let f = parts::facts_of(part);
     let a = parts::address_bytes(f);
     let last = less(f.page);
@@ -807,9 +816,9 @@ fn write_row(part: u8, enable: u8, table: u8, k: usize, array: &mut [u8], id: &m
     );
     let first = acknowledged(s, &levels, 0, more(a));
     let second = acknowledged(s, &levels, 0, more(more(a)));
-    tell_write(a, table, k, first, second);
-    tell_cycle(0 < p.cycles);
-    tell_stored(parts::byte_at(array, last), parts::byte_at(array, 0))
+    tell_write(host, a, table, k, first, second);
+    tell_cycle(host, 0 < p.cycles);
+    tell_stored(host, parts::byte_at(array, last), parts::byte_at(array, 0))
 }
 
 // The lock command alone, and again with the write behind it.
@@ -831,13 +840,13 @@ fn play_lock(
     }
 }
 
-fn tell_lock(k: usize, a: usize, s: Script, levels: &[u8], l: Locked) {
+fn tell_lock(host: &Host, k: usize, a: usize, s: Script, levels: &[u8], l: Locked) {
     let first = acknowledged(s, levels, 0, more(a));
     let second = acknowledged(s, levels, 0, more(more(a)));
-    lock_line(k, first, second, l.begun, l.locked);
+    lock_line(host, k, first, second, l.begun, l.locked);
 }
 
-fn lock_row(part: u8, enable: u8, k: usize, array: &mut [u8], id: &mut [u8]) -> bool {
+fn lock_row(host: &Host, part: u8, enable: u8, k: usize, array: &mut [u8], id: &mut [u8]) -> bool {
     let f = parts::facts_of(part);
     let a = parts::address_bytes(f);
     let s = lock_command(f.lock, a, enable, k);
@@ -855,9 +864,9 @@ fn lock_row(part: u8, enable: u8, k: usize, array: &mut [u8], id: &mut [u8]) -> 
         all,
         &mut levels,
     );
-    tell_lock(k, a, s, &levels, l);
+    tell_lock(host, k, a, s, &levels, l);
     let written = acknowledged(later, &levels, n, more(a));
-    later_line(written, l.later, parts::byte_at(id, 0))
+    later_line(host, written, l.later, parts::byte_at(id, 0))
 }
 
 // What a row of the table of lost power sends.
@@ -912,7 +921,7 @@ fn play_cut(
 }
 
 // Which bytes are not as delivered: those of one memory, whichever the row is of.
-fn tell_risen(part: u8, k: usize, array: &[u8], id: &[u8]) -> bool {
+fn tell_risen(host: &Host, part: u8, k: usize, array: &[u8], id: &[u8]) -> bool {
     let mut new = [0u8; 32768];
     let mut new_id = [0u8; 64];
     chip::deliver(
@@ -921,14 +930,14 @@ fn tell_risen(part: u8, k: usize, array: &[u8], id: &[u8]) -> bool {
         fitted::id(part, &mut new_id),
     );
     if k < IDENT {
-        answer::spans(true, &new, array);
+        answer::spans(host, true, &new, array);
     } else {
-        answer::spans(true, &new_id, id);
+        answer::spans(host, true, &new_id, id);
     }
-    say(b"\n")
+    host.say(b"\n")
 }
 
-fn power_row(part: u8, enable: u8, k: usize, array: &mut [u8], id: &mut [u8]) -> bool {
+fn power_row(host: &Host, part: u8, enable: u8, k: usize, array: &mut [u8], id: &mut [u8]) -> bool {
     let f = parts::facts_of(part);
     let s = sent_of(f, enable, k);
     let events = cut_of(s);
@@ -942,8 +951,8 @@ fn power_row(part: u8, enable: u8, k: usize, array: &mut [u8], id: &mut [u8]) ->
         id,
         first_of(&events, events_in(s)),
     );
-    power_line(f.page, k, 0 < p.cycles, p.locked);
-    tell_risen(part, k, array, id)
+    power_line(host, f.page, k, 0 < p.cycles, p.locked);
+    tell_risen(host, part, k, array, id)
 }
 
 fn write_at(part: u8, enable: u8, at: usize, length: usize) -> Request {
@@ -962,11 +971,12 @@ fn over_pages(part: u8, enable: u8, last: usize) -> Request {
     write_at(part, enable, last, 2)
 }
 
-fn busy_row(part: u8, enable: u8, d: usize, array: &mut [u8], id: &mut [u8]) -> bool {
+fn busy_row(host: &Host, part: u8, enable: u8, d: usize, array: &mut [u8], id: &mut [u8]) -> bool {
     let f = parts::facts_of(part);
     let last = less(f.page);
     let b = play_busy(over_pages(part, enable, last), d, array, id);
     busy_line(
+        host,
         d,
         b,
         parts::byte_at(array, last),
@@ -974,13 +984,17 @@ fn busy_row(part: u8, enable: u8, d: usize, array: &mut [u8], id: &mut [u8]) -> 
     )
 }
 
-fn lost_row(part: u8, enable: u8, j: usize, array: &mut [u8], id: &mut [u8]) -> bool {
+fn lost_row(host: &Host, part: u8, enable: u8, j: usize, array: &mut [u8], id: &mut [u8]) -> bool {
     let f = parts::facts_of(part);
     let last = less(f.page);
     let answer = play_lost(over_pages(part, enable, last), j, array, id);
-    tell_lost(parts::address_bytes(f), j);
-    tell_answer(answer);
-    tell_stored(parts::byte_at(array, last), parts::byte_at(array, f.page))
+    tell_lost(host, parts::address_bytes(f), j);
+    tell_answer(host, answer);
+    tell_stored(
+        host,
+        parts::byte_at(array, last),
+        parts::byte_at(array, f.page),
+    )
 }
 
 // The first address of the group that write number i goes to.
@@ -1037,6 +1051,7 @@ fn wear_all(
 }
 
 fn play_worst(
+    host: &Host,
     part: u8,
     enable: u8,
     k: usize,
@@ -1052,6 +1067,7 @@ fn play_worst(
     };
     let w = wear_all(part, enable, more(k), first, array, id, counts);
     worst_line(
+        host,
         place_of(part, k),
         count_at(counts, LOW),
         count_at(counts, TALL),
@@ -1059,9 +1075,10 @@ fn play_worst(
     )
 }
 
-fn worst_row(part: u8, enable: u8, k: usize, array: &mut [u8], id: &mut [u8]) -> bool {
+fn worst_row(host: &Host, part: u8, enable: u8, k: usize, array: &mut [u8], id: &mut [u8]) -> bool {
     let mut counts = [0u32; 8192];
     play_worst(
+        host,
         part,
         enable,
         k,
@@ -1071,22 +1088,31 @@ fn worst_row(part: u8, enable: u8, k: usize, array: &mut [u8], id: &mut [u8]) ->
     )
 }
 
-fn lent_row(part: u8, enable: u8, table: u8, k: usize, array: &mut [u8], id: &mut [u8]) -> bool {
+fn lent_row(
+    host: &Host,
+    part: u8,
+    enable: u8,
+    table: u8,
+    k: usize,
+    array: &mut [u8],
+    id: &mut [u8],
+) -> bool {
     match table {
-        LOCKS => lock_row(part, enable, k, array, id),
-        BUSY => busy_row(part, enable, more(k), array, id),
-        LOST => lost_row(part, enable, k, array, id),
-        POWER => power_row(part, enable, k, array, id),
-        WORST => worst_row(part, enable, k, array, id),
-        _ => write_row(part, enable, table, k, array, id),
+        LOCKS => lock_row(host, part, enable, k, array, id),
+        BUSY => busy_row(host, part, enable, more(k), array, id),
+        LOST => lost_row(host, part, enable, k, array, id),
+        POWER => power_row(host, part, enable, k, array, id),
+        WORST => worst_row(host, part, enable, k, array, id),
+        _ => write_row(host, part, enable, table, k, array, id),
     }
 }
 
 // The buffers hold the largest part.
-fn row(part: u8, enable: u8, table: u8, k: usize) -> bool {
+fn row(host: &Host, part: u8, enable: u8, table: u8, k: usize) -> bool {
     let mut array = [0u8; 32768];
     let mut id = [0u8; 64];
     lent_row(
+        host,
         part,
         enable,
         table,
@@ -1096,10 +1122,10 @@ fn row(part: u8, enable: u8, table: u8, k: usize) -> bool {
     )
 }
 
-fn rows(part: u8, enable: u8, table: u8, n: usize) -> bool {
+fn rows(host: &Host, part: u8, enable: u8, table: u8, n: usize) -> bool {
     let mut k = 0;
     while k < n {
-        if !row(part, enable, table, k) {
+        if !row(host, part, enable, table, k) {
             return false;
         }
         k += 1;
@@ -1109,162 +1135,162 @@ fn rows(part: u8, enable: u8, table: u8, n: usize) -> bool {
 
 // ---- tables
 
-fn tell_places(a: usize, b: usize) {
-    say(b"  ");
-    say_address(a);
-    say(b"  ");
-    say_address(b);
-    say(b"\n");
+fn tell_places(host: &Host, a: usize, b: usize) {
+    host.say(b"  ");
+    host.say_address(a);
+    host.say(b"  ");
+    host.say_address(b);
+    host.say(b"\n");
 }
 
 // The last row's Stop comes one clock after the last acknowledge.
-fn stops(part: u8, enable: u8, a: usize, page: usize) -> bool {
-    say(b"\nA Stop after each clock of a page write, 11h and 22h at ");
-    say_address(less(page));
-    say(b"; stored is what E leaves\nclocks, the last            cycle  ");
-    tell_places(less(page), 0);
-    rows(part, enable, STOPS, more(more(clocks(a, 2))))
+fn stops(host: &Host, part: u8, enable: u8, a: usize, page: usize) -> bool {
+    host.say(b"\nA Stop after each clock of a page write, 11h and 22h at ");
+    host.say_address(less(page));
+    host.say(b"; stored is what E leaves\nclocks, the last            cycle  ");
+    tell_places(host, less(page), 0);
+    rows(host, part, enable, STOPS, more(more(clocks(a, 2))))
 }
 
-fn rises(part: u8, enable: u8, a: usize, page: usize, pin: bool) -> bool {
-    say(b"\nWrite Control rises in that write\n");
+fn rises(host: &Host, part: u8, enable: u8, a: usize, page: usize, pin: bool) -> bool {
+    host.say(b"\nWrite Control rises in that write\n");
     if pin {
-        say(b"rises after                 data 1  data 2  cycle  ");
-        tell_places(less(page), 0);
-        return rows(part, enable, RISES, more(more(more(clocks(a, 2)))));
+        host.say(b"rises after                 data 1  data 2  cycle  ");
+        tell_places(host, less(page), 0);
+        return rows(host, part, enable, RISES, more(more(more(clocks(a, 2)))));
     }
-    say(b"This part has no Write Control pin.\n")
+    host.say(b"This part has no Write Control pin.\n")
 }
 
-fn locks(part: u8, enable: u8, ident: bool) -> bool {
-    say(b"\nThe lock command, and an identification write of 55h at 00h after it\n");
+fn locks(host: &Host, part: u8, enable: u8, ident: bool) -> bool {
+    host.say(b"\nThe lock command, and an identification write of 55h at 00h after it\n");
     if ident {
-        say(b"byte ack  2nd ack    cycle    locked   ack   cycle    at 00h\n");
-        return rows(part, enable, LOCKS, 10);
+        host.say(b"byte ack  2nd ack    cycle    locked   ack   cycle    at 00h\n");
+        return rows(host, part, enable, LOCKS, 10);
     }
-    say(b"This part has no identification page to lock.\n")
+    host.say(b"This part has no identification page to lock.\n")
 }
 
-fn busy(part: u8, enable: u8, page: usize) -> bool {
-    say(
+fn busy(host: &Host, part: u8, enable: u8, page: usize) -> bool {
+    host.say(
         b"\nA cycle that ends just before poll number d, budget 4: the driver writes 11h and 22h at ",
     );
-    say_address(less(page));
-    say(b"\n d     answer      polls  bytes cycles ");
-    tell_places(less(page), page);
-    rows(part, enable, BUSY, more(BUDGET))
+    host.say_address(less(page));
+    host.say(b"\n d     answer      polls  bytes cycles ");
+    tell_places(host, less(page), page);
+    rows(host, part, enable, BUSY, more(BUDGET))
 }
 
-fn advice(r: Refusal) {
-    tell_number(parts::number(r));
-    say(b": ");
-    words::say_advice(r);
-    say(b"\n");
+fn advice(host: &Host, r: Refusal) {
+    tell_number(host, parts::number(r));
+    host.say(b": ");
+    words::say_advice(host, r);
+    host.say(b"\n");
 }
 
 // What each number says at a bench.
-fn advices(a: usize) {
-    advice(Refusal::NoSelect(0));
-    advice(Refusal::NoFirst(0));
+fn advices(host: &Host, a: usize) {
+    advice(host, Refusal::NoSelect(0));
+    advice(host, Refusal::NoFirst(0));
     if a == 2 {
-        advice(Refusal::NoSecond(0));
+        advice(host, Refusal::NoSecond(0));
     }
-    advice(Refusal::NoData(0));
+    advice(host, Refusal::NoData(0));
 }
 
-fn losses(part: u8, enable: u8, a: usize, page: usize) -> bool {
-    say(b"\nA line that loses one acknowledge, budget 4: the driver writes 11h and 22h at ");
-    say_address(less(page));
-    say(b"\nlost of                 answer       place   polls  bytes ");
-    tell_places(less(page), page);
-    if !rows(part, enable, LOST, sum(page_bytes(a), page_bytes(a))) {
+fn losses(host: &Host, part: u8, enable: u8, a: usize, page: usize) -> bool {
+    host.say(b"\nA line that loses one acknowledge, budget 4: the driver writes 11h and 22h at ");
+    host.say_address(less(page));
+    host.say(b"\nlost of                 answer       place   polls  bytes ");
+    tell_places(host, less(page), page);
+    if !rows(host, part, enable, LOST, sum(page_bytes(a), page_bytes(a))) {
         return false;
     }
-    advices(a);
-    say(b"A data byte whose acknowledge is lost is stored all the same, and not reported.\n")
+    advices(host, a);
+    host.say(b"A data byte whose acknowledge is lost is stored all the same, and not reported.\n")
 }
 
 // Delivered bytes are never 00h, so each byte that comes up as lent shows.
-fn powers(part: u8, enable: u8, ident: bool) -> bool {
-    say(b"\nPower lost in the cycle, a page of 00h lent for it: which bytes then hold 00h\n");
-    say(b"sent                                cycle    locked   spoiled\n");
+fn powers(host: &Host, part: u8, enable: u8, ident: bool) -> bool {
+    host.say(b"\nPower lost in the cycle, a page of 00h lent for it: which bytes then hold 00h\n");
+    host.say(b"sent                                cycle    locked   spoiled\n");
     if ident {
-        return rows(part, enable, POWER, 6);
+        return rows(host, part, enable, POWER, 6);
     }
-    rows(part, enable, POWER, 3)
+    rows(host, part, enable, POWER, 3)
 }
 
-fn worsts(part: u8, enable: u8) -> bool {
-    say(
+fn worsts(host: &Host, part: u8, enable: u8) -> bool {
+    host.say(
         b"\nThe most worn group, kept beside the counts while the driver writes 11h: the lowest on a tie\n",
     );
-    say(b"written at   group 1  group 3  worst\n");
-    rows(part, enable, WORST, WRITES)
+    host.say(b"written at   group 1  group 3  worst\n");
+    rows(host, part, enable, WORST, WRITES)
 }
 
-fn heading(part: u8, enable: u8) {
-    say(b"Part ");
-    say_number(part as usize);
-    say(b", ");
-    words::say_name(part);
-    say(b", enable ");
-    say_number(enable as usize);
-    say(b"\n");
+fn heading(host: &Host, part: u8, enable: u8) {
+    host.say(b"Part ");
+    host.say_number(part as usize);
+    host.say(b", ");
+    words::say_name(host, part);
+    host.say(b", enable ");
+    host.say_number(enable as usize);
+    host.say(b"\n");
 }
 
-fn known_part(part: u8, enable: u8, f: Facts) -> bool {
-    heading(part, enable);
+fn known_part(host: &Host, part: u8, enable: u8, f: Facts) -> bool {
+    heading(host, part, enable);
     let a = parts::address_bytes(f);
-    if !stops(part, enable, a, f.page) {
+    if !stops(host, part, enable, a, f.page) {
         return false;
     }
-    if !rises(part, enable, a, f.page, f.pin) {
+    if !rises(host, part, enable, a, f.page, f.pin) {
         return false;
     }
-    if !locks(part, enable, f.ident) {
+    if !locks(host, part, enable, f.ident) {
         return false;
     }
-    if !busy(part, enable, f.page) {
+    if !busy(host, part, enable, f.page) {
         return false;
     }
-    if !losses(part, enable, a, f.page) {
+    if !losses(host, part, enable, a, f.page) {
         return false;
     }
-    if !powers(part, enable, f.ident) {
+    if !powers(host, part, enable, f.ident) {
         return false;
     }
-    worsts(part, enable)
+    worsts(host, part, enable)
 }
 
 // The trials on one part, or refusals 1 and 2 of document 01. False where it could not be written.
-fn one_part(part: u8, enable: u8) -> bool {
+fn one_part(host: &Host, part: u8, enable: u8) -> bool {
     let f = parts::facts_of(part);
     if !f.known {
-        return answer::no_part(answer::refused(Refusal::NoPart));
+        return answer::no_part(host, answer::refused(host, Refusal::NoPart));
     }
     if !parts::enable_right(f, enable) {
-        return answer::wrong_enable(answer::refused(Refusal::WrongEnable));
+        return answer::wrong_enable(host, answer::refused(host, Refusal::WrongEnable));
     }
-    all_told(known_part(part, enable, f))
+    all_told(host, known_part(host, part, enable, f))
 }
 
 // A blank line stands between two parts.
-fn next_part(part: u8, f: Facts) -> bool {
+fn next_part(host: &Host, part: u8, f: Facts) -> bool {
     if 0 < part {
-        say(b"\n");
+        host.say(b"\n");
     }
-    known_part(part, 0, f)
+    known_part(host, part, 0, f)
 }
 
 // The trials on every part of the part table, at enable 0.
-fn every_part() -> bool {
+fn every_part(host: &Host) -> bool {
     let mut part: u8 = 0;
     while part < 255 {
         let f = parts::facts_of(part);
         if !f.known {
             return true;
         }
-        if !next_part(part, f) {
+        if !next_part(host, part, f) {
             return false;
         }
         part += 1;
@@ -1272,22 +1298,22 @@ fn every_part() -> bool {
     true
 }
 
-fn all_told(done: bool) -> bool {
+fn all_told(host: &Host, done: bool) -> bool {
     if !done {
-        words::failed(b"standard output");
+        words::unsaid(host);
     }
     done
 }
 
 // The command `bench PART [--enable N]`, or `bench` for every part: `next` is the first word behind the command's, and the words end
 // before `end`. False where not all could be answered: standard error has the reason.
-pub fn bench_command(next: usize, end: usize) -> bool {
+pub fn bench_command(host: &Host, next: usize, end: usize) -> bool {
     if end <= next {
-        return all_told(every_part());
+        return all_told(host, every_part(host));
     }
-    let job = words::bench_asked(next, end);
+    let job = words::bench_asked(host, next, end);
     if job.ok {
-        return one_part(job.part, job.enable);
+        return one_part(host, job.part, job.enable);
     }
     false
 }

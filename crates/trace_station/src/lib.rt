@@ -1,6 +1,7 @@
 // The command `trace`: typed traces of files or of standard input, each run from delivery, as levels or byte by byte, and drawn.
 #![tactic(auto)]
-use libc::STDIN_FILENO;
+
+use host::{Host, STDIN};
 use parts::{Loss, Verdict};
 use words::answer::say;
 use words::tracing::{Role, Tracing};
@@ -39,6 +40,7 @@ fn answered_by(
 
 // A run from delivery leaves the levels; the drawing begins at delivery again.
 fn draw_run(
+    host: &Host,
     word: usize,
     part: u8,
     enable: u8,
@@ -50,10 +52,11 @@ fn draw_run(
     let mut held = [0u8; pack_chip::LENGTH];
     answered_by(part, enable, array, id, events, levels);
     files::delivered(part, &mut held, array, id);
-    vcd::store(word, part, enable, &held, array, id, events, levels)
+    vcd::store(host, word, part, enable, &held, array, id, events, levels)
 }
 
 fn draw_events(
+    host: &Host,
     word: usize,
     part: u8,
     enable: u8,
@@ -65,6 +68,7 @@ fn draw_events(
     let mut id = [0u8; 64];
     files::traced::recode(letters, events);
     draw_run(
+        host,
         word,
         part,
         enable,
@@ -75,10 +79,11 @@ fn draw_events(
     )
 }
 
-fn draw(word: usize, part: u8, enable: u8, letters: &[u8]) -> bool {
+fn draw(host: &Host, word: usize, part: u8, enable: u8, letters: &[u8]) -> bool {
     let mut events = [0u8; 32768];
     let mut levels = [0u8; 32768];
     draw_events(
+        host,
         word,
         part,
         enable,
@@ -89,14 +94,14 @@ fn draw(word: usize, part: u8, enable: u8, letters: &[u8]) -> bool {
 }
 
 // Of a refused trace there is none.
-fn drawn(asked: Tracing, text: &[u8]) -> bool {
+fn drawn(host: &Host, asked: Tracing, text: &[u8]) -> bool {
     if asked.vcd == 0 {
         return true;
     }
     let j = trace::judge(text);
     let verdict = j.verdict;
     match verdict {
-        Verdict::Fine => draw(asked.vcd, j.part, j.enable, trace::letters(text)),
+        Verdict::Fine => draw(host, asked.vcd, j.part, j.enable, trace::letters(text)),
         Verdict::Refused(_) => true,
     }
 }
@@ -104,50 +109,50 @@ fn drawn(asked: Tracing, text: &[u8]) -> bool {
 // ---- the answer
 
 // Every answer fits (AnswerFits of the crate trace).
-fn levels_in(text: &[u8], out: &mut [u8]) -> bool {
+fn levels_in(host: &Host, text: &[u8], out: &mut [u8]) -> bool {
     let t = trace::trace(text, out);
     let n = t.length;
     if n <= out.len() {
-        return say(true, &out[0..n]);
+        return say(host, true, &out[0..n]);
     }
     false
 }
 
 // The trace told byte by byte, then its answer; of a refused one only the answer.
-fn bytes_in(text: &[u8], out: &mut [u8]) -> bool {
-    let t = explain::explain(text, out);
+fn bytes_in(host: &Host, text: &[u8], out: &mut [u8]) -> bool {
+    let t = explain::explain(host, text, out);
     let n = t.length;
     if n <= out.len() {
-        return say(true, &out[0..n]);
+        return say(host, true, &out[0..n]);
     }
     false
 }
 
-fn answered(asked: Tracing, text: &[u8]) -> bool {
+fn answered(host: &Host, asked: Tracing, text: &[u8]) -> bool {
     let mut out = [0u8; 32800];
     if asked.bytes {
-        return bytes_in(text, &mut out);
+        return bytes_in(host, text, &mut out);
     }
-    levels_in(text, &mut out)
+    levels_in(host, text, &mut out)
 }
 
 // Why a trace is refused, behind its answer.
-fn reasoned(ok: bool, input: bool, name: &[u8], text: &[u8]) -> bool {
+fn reasoned(host: &Host, ok: bool, input: bool, name: &[u8], text: &[u8]) -> bool {
     let j = trace::judge(text);
     let verdict = j.verdict;
     match verdict {
         Verdict::Fine => ok,
         Verdict::Refused(r) => {
-            files::traced::tell(input, name, text, r);
+            files::traced::tell(host, input, name, text, r);
             ok
         }
     }
 }
 
 // The picture stands before anything is told.
-fn told(asked: Tracing, input: bool, name: &[u8], text: &[u8]) -> bool {
-    if drawn(asked, text) {
-        return reasoned(answered(asked, text), input, name, text);
+fn told(host: &Host, asked: Tracing, input: bool, name: &[u8], text: &[u8]) -> bool {
+    if drawn(host, asked, text) {
+        return reasoned(host, answered(host, asked, text), input, name, text);
     }
     false
 }
@@ -156,11 +161,11 @@ fn told(asked: Tracing, input: bool, name: &[u8], text: &[u8]) -> bool {
 
 // What there is no room for does not change the answer (ReadsNoFurther of the crate trace); reading it all the same spares the writer a broken
 // pipe. Nothing says that an input ends, and a proved loop has to: so the turns are counted down from a number that no run uses up.
-fn rest_read(fd: i32) -> bool {
+fn rest_read(host: &Host, fd: i32) -> bool {
     let mut turns = u64::MAX;
     while turns > 0 {
         let mut chunk = io::buffer();
-        let got = libc::read(fd, &mut chunk);
+        let got = host.read(fd, &mut chunk);
         if got <= 0 {
             return got == 0;
         }
@@ -169,86 +174,92 @@ fn rest_read(fd: i32) -> bool {
     false
 }
 
-fn run_input_in(asked: Tracing, text: &mut [u8]) -> bool {
-    let n = io::read_full(STDIN_FILENO, text);
-    if !rest_read(STDIN_FILENO) {
-        words::failed(b"standard input");
+fn run_input_in(host: &Host, asked: Tracing, text: &mut [u8]) -> bool {
+    let n = host.read_full(STDIN, text);
+    if !rest_read(host, STDIN) {
+        words::failed(host, b"standard input");
         return false;
     }
     if n <= text.len() {
-        return told(asked, true, b"", &text[0..n]);
+        return told(host, asked, true, b"", &text[0..n]);
     }
     false
 }
 
-fn run_input(asked: Tracing) -> bool {
+fn run_input(host: &Host, asked: Tracing) -> bool {
     let mut text = [0u8; 32774];
-    run_input_in(asked, &mut text)
+    run_input_in(host, asked, &mut text)
 }
 
-fn run_named_in(asked: Tracing, word: usize, name: &[u8], text: &mut [u8]) -> bool {
-    let got = files::contents(word, text);
+fn run_named_in(host: &Host, asked: Tracing, word: usize, name: &[u8], text: &mut [u8]) -> bool {
+    let got = files::contents(host, word, text);
     let n = got.n;
     if got.ok {
         if n <= text.len() {
-            return told(asked, false, name, &text[0..n]);
+            return told(host, asked, false, name, &text[0..n]);
         }
     }
     false
 }
 
-fn run_named(asked: Tracing, word: usize, name: &[u8]) -> bool {
+fn run_named(host: &Host, asked: Tracing, word: usize, name: &[u8]) -> bool {
     let mut text = [0u8; 32774];
-    run_named_in(asked, word, name, &mut text)
+    run_named_in(host, asked, word, name, &mut text)
 }
 
 // Of several files each is named before its answer.
-fn headed(asked: Tracing, name: &[u8]) -> bool {
+fn headed(host: &Host, asked: Tracing, name: &[u8]) -> bool {
     if asked.files < 2 {
         return true;
     }
-    let told = say(true, b"file ");
-    say(say(told, name), b"\n")
+    let told = say(host, true, b"file ");
+    say(host, say(host, told, name), b"\n")
 }
 
-fn run_file(asked: Tracing, word: usize) -> bool {
+fn run_file(host: &Host, asked: Tracing, word: usize) -> bool {
     let mut name = io::buffer();
-    let n = os::arg(word, &mut name);
-    if !headed(asked, &name[..n]) {
+    let n = host.arg(word, &mut name);
+    if !headed(host, asked, &name[..n]) {
         return false;
     }
-    if words::is_input(word) {
-        return run_input(asked);
+    if words::is_input(host, word) {
+        return run_input(host, asked);
     }
-    run_named(asked, word, &name[..n])
+    run_named(host, asked, word, &name[..n])
 }
 
 // ---- the words, in their order
 
 // A file that cannot be read is told, and the next one is run.
-fn filed(t: Turn, asked: Tracing, role: Role, word: usize) -> Turn {
+fn filed(host: &Host, t: Turn, asked: Tracing, role: Role, word: usize) -> Turn {
     match role {
         Role::File => Turn {
-            ok: t.ok & run_file(asked, word),
+            ok: t.ok & run_file(host, asked, word),
             role,
         },
         _ => Turn { role, ..t },
     }
 }
 
-fn next_word(t: Turn, asked: Tracing, word: usize) -> Turn {
+fn next_word(host: &Host, t: Turn, asked: Tracing, word: usize) -> Turn {
     let before = t.role;
-    filed(t, asked, words::tracing::role_of(before, word), word)
+    filed(
+        host,
+        t,
+        asked,
+        words::tracing::role_of(host, before, word),
+        word,
+    )
 }
 
-fn run_files(asked: Tracing, next: usize, end: usize) -> bool {
+fn run_files(host: &Host, asked: Tracing, next: usize, end: usize) -> bool {
     let mut t = Turn {
         ok: true,
         role: Role::Bytes,
     };
     let mut i = next;
     while i < end {
-        t = next_word(t, asked, i);
+        t = next_word(host, t, asked, i);
         i += 1;
     }
     t.ok
@@ -256,13 +267,13 @@ fn run_files(asked: Tracing, next: usize, end: usize) -> bool {
 
 // `trace [--bytes] [--vcd FILE] [FILE..]`; without a file, standard input. False where nothing, or not all, could be answered: standard error
 // has the reason.
-pub fn trace_command(next: usize, end: usize) -> bool {
-    let asked = words::tracing::asked(next, end);
+pub fn trace_command(host: &Host, next: usize, end: usize) -> bool {
+    let asked = words::tracing::asked(host, next, end);
     if !asked.ok {
         return false;
     }
     if asked.files == 0 {
-        return run_input(asked);
+        return run_input(host, asked);
     }
-    run_files(asked, next, end)
+    run_files(host, asked, next, end)
 }

@@ -1,9 +1,11 @@
 // Runs the traces on standard input, each ended by `;`, and prints each answer. `@` in a trace stands for 32,767 letters `1`. A text that
 // begins with `#` is no trace: it names the next one, and is printed. A trace behind `?` is told byte by byte too.
 #![tactic(auto)]
+
 ghost use Rattle.std.specs.Prelude.{◌≤◌, ◌≡◌, length};
 ghost use Rattle.trace.specs.Trace.{trace_of, laying_of};
 
+use host::Host;
 use trace::Traced;
 
 fn least(a: usize, b: usize) -> usize
@@ -37,64 +39,65 @@ fn add(text: &mut [u8], n: usize, b: u8) -> usize
 }
 
 // The answer is the same, told or not.
-fn traced(text: &[u8], told: bool, out: &mut [u8]) -> Traced
+fn traced(host: &Host, text: &[u8], told: bool, out: &mut [u8]) -> Traced
     ensures { result ≡ (laying_of out.old (trace_of text.now)).answer }
 {
     if told {
-        return explain::explain(text, out);
+        return explain::explain(host, text, out);
     }
     trace::trace(text, out)
 }
 
-fn answer_in(text: &[u8], told: bool, out: &mut [u8]) {
-    let t = traced(text, told, out);
+fn answer_in(host: &Host, text: &[u8], told: bool, out: &mut [u8]) {
+    let t = traced(host, text, told, out);
     let n = t.length;
-    text::say(&out[..n]);
+    host.say(&out[..n]);
 }
 
-fn answer(text: &[u8], told: bool) {
+fn answer(host: &Host, text: &[u8], told: bool) {
     let mut out = [0u8; 32800];
-    answer_in(text, told, &mut out);
+    answer_in(host, text, told, &mut out);
 }
 
-fn read(text: &[u8]) {
+fn read(host: &Host, text: &[u8]) {
     if 0 < text.len() {
         if text[0] == b'#' {
-            text::say(&text[1..]);
+            host.say(&text[1..]);
             return;
         }
         if text[0] == b'?' {
-            answer(&text[1..], true);
+            answer(host, &text[1..], true);
             return;
         }
     }
-    answer(text, false);
+    answer(host, text, false);
 }
 
 // One byte more of the input; how long the trace now is.
-fn feed(text: &mut [u8], n: usize, b: u8) -> usize
+fn feed(host: &Host, text: &mut [u8], n: usize, b: u8) -> usize
     requires { n ≤ length text.old }
     ensures { result ≤ length text.old }
 {
     if b == b';' {
-        read(&text[..n]);
+        read(host, &text[..n]);
         return 0;
     }
     add(text, n, b)
 }
 
-fn run(input: &[u8], text: &mut [u8]) {
+fn run(host: &Host, input: &[u8], text: &mut [u8]) {
     let mut n: usize = 0;
     let mut i = 0;
     while i < input.len() {
-        n = feed(text, n, input[i]);
+        n = feed(host, text, n, input[i]);
         i += 1;
     }
 }
 
-fn main() {
+fn main(rt: HostRuntime) {
+    let host = Host::new(rt);
     let mut input = io::large_buffer();
-    let n = io::read_full(0, &mut input);
+    let n = host.read_full(0, &mut input);
     let mut text = [0u8; 32774];
-    run(&input[..n], &mut text);
+    run(&host, &input[..n], &mut text);
 }

@@ -7,7 +7,9 @@
 // event (`RepeatsMakeNone`). What an event does to the pin and to a cycle is seen from its last sample on: a cycle begins where a Stop does, and
 // one that ends at once is seen for three microseconds.
 #![tactic(auto)]
+
 use capture::{Stroke, Wires};
+use host::Host;
 use line::{Line, Phase, Pin};
 use parts::Loss;
 use state::Chip;
@@ -39,12 +41,12 @@ struct Scene {
 
 // ---- the file
 
-fn flush(fd: i32, pen: Pen, out: &[u8]) -> Pen {
+fn flush(host: &Host, fd: i32, pen: Pen, out: &[u8]) -> Pen {
     let n = pen.waiting;
     if pen.ok {
         if n <= out.len() {
             return Pen {
-                ok: io::write_all(fd, &out[0..n]),
+                ok: host.write_all(fd, &out[0..n]),
                 waiting: 0,
                 ..pen
             };
@@ -58,14 +60,14 @@ fn flush(fd: i32, pen: Pen, out: &[u8]) -> Pen {
 }
 
 // Room in the buffer for so many bytes more.
-fn make_room(fd: i32, pen: Pen, more: usize, out: &[u8]) -> Pen {
+fn make_room(host: &Host, fd: i32, pen: Pen, more: usize, out: &[u8]) -> Pen {
     let n = pen.waiting;
     if n <= out.len() {
         if more <= out.len() - n {
             return pen;
         }
     }
-    flush(fd, pen, out)
+    flush(host, fd, pen, out)
 }
 
 // A text behind the first n bytes of the buffer, and where they end then; as before where it does not fit.
@@ -80,8 +82,8 @@ fn lay(n: usize, text: &[u8], out: &mut [u8]) -> usize {
 }
 
 // A text of the dump: none is longer than the buffer.
-fn put(fd: i32, pen: Pen, text: &[u8], out: &mut [u8]) -> Pen {
-    let ready = make_room(fd, pen, text.len(), out);
+fn put(host: &Host, fd: i32, pen: Pen, text: &[u8], out: &mut [u8]) -> Pen {
+    let ready = make_room(host, fd, pen, text.len(), out);
     Pen {
         waiting: lay(ready.waiting, text, out),
         ..ready
@@ -91,20 +93,20 @@ fn put(fd: i32, pen: Pen, text: &[u8], out: &mut [u8]) -> Pen {
 // ---- changes
 
 // `#27`
-fn put_time(fd: i32, pen: Pen, out: &mut [u8]) -> Pen {
+fn put_time(host: &Host, fd: i32, pen: Pen, out: &mut [u8]) -> Pen {
     let mut text = [0u8; 20];
     let k = io::decimal(pen.time as u64, &mut text);
-    let marked = put(fd, pen, b"#", out);
-    let told = put(fd, marked, &text[..k], out);
-    put(fd, told, b"\n", out)
+    let marked = put(host, fd, pen, b"#", out);
+    let told = put(host, fd, marked, &text[..k], out);
+    put(host, fd, told, b"\n", out)
 }
 
 // `1c`
-fn put_change(fd: i32, pen: Pen, was: u8, is: u8, name: u8, out: &mut [u8]) -> Pen {
+fn put_change(host: &Host, fd: i32, pen: Pen, was: u8, is: u8, name: u8, out: &mut [u8]) -> Pen {
     if was == is {
         return pen;
     }
-    put(fd, pen, &[is, name, b'\n'], out)
+    put(host, fd, pen, &[is, name, b'\n'], out)
 }
 
 // A bit of a sample as the dump writes it.
@@ -117,11 +119,27 @@ fn data(sample: u8) -> u8 {
 }
 
 // Only what changed.
-fn put_changes(fd: i32, pen: Pen, was: Shown, is: Shown, out: &mut [u8]) -> Pen {
-    let clocked = put_change(fd, pen, clock(was.sample), clock(is.sample), b'c', out);
-    let moved = put_change(fd, clocked, data(was.sample), data(is.sample), b'd', out);
-    let driven = put_change(fd, moved, was.control, is.control, b'w', out);
-    put_change(fd, driven, was.busy, is.busy, b'b', out)
+fn put_changes(host: &Host, fd: i32, pen: Pen, was: Shown, is: Shown, out: &mut [u8]) -> Pen {
+    let clocked = put_change(
+        host,
+        fd,
+        pen,
+        clock(was.sample),
+        clock(is.sample),
+        b'c',
+        out,
+    );
+    let moved = put_change(
+        host,
+        fd,
+        clocked,
+        data(was.sample),
+        data(is.sample),
+        b'd',
+        out,
+    );
+    let driven = put_change(host, fd, moved, was.control, is.control, b'w', out);
+    put_change(host, fd, driven, was.busy, is.busy, b'b', out)
 }
 
 fn same(was: Shown, is: Shown) -> bool {
@@ -129,7 +147,7 @@ fn same(was: Shown, is: Shown) -> bool {
 }
 
 // A microsecond later.
-fn tick(fd: i32, pen: Pen, is: Shown, out: &mut [u8]) -> Pen {
+fn tick(host: &Host, fd: i32, pen: Pen, is: Shown, out: &mut [u8]) -> Pen {
     let was = pen.shown;
     let next = Pen {
         time: parts::up(pen.time, true),
@@ -139,8 +157,8 @@ fn tick(fd: i32, pen: Pen, is: Shown, out: &mut [u8]) -> Pen {
     if same(was, is) {
         return next;
     }
-    let timed = put_time(fd, next, out);
-    put_changes(fd, timed, was, is, out)
+    let timed = put_time(host, fd, next, out);
+    put_changes(host, fd, timed, was, is, out)
 }
 
 // ---- an event
@@ -204,20 +222,28 @@ fn sample_at(four: [u8; 4], i: usize) -> u8 {
     0
 }
 
-fn draw_samples(fd: i32, pen: Pen, four: [u8; 4], n: usize, line: Line, out: &mut [u8]) -> Pen {
+fn draw_samples(
+    host: &Host,
+    fd: i32,
+    pen: Pen,
+    four: [u8; 4],
+    n: usize,
+    line: Line,
+    out: &mut [u8],
+) -> Pen {
     let mut p = pen;
     let mut i = 0;
     while i < n {
         let was = p.shown;
         let is = at_sample(was, sample_at(four, i), line, i + 1 == n);
-        p = tick(fd, p, is, out);
+        p = tick(host, fd, p, is, out);
         i += 1;
     }
     p
 }
 
 // An event as the line shows it; behind it the chip stands so.
-fn draw_event(fd: i32, scene: Scene, chip: Chip, code: u8, out: &mut [u8]) -> Scene {
+fn draw_event(host: &Host, fd: i32, scene: Scene, chip: Chip, code: u8, out: &mut [u8]) -> Scene {
     let pen = scene.pen;
     let wires = scene.wires;
     let last = pen.shown;
@@ -228,12 +254,13 @@ fn draw_event(fd: i32, scene: Scene, chip: Chip, code: u8, out: &mut [u8]) -> Sc
     Scene {
         chip: chip,
         wires: next,
-        pen: draw_samples(fd, pen, four, s.count, line, out),
+        pen: draw_samples(host, fd, pen, four, s.count, line, out),
     }
 }
 
 // The chip is run along only for its pin and its cycle; what was answered is in `level`.
 fn turn(
+    host: &Host,
     fd: i32,
     part: u8,
     enable: u8,
@@ -247,11 +274,12 @@ fn turn(
     let chip = scene.chip;
     let s = chip::step(part, enable, Loss::Old, b"", chip, array, id, code);
     let next = s.chip;
-    draw_event(fd, scene, next, capture::lined(code, level), out)
+    draw_event(host, fd, scene, next, capture::lined(code, level), out)
 }
 
 // Every event, from rest on.
 fn draw_all(
+    host: &Host,
     fd: i32,
     part: u8,
     enable: u8,
@@ -266,7 +294,9 @@ fn draw_all(
     let mut i = 0;
     while i < events.len() {
         let level = parts::byte_at(levels, i);
-        scene = turn(fd, part, enable, scene, events[i], level, array, id, out);
+        scene = turn(
+            host, fd, part, enable, scene, events[i], level, array, id, out,
+        );
         i += 1;
     }
     scene.pen
@@ -275,33 +305,36 @@ fn draw_all(
 // ---- the dump
 
 // No date: the same events make the same file.
-fn put_version(fd: i32, pen: Pen, out: &mut [u8]) -> Pen {
-    let told = put(fd, pen, b"$version sapwoodle $end\n", out);
+fn put_version(host: &Host, fd: i32, pen: Pen, out: &mut [u8]) -> Pen {
+    let told = put(host, fd, pen, b"$version sapwoodle $end\n", out);
     let meant = put(
+        host,
         fd,
         told,
         b"$comment one sample a microsecond: not the time of a real bus $end\n",
         out,
     );
-    put(fd, meant, b"$timescale 1 us $end\n", out)
+    put(host, fd, meant, b"$timescale 1 us $end\n", out)
 }
 
-fn put_control(fd: i32, pen: Pen, pin: bool, out: &mut [u8]) -> Pen {
+fn put_control(host: &Host, fd: i32, pen: Pen, pin: bool, out: &mut [u8]) -> Pen {
     if pin {
-        return put(fd, pen, b"$var wire 1 w wc $end\n", out);
+        return put(host, fd, pen, b"$var wire 1 w wc $end\n", out);
     }
     pen
 }
 
-fn put_names(fd: i32, pen: Pen, pin: bool, out: &mut [u8]) -> Pen {
+fn put_names(host: &Host, fd: i32, pen: Pen, pin: bool, out: &mut [u8]) -> Pen {
     let wires = put(
+        host,
         fd,
         pen,
         b"$scope module m24c $end\n$var wire 1 c scl $end\n$var wire 1 d sda $end\n",
         out,
     );
-    let pinned = put_control(fd, wires, pin, out);
+    let pinned = put_control(host, fd, wires, pin, out);
     put(
+        host,
         fd,
         pinned,
         b"$var wire 1 b busy $end\n$upscope $end\n$enddefinitions $end\n",
@@ -310,20 +343,20 @@ fn put_names(fd: i32, pen: Pen, pin: bool, out: &mut [u8]) -> Pen {
 }
 
 // What is seen before the first event. At rest both wires are high, so all of it changes from nothing.
-fn put_first(fd: i32, pen: Pen, out: &mut [u8]) -> Pen {
+fn put_first(host: &Host, fd: i32, pen: Pen, out: &mut [u8]) -> Pen {
     let nothing = Shown {
         sample: 0,
         control: 0,
         busy: 0,
     };
     let is = pen.shown;
-    let timed = put_time(fd, pen, out);
-    let begun = put(fd, timed, b"$dumpvars\n", out);
-    let told = put_changes(fd, begun, nothing, is, out);
-    put(fd, told, b"$end\n", out)
+    let timed = put_time(host, fd, pen, out);
+    let begun = put(host, fd, timed, b"$dumpvars\n", out);
+    let told = put_changes(host, fd, begun, nothing, is, out);
+    put(host, fd, told, b"$end\n", out)
 }
 
-fn put_head(fd: i32, line: Line, out: &mut [u8]) -> Pen {
+fn put_head(host: &Host, fd: i32, line: Line, out: &mut [u8]) -> Pen {
     let is = seen(3, line);
     let pen = Pen {
         ok: true,
@@ -331,21 +364,27 @@ fn put_head(fd: i32, line: Line, out: &mut [u8]) -> Pen {
         time: 0,
         shown: is,
     };
-    let begun = put_version(fd, pen, out);
-    put_first(fd, put_names(fd, begun, 0 < is.control, out), out)
+    let begun = put_version(host, fd, pen, out);
+    put_first(
+        host,
+        fd,
+        put_names(host, fd, begun, 0 < is.control, out),
+        out,
+    )
 }
 
 // The last sample has its width.
-fn put_end(fd: i32, pen: Pen, out: &mut [u8]) -> bool {
+fn put_end(host: &Host, fd: i32, pen: Pen, out: &mut [u8]) -> bool {
     let last = Pen {
         time: parts::up(pen.time, true),
         ..pen
     };
-    let done = flush(fd, put_time(fd, last, out), out);
+    let done = flush(host, fd, put_time(host, fd, last, out), out);
     done.ok
 }
 
 fn draw_chip(
+    host: &Host,
     fd: i32,
     part: u8,
     enable: u8,
@@ -360,15 +399,18 @@ fn draw_chip(
     let first = Scene {
         chip: chip,
         wires: Wires::Rest,
-        pen: put_head(fd, line, out),
+        pen: put_head(host, fd, line, out),
     };
-    let last = draw_all(fd, part, enable, first, array, id, events, levels, out);
-    put_end(fd, last, out)
+    let last = draw_all(
+        host, fd, part, enable, first, array, id, events, levels, out,
+    );
+    put_end(host, fd, last, out)
 }
 
 // Draws events from a chip on, with the levels that were answered, to an open file. The chip is held as its bytes; the enable is its own; array
 // and id are changed as the events change them. Whether all was written.
 pub fn draw(
+    host: &Host,
     fd: i32,
     part: u8,
     enable: u8,
@@ -380,10 +422,13 @@ pub fn draw(
 ) -> bool {
     let chip = pack_chip::unpack(held);
     let mut out = io::buffer();
-    draw_chip(fd, part, enable, chip, array, id, events, levels, &mut out)
+    draw_chip(
+        host, fd, part, enable, chip, array, id, events, levels, &mut out,
+    )
 }
 
 fn store_in(
+    host: &Host,
     word: usize,
     part: u8,
     enable: u8,
@@ -394,16 +439,17 @@ fn store_in(
     levels: &[u8],
     beside: &mut [u8],
 ) -> bool {
-    let b = files::store::begin(word, beside);
+    let b = files::store::begin(host, word, beside);
     if b.fd < 0 {
         return false;
     }
-    let whole = draw(b.fd, part, enable, held, array, id, events, levels);
-    files::store::finish(b, whole, word, beside)
+    let whole = draw(host, b.fd, part, enable, held, array, id, events, levels);
+    files::store::finish(host, b, whole, word, beside)
 }
 
 // Whether the file stands that a word names.
 pub fn store(
+    host: &Host,
     word: usize,
     part: u8,
     enable: u8,
@@ -415,6 +461,7 @@ pub fn store(
 ) -> bool {
     let mut beside = io::buffer();
     store_in(
+        host,
         word,
         part,
         enable,

@@ -1,19 +1,27 @@
 // The image whose counts are gone on from, and in which they are saved.
 use crate::work;
 use files::{shape, traced};
+use host::Host;
 use parts::{Refusal, Verdict};
 use work::Worn;
 
 // ---- reading
 
-fn refuse(word: usize, bytes: &[u8], r: Refusal) -> Worn {
-    shape::tell(word, bytes);
-    traced::end(r);
+fn refuse(host: &Host, word: usize, bytes: &[u8], r: Refusal) -> Worn {
+    shape::tell(host, word, bytes);
+    traced::end(host, r);
     work::stopped(work::nothing_yet())
 }
 
 // Every part has the enable 0.
-fn load(word: usize, bytes: &[u8], array: &mut [u8], id: &mut [u8], counts: &mut [u32]) -> Worn {
+fn load(
+    host: &Host,
+    word: usize,
+    bytes: &[u8],
+    array: &mut [u8],
+    id: &mut [u8],
+    counts: &mut [u32],
+) -> Worn {
     let l = image_worn::load_worn(bytes, 0, array, id, counts);
     let loaded = l.loaded;
     let worst = l.worst;
@@ -25,16 +33,17 @@ fn load(word: usize, bytes: &[u8], array: &mut [u8], id: &mut [u8], counts: &mut
             worst,
             ..w
         },
-        Verdict::Refused(r) => refuse(word, bytes, r),
+        Verdict::Refused(r) => refuse(host, word, bytes, r),
     }
 }
 
 // The work begins with the counts of an image and their worst, zeros of one that has none.
-pub fn begun(word: usize, bytes: &[u8], counts: &mut [u32]) -> Worn {
+pub fn begun(host: &Host, word: usize, bytes: &[u8], counts: &mut [u32]) -> Worn {
     let part = image::part_in(bytes);
     let mut array = [0u8; 32768];
     let mut id = [0u8; 64];
     load(
+        host,
         word,
         bytes,
         fitted::array(part, &mut array),
@@ -46,6 +55,7 @@ pub fn begun(word: usize, bytes: &[u8], counts: &mut [u32]) -> Worn {
 // ---- writing
 
 fn save_in(
+    host: &Host,
     word: usize,
     bytes: &[u8],
     array: &mut [u8],
@@ -59,17 +69,18 @@ fn save_in(
     let saved = image_worn::save_worn(loaded.part, loaded.chip, array, id, counts, out);
     let n = saved.length;
     if n <= out.len() {
-        return files::store::store(word, &out[0..n]);
+        return files::store::store(host, word, &out[0..n]);
     }
     false
 }
 
-fn lend(word: usize, part: u8, bytes: &[u8], counts: &[u32]) -> bool {
+fn lend(host: &Host, word: usize, part: u8, bytes: &[u8], counts: &[u32]) -> bool {
     let mut array = [0u8; 32768];
     let mut id = [0u8; 64];
     let mut before = [0u32; 8192];
     let mut out = [0u8; shape::ROOM];
     save_in(
+        host,
         word,
         bytes,
         fitted::array(part, &mut array),
@@ -81,9 +92,9 @@ fn lend(word: usize, part: u8, bytes: &[u8], counts: &[u32]) -> bool {
 }
 
 // Whether the image stands that a word names, or none is asked for: what an image holds that was loaded, with these counts.
-pub fn save(word: usize, bytes: &[u8], counts: &[u32]) -> bool {
+pub fn save(host: &Host, word: usize, bytes: &[u8], counts: &[u32]) -> bool {
     if word == 0 {
         return true;
     }
-    lend(word, image::part_in(bytes), bytes, counts)
+    lend(host, word, image::part_in(bytes), bytes, counts)
 }

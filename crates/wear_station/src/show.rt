@@ -1,4 +1,5 @@
 // What is told of the counts. Each function is told whether the lines before it were written, and says so of its own.
+use host::Host;
 use image_station::show::{big, worn};
 use wear::Most;
 use words::answer::{address, number, say};
@@ -12,46 +13,54 @@ fn wide(n: u32) -> usize {
 }
 
 // `1 trace`, `3 traces`
-fn some(ok: bool, n: usize, name: &[u8]) -> bool {
-    let told = number(ok, n);
-    let named = say(told, name);
+fn some(host: &Host, ok: bool, n: usize, name: &[u8]) -> bool {
+    let told = number(host, ok, n);
+    let named = say(host, told, name);
     if n == 1 {
         return named;
     }
-    say(named, b"s")
+    say(host, named, b"s")
 }
 
 // ---- the first three lines
 
-fn head(ok: bool, part: u8, size: usize, groups: usize, traces: usize, cycles: usize) -> bool {
-    let parted = image_station::show::part_named(ok, part, b", ");
-    let two = some(say(parted, b": "), groups, b" group");
-    let three = some(say(two, b" of "), size, b" byte");
-    let four = some(say(three, b"; "), traces, b" trace");
-    let five = some(say(four, b", "), cycles, b" cycle");
-    say(five, b"\n")
+fn head(
+    host: &Host,
+    ok: bool,
+    part: u8,
+    size: usize,
+    groups: usize,
+    traces: usize,
+    cycles: usize,
+) -> bool {
+    let parted = image_station::show::part_named(host, ok, part, b", ");
+    let two = some(host, say(host, parted, b": "), groups, b" group");
+    let three = some(host, say(host, two, b" of "), size, b" byte");
+    let four = some(host, say(host, three, b"; "), traces, b" trace");
+    let five = some(host, say(host, four, b", "), cycles, b" cycle");
+    say(host, five, b"\n")
 }
 
-fn total(ok: bool, sum: u64, most: u32) -> bool {
-    let told = big(say(ok, b"total "), sum);
-    say(or_more(told, most), b"\n")
+fn total(host: &Host, ok: bool, sum: u64, most: u32) -> bool {
+    let told = big(host, say(host, ok, b"total "), sum);
+    say(host, or_more(host, told, most), b"\n")
 }
 
-fn two_digits(ok: bool, n: u64) -> bool {
-    let tens = big(ok, n / 10 % 10);
-    big(tens, n % 10)
+fn two_digits(host: &Host, ok: bool, n: u64) -> bool {
+    let tens = big(host, ok, n / 10 % 10);
+    big(host, tens, n % 10)
 }
 
 // Of the cycles that the data sheets name, at 25 degrees; cut, not rounded.
-fn percent(ok: bool, count: u32) -> bool {
+fn percent(host: &Host, ok: bool, count: u32) -> bool {
     let n = count as u64 * 10000 / 4000000;
-    let whole = say(big(ok, n / 100), b".");
-    say(two_digits(whole, n % 100), b" % of 4000000\n")
+    let whole = say(host, big(host, ok, n / 100), b".");
+    say(host, two_digits(host, whole, n % 100), b" % of 4000000\n")
 }
 
-fn most(ok: bool, size: usize, worst: Most) -> bool {
-    let told = report::most(ok, size, worst.group, worst.count);
-    percent(say(told, b", "), worst.count)
+fn most(host: &Host, ok: bool, size: usize, worst: Most) -> bool {
+    let told = report::most(host, ok, size, worst.group, worst.count);
+    percent(host, say(host, told, b", "), worst.count)
 }
 
 // ---- the bars
@@ -70,23 +79,23 @@ fn share(count: u32, most: u32) -> usize {
     if n == 0 { 1 } else { n }
 }
 
-fn row(ok: bool, n: usize) -> bool {
+fn row(host: &Host, ok: bool, n: usize) -> bool {
     let marks = [b'#'; 40];
     if n <= 40 {
-        return say(ok, &marks[0..n]);
+        return say(host, ok, &marks[0..n]);
     }
-    say(ok, &marks)
+    say(host, ok, &marks)
 }
 
 // A group that is not worn has no bar.
-fn bar(ok: bool, size: usize, top: Most, most: u32) -> bool {
+fn bar(host: &Host, ok: bool, size: usize, top: Most, most: u32) -> bool {
     if top.count == 0 {
         return ok;
     }
-    let named = say(address(ok, first_of(top.group, size)), b"  ");
-    let counted = named && answer::written(text::say_right(wide(top.count), columns(most)));
-    let drawn = row(say(counted, b" "), share(top.count, most));
-    say(drawn, b"\n")
+    let named = say(host, address(host, ok, first_of(top.group, size)), b"  ");
+    let counted = named && answer::written(host, host.say_right(wide(top.count), columns(most)));
+    let drawn = row(host, say(host, counted, b" "), share(top.count, most));
+    say(host, drawn, b"\n")
 }
 
 // Whether a group stands behind another in the order of the bars: most first, lowest group first on a tie.
@@ -117,53 +126,61 @@ fn next(counts: &[u32], last: Most) -> Most {
     best
 }
 
-fn bars(ok: bool, size: usize, first: Most, counts: &[u32]) -> bool {
+fn bars(host: &Host, ok: bool, size: usize, first: Most, counts: &[u32]) -> bool {
     let mut told = ok;
     let mut top = first;
     let mut k = 0;
     while k < BARS {
-        told = bar(told, size, top, first.count);
+        told = bar(host, told, size, top, first.count);
         top = next(counts, top);
         k += 1;
     }
     told
 }
 
-fn rest(ok: bool, worn: usize) -> bool {
+fn rest(host: &Host, ok: bool, worn: usize) -> bool {
     if worn <= BARS {
         return ok;
     }
-    let told = some(say(ok, b"and "), worn - BARS, b" more group");
-    say(told, b"\n")
+    let told = some(host, say(host, ok, b"and "), worn - BARS, b" more group");
+    say(host, told, b"\n")
 }
 
 // ---- all of it
 
 // For people: the sum, the worst, which is the first bar, and the bars.
-pub fn told(part: u8, sum: u64, first: Most, traces: usize, cycles: usize, counts: &[u32]) -> bool {
+pub fn told(
+    host: &Host,
+    part: u8,
+    sum: u64,
+    first: Most,
+    traces: usize,
+    cycles: usize,
+    counts: &[u32],
+) -> bool {
     let f = parts::facts_of(part);
-    let one = head(true, part, f.group, counts.len(), traces, cycles);
-    let two = total(one, sum, first.count);
-    let three = most(two, f.group, first);
-    let four = bars(three, f.group, first, counts);
-    rest(four, worn(counts))
+    let one = head(host, true, part, f.group, counts.len(), traces, cycles);
+    let two = total(host, one, sum, first.count);
+    let three = most(host, two, f.group, first);
+    let four = bars(host, three, f.group, first, counts);
+    rest(host, four, worn(counts))
 }
 
-fn line(ok: bool, group: usize, count: u32) -> bool {
+fn line(host: &Host, ok: bool, group: usize, count: u32) -> bool {
     if count == 0 {
         return ok;
     }
-    let named = number(ok, group);
-    let told = number(say(named, b" "), wide(count));
-    say(told, b"\n")
+    let named = number(host, ok, group);
+    let told = number(host, say(host, named, b" "), wide(count));
+    say(host, told, b"\n")
 }
 
 // For other tools: each group that is worn, and its count.
-pub fn all(counts: &[u32]) -> bool {
+pub fn all(host: &Host, counts: &[u32]) -> bool {
     let mut told = true;
     let mut i = 0;
     while i < counts.len() {
-        told = line(told, i, counts[i]);
+        told = line(host, told, i, counts[i]);
         i += 1;
     }
     told

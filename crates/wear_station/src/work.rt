@@ -1,7 +1,7 @@
 // What the words and the lists name, one after another: traces that are run and counted, and files of counts that are joined.
 use crate::{stored, tell};
 use files::traced;
-use libc::STDIN_FILENO;
+use host::{Host, STDIN};
 use parts::{Loss, Refusal, Verdict};
 use wear::Most;
 use words::Number;
@@ -38,30 +38,30 @@ pub fn stopped(w: Worn) -> Worn {
 
 // ---- a file
 
-pub fn opened(input: bool, name: &[u8]) -> i32 {
+pub fn opened(host: &Host, input: bool, name: &[u8]) -> i32 {
     if input {
-        return STDIN_FILENO;
+        return STDIN;
     }
-    files::open_named(name)
+    files::open_named(host, name)
 }
 
-pub fn closed(input: bool, fd: i32) {
+pub fn closed(host: &Host, input: bool, fd: i32) {
     if !input {
-        libc::close(fd);
+        host.close(fd);
     }
 }
 
 // All that a file has, or as much as there is room for.
-pub fn contents(input: bool, name: &[u8], to: &mut [u8]) -> Number {
-    let fd = opened(input, name);
+pub fn contents(host: &Host, input: bool, name: &[u8], to: &mut [u8]) -> Number {
+    let fd = opened(host, input, name);
     if fd < 0 {
         return Number { ok: false, n: 0 };
     }
-    let got = words::read_all(fd, to);
+    let got = words::read_all(host, fd, to);
     if !got.ok {
-        tell::unread(input, name);
+        tell::unread(host, input, name);
     }
-    closed(input, fd);
+    closed(host, input, fd);
     got
 }
 
@@ -72,12 +72,20 @@ fn other_part(w: Worn, part: u8) -> Verdict {
 }
 
 // `text`: the trace, or nothing of a file of counts, of which nothing else is refused.
-fn refuse(w: Worn, input: bool, name: &[u8], text: &[u8], part: u8, r: Refusal) -> Worn {
+fn refuse(
+    host: &Host,
+    w: Worn,
+    input: bool,
+    name: &[u8],
+    text: &[u8],
+    part: u8,
+    r: Refusal,
+) -> Worn {
     let n = parts::number(r);
     if n == parts::number(Refusal::WrongBuffer) {
-        tell::other_part(input, name, part, w.part);
+        tell::other_part(host, input, name, part, w.part);
     } else {
-        traced::tell(input, name, text, r);
+        traced::tell(host, input, name, text, r);
     }
     stopped(w)
 }
@@ -142,6 +150,7 @@ fn run_letters(part: u8, enable: u8, letters: &[u8], counts: &mut [u32]) -> wear
 }
 
 fn run_text(
+    host: &Host,
     w: Worn,
     input: bool,
     name: &[u8],
@@ -162,41 +171,49 @@ fn run_text(
             worst,
             ..w
         },
-        Verdict::Refused(r) => refuse(w, input, name, text, part, r),
+        Verdict::Refused(r) => refuse(host, w, input, name, text, part, r),
     }
 }
 
 // Judged before it is run: a refused trace leaves the counts as they were.
-fn judged(w: Worn, input: bool, name: &[u8], text: &[u8], counts: &mut [u32]) -> Worn {
+fn judged(host: &Host, w: Worn, input: bool, name: &[u8], text: &[u8], counts: &mut [u32]) -> Worn {
     let j = trace::judge(text);
     let own = j.verdict;
     let verdict = parts::sooner(own, other_part(w, j.part));
     match verdict {
-        Verdict::Fine => run_text(w, input, name, j.part, j.enable, text, counts),
-        Verdict::Refused(r) => refuse(w, input, name, text, j.part, r),
+        Verdict::Fine => run_text(host, w, input, name, j.part, j.enable, text, counts),
+        Verdict::Refused(r) => refuse(host, w, input, name, text, j.part, r),
     }
 }
 
-fn read_trace(w: Worn, input: bool, name: &[u8], text: &mut [u8], counts: &mut [u32]) -> Worn {
-    let got = contents(input, name, text);
+fn read_trace(
+    host: &Host,
+    w: Worn,
+    input: bool,
+    name: &[u8],
+    text: &mut [u8],
+    counts: &mut [u32],
+) -> Worn {
+    let got = contents(host, input, name, text);
     let n = got.n;
     if got.ok {
         if n <= text.len() {
-            return judged(w, input, name, &text[0..n], counts);
+            return judged(host, w, input, name, &text[0..n], counts);
         }
     }
     stopped(w)
 }
 
 // What there is no room for does not change how a trace is judged (ReadsNoFurther of the crate trace): so long a text is refused with 13.
-pub fn one_trace(w: Worn, input: bool, name: &[u8], counts: &mut [u32]) -> Worn {
+pub fn one_trace(host: &Host, w: Worn, input: bool, name: &[u8], counts: &mut [u32]) -> Worn {
     let mut text = [0u8; 32774];
-    read_trace(w, input, name, &mut text, counts)
+    read_trace(host, w, input, name, &mut text, counts)
 }
 
 // ---- a file of counts
 
 fn join(
+    host: &Host,
     w: Worn,
     input: bool,
     name: &[u8],
@@ -211,13 +228,22 @@ fn join(
     let worst = found.worst;
     match verdict {
         Verdict::Fine => Worn { part, worst, ..w },
-        Verdict::Refused(r) => refuse(w, input, name, b"", part, r),
+        Verdict::Refused(r) => refuse(host, w, input, name, b"", part, r),
     }
 }
 
-fn joined(w: Worn, input: bool, name: &[u8], part: u8, bytes: &[u8], counts: &mut [u32]) -> Worn {
+fn joined(
+    host: &Host,
+    w: Worn,
+    input: bool,
+    name: &[u8],
+    part: u8,
+    bytes: &[u8],
+    counts: &mut [u32],
+) -> Worn {
     let mut more = [0u32; 8192];
     join(
+        host,
         w,
         input,
         name,
@@ -228,30 +254,44 @@ fn joined(w: Worn, input: bool, name: &[u8], part: u8, bytes: &[u8], counts: &mu
     )
 }
 
-fn counts_in(w: Worn, input: bool, name: &[u8], bytes: &[u8], counts: &mut [u32]) -> Worn {
-    if !stored::right(input, name, bytes) {
+fn counts_in(
+    host: &Host,
+    w: Worn,
+    input: bool,
+    name: &[u8],
+    bytes: &[u8],
+    counts: &mut [u32],
+) -> Worn {
+    if !stored::right(host, input, name, bytes) {
         return stopped(w);
     }
     let part = stored::part_in(bytes);
     let verdict = other_part(w, part);
     match verdict {
-        Verdict::Fine => joined(w, input, name, part, bytes, counts),
-        Verdict::Refused(r) => refuse(w, input, name, b"", part, r),
+        Verdict::Fine => joined(host, w, input, name, part, bytes, counts),
+        Verdict::Refused(r) => refuse(host, w, input, name, b"", part, r),
     }
 }
 
-fn read_counts(w: Worn, input: bool, name: &[u8], bytes: &mut [u8], counts: &mut [u32]) -> Worn {
-    let got = contents(input, name, bytes);
+fn read_counts(
+    host: &Host,
+    w: Worn,
+    input: bool,
+    name: &[u8],
+    bytes: &mut [u8],
+    counts: &mut [u32],
+) -> Worn {
+    let got = contents(host, input, name, bytes);
     let n = got.n;
     if got.ok {
         if n <= bytes.len() {
-            return counts_in(w, input, name, &bytes[0..n], counts);
+            return counts_in(host, w, input, name, &bytes[0..n], counts);
         }
     }
     stopped(w)
 }
 
-pub fn one_counts(w: Worn, input: bool, name: &[u8], counts: &mut [u32]) -> Worn {
+pub fn one_counts(host: &Host, w: Worn, input: bool, name: &[u8], counts: &mut [u32]) -> Worn {
     let mut bytes = [0u8; stored::ROOM];
-    read_counts(w, input, name, &mut bytes, counts)
+    read_counts(host, w, input, name, &mut bytes, counts)
 }

@@ -1,7 +1,6 @@
 // What is told of counts.
 use cases::more;
-use libc::STDOUT_FILENO;
-use text::{say, say_number};
+use host::{Host, STDOUT};
 use wear::Most;
 
 // How many groups are told one by one.
@@ -19,77 +18,77 @@ pub fn narrow(n: usize) -> u32 {
     4294967295
 }
 
-pub fn tell_most(m: Most) {
-    say_number(m.group);
-    crate::tell(b" with ", wide(m.count));
+pub fn tell_most(host: &Host, m: Most) {
+    host.say_number(m.group);
+    crate::tell(host, b" with ", wide(m.count));
 }
 
-fn tell_group(group: usize, count: u32, told: usize) -> usize {
+fn tell_group(host: &Host, group: usize, count: u32, told: usize) -> usize {
     if count == 0 {
         return told;
     }
     if told < TOLD {
-        crate::tell(b" ", group);
-        crate::tell(b":", wide(count));
+        crate::tell(host, b" ", group);
+        crate::tell(host, b":", wide(count));
     }
     more(told)
 }
 
-fn tell_groups(counts: &[u32]) -> usize {
+fn tell_groups(host: &Host, counts: &[u32]) -> usize {
     let mut told = 0;
     let mut i = 0;
     while i < counts.len() {
-        told = tell_group(i, counts[i], told);
+        told = tell_group(host, i, counts[i], told);
         i += 1;
     }
     told
 }
 
 // Each group with a count, in order, or the first of them and how many more there are.
-pub fn tell_worn(counts: &[u32]) {
-    let told = tell_groups(counts);
+pub fn tell_worn(host: &Host, counts: &[u32]) {
+    let told = tell_groups(host, counts);
     if TOLD < told {
-        crate::tell(b" and more, in all ", told);
+        crate::tell(host, b" and more, in all ", told);
     }
 }
 
 // The total, which is wider than a count, and the group with most.
-pub fn tell_report(part: u8, counts: &[u32]) {
+pub fn tell_report(host: &Host, part: u8, counts: &[u32]) {
     let r = wear::report(part, counts);
     let verdict = r.verdict;
-    crate::tell_verdict(verdict);
-    say(b", total ");
-    io::print_decimal(STDOUT_FILENO, r.total);
-    crate::tell(b", most group ", r.group);
-    crate::tell(b" with ", wide(r.count));
+    crate::tell_verdict(host, verdict);
+    host.say(b", total ");
+    host.print_decimal(STDOUT, r.total);
+    crate::tell(host, b", most group ", r.group);
+    crate::tell(host, b" with ", wide(r.count));
 }
 
 // What the walk finds, for who begins.
-pub fn tell_found(part: u8, counts: &[u32]) {
+pub fn tell_found(host: &Host, part: u8, counts: &[u32]) {
     let f = wear::worst_of(part, counts);
     let verdict = f.verdict;
-    say(b"; worst ");
-    crate::tell_verdict(verdict);
-    say(b", ");
-    tell_most(f.worst);
+    host.say(b"; worst ");
+    crate::tell_verdict(host, verdict);
+    host.say(b", ");
+    tell_most(host, f.worst);
 }
 
 // Whether a group with its count is what the walk finds, and the refusal of one that is not.
-pub fn tell_borne(counts: &[u32], group: usize, count: usize) {
+pub fn tell_borne(host: &Host, counts: &[u32], group: usize, count: usize) {
     let m = Most {
         group: group,
         count: narrow(count),
     };
     if wear::worst::borne_out(counts, m) {
-        say(b"borne out, ");
+        host.say(b"borne out, ");
     } else {
-        say(b"not borne out, ");
+        host.say(b"not borne out, ");
     }
-    crate::tell_verdict(wear::worst::verdict(counts, m));
+    crate::tell_verdict(host, wear::worst::verdict(counts, m));
 }
 
 // Of two groups the more worn.
-pub fn tell_worse(v: [usize; 16]) {
+pub fn tell_worse(host: &Host, v: [usize; 16]) {
     let a = Most {
         group: v[0],
         count: narrow(v[1]),
@@ -98,5 +97,5 @@ pub fn tell_worse(v: [usize; 16]) {
         group: v[2],
         count: narrow(v[3]),
     };
-    tell_most(wear::worst::worse(a, b));
+    tell_most(host, wear::worst::worse(a, b));
 }

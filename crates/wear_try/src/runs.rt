@@ -1,8 +1,9 @@
 // Runs of events on a part as delivered, and what they leave: one after another, with a bar between, on the one chip or each from delivery. The counts
 // go on in either case.
 use cases::{cut, mix};
+use host::Host;
 use parts::{Loss, Verdict};
-use text::{narrow, say};
+use text::narrow;
 use wear::{Most, Worn};
 
 // The numbers of a line, by their places.
@@ -109,20 +110,20 @@ fn level_letter(x: u8) -> u8 {
     }
 }
 
-fn tell_letters(levels: &[u8]) {
+fn tell_letters(host: &Host, levels: &[u8]) {
     let mut i = 0;
     while i < levels.len() {
-        say(&[level_letter(levels[i])]);
+        host.say(&[level_letter(levels[i])]);
         i += 1;
     }
 }
 
 // As the trace program prints them.
-fn tell_levels(levels: &[u8]) {
+fn tell_levels(host: &Host, levels: &[u8]) {
     if levels.len() <= SHORT {
-        tell_letters(levels);
+        tell_letters(host, levels);
     } else {
-        text::say_number(cases::mixed(levels));
+        host.say_number(cases::mixed(levels));
     }
 }
 
@@ -143,31 +144,31 @@ fn pair(high: u8, low: u8) -> usize {
 }
 
 // A state's bytes, as pack_chip lays them.
-fn tell_state(held: &[u8; 137]) {
-    crate::tell(b", counter ", pair(held[0], held[1]));
-    crate::tell(b", locked ", text::wide(held[4]));
-    crate::tell(b", phase ", text::wide(held[5]));
+fn tell_state(host: &Host, held: &[u8; 137]) {
+    crate::tell(host, b", counter ", pair(held[0], held[1]));
+    crate::tell(host, b", locked ", text::wide(held[4]));
+    crate::tell(host, b", phase ", text::wide(held[5]));
 }
 
 // Whether a refused call left all as it was.
-fn tell_kept(same: bool, levels: &[u8]) {
+fn tell_kept(host: &Host, same: bool, levels: &[u8]) {
     if same {
         if blank(levels) {
-            say(b", unchanged");
+            host.say(b", unchanged");
             return;
         }
     }
-    say(b", CHANGED");
+    host.say(b", CHANGED");
 }
 
 // The levels of n events; none is written behind them.
-fn tell_answers(levels: &[u8], n: usize) {
-    say(b", levels ");
-    tell_levels(cut(levels, 0, n));
+fn tell_answers(host: &Host, levels: &[u8], n: usize) {
+    host.say(b", levels ");
+    tell_levels(host, cut(levels, 0, n));
     if blank(cut(levels, n, levels.len())) {
         return;
     }
-    say(b", more levels WRITTEN");
+    host.say(b", more levels WRITTEN");
 }
 
 // ---- one run
@@ -243,6 +244,7 @@ fn run(
 }
 
 fn tell_run(
+    host: &Host,
     v: [usize; 16],
     page: &[u8],
     held: &mut [u8; 137],
@@ -256,18 +258,19 @@ fn tell_run(
     let before = left(held, array, id, counts);
     let t = run(v, page, held, array, id, counts, worst, events, &mut levels);
     let verdict = t.verdict;
-    crate::tell_verdict(verdict);
-    crate::tell(b", cycles ", t.cycles);
+    crate::tell_verdict(host, verdict);
+    crate::tell(host, b", cycles ", t.cycles);
     if parts::verdict_number(verdict) == 0 {
-        tell_answers(&levels, events.len());
-        tell_state(held);
-        crate::tell(b", stored ", stored(array, id));
+        tell_answers(host, &levels, events.len());
+        tell_state(host, held);
+        crate::tell(host, b", stored ", stored(array, id));
     } else {
-        tell_kept(left(held, array, id, counts) == before, &levels);
+        tell_kept(host, left(held, array, id, counts) == before, &levels);
     }
 }
 
 fn one(
+    host: &Host,
     v: [usize; 16],
     typed: &[u8],
     held: &mut [u8; 137],
@@ -281,6 +284,7 @@ fn one(
     let n = crate::events::read(typed, v[LAST], &mut events);
     cases::fill(&mut page, narrow(v[FILL]));
     tell_run(
+        host,
         v,
         cut(&page, 0, v[PAGE]),
         held,
@@ -301,6 +305,7 @@ fn anew(v: [usize; 16], fresh: bool, held: &mut [u8; 137], array: &mut [u8], id:
 }
 
 fn next(
+    host: &Host,
     v: [usize; 16],
     fresh: bool,
     typed: &[u8],
@@ -311,11 +316,12 @@ fn next(
     worst: &mut [usize; 2],
 ) {
     anew(v, fresh, held, array, id);
-    one(v, typed, held, array, id, counts, worst);
+    one(host, v, typed, held, array, id, counts, worst);
 }
 
 // A bar ends a run. Answers where the run under way began.
 fn turn(
+    host: &Host,
     v: [usize; 16],
     fresh: bool,
     typed: &[u8],
@@ -329,6 +335,7 @@ fn turn(
 ) -> usize {
     if crate::events::at(typed, i) == b'|' {
         next(
+            host,
             v,
             fresh,
             cut(typed, start, i),
@@ -338,13 +345,14 @@ fn turn(
             counts,
             worst,
         );
-        say(b" | ");
+        host.say(b" | ");
         return cases::more(i);
     }
     start
 }
 
 fn series(
+    host: &Host,
     v: [usize; 16],
     fresh: bool,
     typed: &[u8],
@@ -357,11 +365,14 @@ fn series(
     let mut start = 0;
     let mut i = 0;
     while i < typed.len() {
-        start = turn(v, fresh, typed, start, i, held, array, id, counts, worst);
+        start = turn(
+            host, v, fresh, typed, start, i, held, array, id, counts, worst,
+        );
         i += 1;
     }
     let end = typed.len();
     next(
+        host,
         v,
         fresh,
         cut(typed, start, end),
@@ -374,7 +385,7 @@ fn series(
 }
 
 // All counts that were lent are told, those behind the part's too.
-pub fn tell_runs(v: [usize; 16], fresh: bool, counted: &[u8], typed: &[u8]) {
+pub fn tell_runs(host: &Host, v: [usize; 16], fresh: bool, counted: &[u8], typed: &[u8]) {
     let mut held = [0u8; 137];
     let mut array = [0u8; 32769];
     let mut id = [0u8; 65];
@@ -384,6 +395,7 @@ pub fn tell_runs(v: [usize; 16], fresh: bool, counted: &[u8], typed: &[u8]) {
     begin(v, &counts, &mut worst);
     deliver(v, &mut held, &mut array, &mut id);
     series(
+        host,
         v,
         fresh,
         typed,
@@ -393,18 +405,29 @@ pub fn tell_runs(v: [usize; 16], fresh: bool, counted: &[u8], typed: &[u8]) {
         &mut counts,
         &mut worst,
     );
-    say(b"; worn");
-    crate::counts::tell_worn(&counts);
-    say(b"; report ");
-    crate::counts::tell_report(narrow(v[PART]), cases::counts::shown(&counts, v[COUNTS]));
-    crate::tell(b"; worst ", worst[0]);
-    crate::tell(b" with ", worst[1]);
+    host.say(b"; worn");
+    crate::counts::tell_worn(host, &counts);
+    host.say(b"; report ");
+    crate::counts::tell_report(
+        host,
+        narrow(v[PART]),
+        cases::counts::shown(&counts, v[COUNTS]),
+    );
+    crate::tell(host, b"; worst ", worst[0]);
+    crate::tell(host, b" with ", worst[1]);
 }
 
 // ---- what an end or a cut, now, would count
 
 // The chip alone runs, so that nothing is counted before.
-fn run_alone(v: [usize; 16], held: &mut [u8; 137], array: &mut [u8], id: &mut [u8], events: &[u8]) {
+fn run_alone(
+    host: &Host,
+    v: [usize; 16],
+    held: &mut [u8; 137],
+    array: &mut [u8],
+    id: &mut [u8],
+    events: &[u8],
+) {
     let mut levels = [BLANK; 32769];
     let r = chip::run(
         narrow(v[PART]),
@@ -420,16 +443,16 @@ fn run_alone(v: [usize; 16], held: &mut [u8; 137], array: &mut [u8], id: &mut [u
     let verdict = r.verdict;
     let chip = r.chip;
     pack_chip::pack(chip, held);
-    crate::tell_verdict(verdict);
+    crate::tell_verdict(host, verdict);
 }
 
-fn alone(v: [usize; 16], typed: &[u8], held: &mut [u8; 137]) {
+fn alone(host: &Host, v: [usize; 16], typed: &[u8], held: &mut [u8; 137]) {
     let mut array = [0u8; 32769];
     let mut id = [0u8; 65];
     let mut events = [0u8; 32769];
     let n = crate::events::read(typed, v[LAST], &mut events);
     deliver(v, held, &mut array, &mut id);
-    run_alone(v, held, &mut array, &mut id, cut(&events, 0, n));
+    run_alone(host, v, held, &mut array, &mut id, cut(&events, 0, n));
 }
 
 fn mark(v: [usize; 16], held: &[u8; 137], counts: &mut [u32]) -> Most {
@@ -440,15 +463,15 @@ fn mark(v: [usize; 16], held: &[u8; 137], counts: &mut [u32]) -> Most {
     )
 }
 
-pub fn tell_mark(v: [usize; 16], counted: &[u8], typed: &[u8]) {
+pub fn tell_mark(host: &Host, v: [usize; 16], counted: &[u8], typed: &[u8]) {
     let mut held = [0u8; 137];
     let mut counts = [0u32; crate::MOST];
     cases::counts::read(&mut counts, counted);
-    alone(v, typed, &mut held);
-    tell_state(&held);
+    alone(host, v, typed, &mut held);
+    tell_state(host, &held);
     let raised = mark(v, &held, &mut counts);
-    say(b"; worn");
-    crate::counts::tell_worn(&counts);
-    say(b"; raised ");
-    crate::counts::tell_most(raised);
+    host.say(b"; worn");
+    crate::counts::tell_worn(host, &counts);
+    host.say(b"; raised ");
+    crate::counts::tell_most(host, raised);
 }

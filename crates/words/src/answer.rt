@@ -1,62 +1,63 @@
 // Plain lines on standard output that other tools can read, for more than one command. Each function is told whether the lines before it
 // were written, and says so of its own: what standard output does not take is said once, and nothing follows.
 use crate::status;
+use host::Host;
 use parts::Refusal;
 
 // Whether a write was taken: said where it was not.
-pub fn written(done: bool) -> bool {
+pub fn written(host: &Host, done: bool) -> bool {
     if !done {
-        crate::failed(b"standard output");
+        crate::unsaid(host);
     }
     done
 }
 
-pub fn say(ok: bool, text: &[u8]) -> bool {
+pub fn say(host: &Host, ok: bool, text: &[u8]) -> bool {
     if !ok {
         return false;
     }
-    written(text::say(text))
+    written(host, host.say(text))
 }
 
-pub fn number(ok: bool, n: usize) -> bool {
+pub fn number(host: &Host, ok: bool, n: usize) -> bool {
     let mut text = [0u8; 20];
     let k = io::decimal(n as u64, &mut text);
-    say(ok, &text[..k])
+    say(host, ok, &text[..k])
 }
 
-pub fn count(ok: bool, name: &[u8], n: usize) -> bool {
-    let named = say(ok, name);
-    let told = number(named, n);
-    say(told, b"\n")
+pub fn count(host: &Host, ok: bool, name: &[u8], n: usize) -> bool {
+    let named = say(host, ok, name);
+    let told = number(host, named, n);
+    say(host, told, b"\n")
 }
 
-pub fn bytes(ok: bool, n: usize, all: usize) -> bool {
-    let named = say(ok, b"bytes ");
-    let told = number(named, n);
-    count(told, b" of ", all)
+pub fn bytes(host: &Host, ok: bool, n: usize, all: usize) -> bool {
+    let named = say(host, ok, b"bytes ");
+    let told = number(host, named, n);
+    count(host, told, b" of ", all)
 }
 
 // The first line of a refusal, and the reasons that two commands give.
-pub fn refused(r: Refusal) -> bool {
+pub fn refused(host: &Host, r: Refusal) -> bool {
     let n = parts::number(r);
-    status::refused();
-    count(true, b"refused ", text::wide(n))
+    status::refused(host);
+    count(host, true, b"refused ", text::wide(n))
 }
 
-pub fn no_part(ok: bool) -> bool {
-    say(ok, b"there is no such part\n")
+pub fn no_part(host: &Host, ok: bool) -> bool {
+    say(host, ok, b"there is no such part\n")
 }
 
-pub fn no_image(ok: bool) -> bool {
-    say(ok, b"the file is no image of its part\n")
+pub fn no_image(host: &Host, ok: bool) -> bool {
+    say(host, ok, b"the file is no image of its part\n")
 }
 
-pub fn wrong_enable(ok: bool) -> bool {
-    say(ok, b"this part is never at this enable\n")
+pub fn wrong_enable(host: &Host, ok: bool) -> bool {
+    say(host, ok, b"this part is never at this enable\n")
 }
 
-pub fn no_pin(ok: bool) -> bool {
-    say(ok, b"this part has no Write Control pin\n")
+pub fn no_pin(host: &Host, ok: bool) -> bool {
+    say(host, ok, b"this part has no Write Control pin\n")
 }
 
 // ---- events
@@ -97,33 +98,33 @@ fn spell(levels: bool, tape: &mut [u8]) {
 }
 
 // Codes as letters, or levels as marks, with no line end; they are spelled where they stand.
-pub fn letters(ok: bool, levels: bool, codes: &mut [u8]) -> bool {
+pub fn letters(host: &Host, ok: bool, levels: bool, codes: &mut [u8]) -> bool {
     spell(levels, codes);
-    say(ok, codes)
+    say(host, ok, codes)
 }
 
 // As much of a tape of `sent` events as was kept, as one line.
-pub fn tape(ok: bool, levels: bool, sent: usize, kept: &mut [u8]) -> bool {
+pub fn tape(host: &Host, ok: bool, levels: bool, sent: usize, kept: &mut [u8]) -> bool {
     if sent < kept.len() {
-        let told = letters(ok, levels, &mut kept[0..sent]);
-        return say(told, b"\n");
+        let told = letters(host, ok, levels, &mut kept[0..sent]);
+        return say(host, told, b"\n");
     }
-    let told = letters(ok, levels, kept);
-    say(told, b"\n")
+    let told = letters(host, ok, levels, kept);
+    say(host, told, b"\n")
 }
 
 // ---- bytes and addresses
 
 // `5Ah`
-pub fn byte(ok: bool, b: u8) -> bool {
+pub fn byte(host: &Host, ok: bool, b: u8) -> bool {
     let d = text::hex(b);
-    say(ok, &[d[0], d[1], b'h'])
+    say(host, ok, &[d[0], d[1], b'h'])
 }
 
 // `001Fh`
-pub fn address(ok: bool, a: usize) -> bool {
+pub fn address(host: &Host, ok: bool, a: usize) -> bool {
     let d = text::word(a);
-    say(ok, &[d[0], d[1], d[2], d[3], b'h'])
+    say(host, ok, &[d[0], d[1], d[2], d[3], b'h'])
 }
 
 // The limit is for the proof alone: no memory is so large.
@@ -132,13 +133,13 @@ fn more(n: usize) -> usize {
 }
 
 // `0024h..0027h`, or `0024h` where it is one byte: the places from one on to before another.
-pub fn span(ok: bool, from: usize, end: usize) -> bool {
-    let low = address(ok, from);
+pub fn span(host: &Host, ok: bool, from: usize, end: usize) -> bool {
+    let low = address(host, ok, from);
     if end <= more(from) {
         return low;
     }
-    let to = say(low, b"..");
-    address(to, end - 1)
+    let to = say(host, low, b"..");
+    address(host, to, end - 1)
 }
 
 // How far two memories are looked through: the spans told, and where one is open that is not told yet.
@@ -151,22 +152,26 @@ struct Seen {
 }
 
 // The span that is open ends before a place.
-fn closed(l: Seen, end: usize) -> Seen {
-    let next = if 0 < l.spans { say(l.ok, b", ") } else { l.ok };
+fn closed(host: &Host, l: Seen, end: usize) -> Seen {
+    let next = if 0 < l.spans {
+        say(host, l.ok, b", ")
+    } else {
+        l.ok
+    };
     Seen {
-        ok: span(next, l.from, end),
+        ok: span(host, next, l.from, end),
         spans: more(l.spans),
         open: false,
         from: end,
     }
 }
 
-fn looked(l: Seen, i: usize, differs: bool) -> Seen {
+fn looked(host: &Host, l: Seen, i: usize, differs: bool) -> Seen {
     if l.open {
         if differs {
             return l;
         }
-        return closed(l, i);
+        return closed(host, l, i);
     }
     Seen {
         open: differs,
@@ -179,7 +184,7 @@ pub fn differs(before: &[u8], after: &[u8], i: usize) -> bool {
     parts::byte_at(before, i) != parts::byte_at(after, i)
 }
 
-fn look(ok: bool, before: &[u8], after: &[u8]) -> Seen {
+fn look(host: &Host, ok: bool, before: &[u8], after: &[u8]) -> Seen {
     let mut l = Seen {
         ok,
         spans: 0,
@@ -188,17 +193,17 @@ fn look(ok: bool, before: &[u8], after: &[u8]) -> Seen {
     };
     let mut i = 0;
     while i < after.len() {
-        l = looked(l, i, differs(before, after, i));
+        l = looked(host, l, i, differs(before, after, i));
         i += 1;
     }
-    if l.open { closed(l, i) } else { l }
+    if l.open { closed(host, l, i) } else { l }
 }
 
 // The places at which two memories differ, with no line end: `0000h..0003h, 001Ch..001Fh`, or `none`.
-pub fn spans(ok: bool, before: &[u8], after: &[u8]) -> bool {
-    let l = look(ok, before, after);
+pub fn spans(host: &Host, ok: bool, before: &[u8], after: &[u8]) -> bool {
+    let l = look(host, ok, before, after);
     if l.spans == 0 {
-        return say(l.ok, b"none");
+        return say(host, l.ok, b"none");
     }
     l.ok
 }

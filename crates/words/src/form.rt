@@ -1,5 +1,6 @@
 // The forms of a stored chip: an EPR image, Intel HEX, raw bytes.
 use crate::{NONE, same};
+use host::Host;
 
 // Nothing says which.
 pub const UNSAID: u8 = 0;
@@ -41,20 +42,20 @@ pub fn of_name(name: &[u8]) -> u8 {
 }
 
 // What the name says that word i is; 0 names no word.
-pub fn of_word(i: usize) -> u8 {
+pub fn of_word(host: &Host, i: usize) -> u8 {
     if i == 0 {
         return UNSAID;
     }
     let mut word = io::buffer();
-    let n = os::arg(i, &mut word);
+    let n = host.arg(i, &mut word);
     of_name(&word[..n])
 }
 
 // The form that is saved in the file that a word names: what `--as` says, else the name, else an image.
-pub(crate) fn saved(said: usize, word: usize) -> u8 {
+pub(crate) fn saved(host: &Host, said: usize, word: usize) -> u8 {
     if 0 < said {
         return text::narrow(said);
     }
-    let named = of_word(word);
+    let named = of_word(host, word);
     if named == UNSAID { EPR } else { named }
 }

@@ -1,5 +1,6 @@
 // The words of the command `image`: `info FILE`, and `convert FILE OUT --to 1` or `--to 2`.
 use crate::{IMAGE_WORD, MISSING, OPTION, TO, after, complain, is};
+use host::Host;
 
 // What is asked for; `ok` false: a word was wrong, and that was said. `file` and `out` are the words that name the files; `version` is the one
 // to convert to.
@@ -12,8 +13,8 @@ pub struct Imaging {
     pub version: u8,
 }
 
-fn wrong(i: usize, kind: usize) -> Imaging {
-    complain(help::IMAGE, i, kind);
+fn wrong(host: &Host, i: usize, kind: usize) -> Imaging {
+    complain(host, help::IMAGE, i, kind);
     Imaging {
         ok: false,
         converts: false,
@@ -24,17 +25,17 @@ fn wrong(i: usize, kind: usize) -> Imaging {
 }
 
 // No word is left over behind the last.
-fn ended(asked: Imaging, last: usize, end: usize) -> Imaging {
+fn ended(host: &Host, asked: Imaging, last: usize, end: usize) -> Imaging {
     let next = after(last);
     if next < end {
-        return wrong(next, OPTION);
+        return wrong(host, next, OPTION);
     }
     asked
 }
 
-fn info(next: usize, end: usize) -> Imaging {
+fn info(host: &Host, next: usize, end: usize) -> Imaging {
     if end <= next {
-        return wrong(end, MISSING);
+        return wrong(host, end, MISSING);
     }
     let asked = Imaging {
         ok: true,
@@ -43,22 +44,22 @@ fn info(next: usize, end: usize) -> Imaging {
         out: 0,
         version: 0,
     };
-    ended(asked, next, end)
+    ended(host, asked, next, end)
 }
 
 // 0 where the word is neither version.
-fn version_at(i: usize) -> u8 {
-    if is(i, b"1") {
+fn version_at(host: &Host, i: usize) -> u8 {
+    if is(host, i, b"1") {
         return 1;
     }
-    if is(i, b"2") { 2 } else { 0 }
+    if is(host, i, b"2") { 2 } else { 0 }
 }
 
-fn convert_to(file: usize, option: usize, end: usize) -> Imaging {
+fn convert_to(host: &Host, file: usize, option: usize, end: usize) -> Imaging {
     let last = after(option);
-    let version = version_at(last);
+    let version = version_at(host, last);
     if version == 0 {
-        return wrong(last, TO);
+        return wrong(host, last, TO);
     }
     let asked = Imaging {
         ok: true,
@@ -67,34 +68,34 @@ fn convert_to(file: usize, option: usize, end: usize) -> Imaging {
         out: after(file),
         version,
     };
-    ended(asked, last, end)
+    ended(host, asked, last, end)
 }
 
-fn convert(next: usize, end: usize) -> Imaging {
+fn convert(host: &Host, next: usize, end: usize) -> Imaging {
     let option = after(after(next));
     if end <= after(option) {
-        return wrong(end, MISSING);
+        return wrong(host, end, MISSING);
     }
-    if is(option, b"--to") {
-        return convert_to(next, option, end);
+    if is(host, option, b"--to") {
+        return convert_to(host, next, option, end);
     }
-    wrong(option, TO)
+    wrong(host, option, TO)
 }
 
-fn chosen(next: usize, end: usize) -> Imaging {
-    if is(next, b"info") {
-        return info(after(next), end);
+fn chosen(host: &Host, next: usize, end: usize) -> Imaging {
+    if is(host, next, b"info") {
+        return info(host, after(next), end);
     }
-    if is(next, b"convert") {
-        return convert(after(next), end);
+    if is(host, next, b"convert") {
+        return convert(host, after(next), end);
     }
-    wrong(next, IMAGE_WORD)
+    wrong(host, next, IMAGE_WORD)
 }
 
 // The words go from `next` to before `end`.
-pub fn asked(next: usize, end: usize) -> Imaging {
+pub fn asked(host: &Host, next: usize, end: usize) -> Imaging {
     if next < end {
-        return chosen(next, end);
+        return chosen(host, next, end);
     }
-    wrong(end, MISSING)
+    wrong(host, end, MISSING)
 }

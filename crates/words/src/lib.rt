@@ -1,6 +1,7 @@
 // The words of a command line, made into a job. What is wrong with a word is said on standard error at once. And the words that more than
 // one command answers with.
 #![tactic(auto)]
+
 pub mod answer;
 pub mod form;
 pub mod imaging;
@@ -15,7 +16,7 @@ use help::options::{
     PAGE, PIN, SAVE, SCL, SDA, VCD, WORN,
 };
 use help::{BENCH, CAPTURE, HEX, POWER, READ, WRITE, options};
-use libc::{STDERR_FILENO, STDIN_FILENO};
+use host::{Host, STDERR, STDIN};
 use parts::Refusal;
 
 // What a command asks for. `ok` false: a word was wrong, and that was said.
@@ -121,124 +122,142 @@ const NO_EVENT: usize = 268435456;
 
 // ---- complaints
 
-fn tell(text: &[u8]) {
-    io::write_all(STDERR_FILENO, text);
+fn tell(host: &Host, text: &[u8]) {
+    host.write_all(STDERR, text);
 }
 
-fn reason(kind: usize) {
+fn reason(host: &Host, kind: usize) {
     match kind {
-        PART => tell(b"is no part: a digit, or a name such as M24C64-D\n"),
-        PIN => tell(b"is none of high, low, floating, for --pin\n"),
-        SCL => tell(b"is no bit of a byte, 0 to 7\n"),
-        SDA => tell(b"is no bit of a byte, 0 to 7\n"),
-        FILL => tell(b"is no byte: two hexadecimal digits, for --fill\n"),
-        SAVE => tell(b"is not --save, and hex image wants --save FILE\n"),
-        FORM => tell(b"is none of epr, hex, raw, for --as\n"),
-        OPTION => tell(b"is one too many\n"),
-        BYTES => tell(b"is no row of bytes: two hexadecimal digits a byte, or -\n"),
-        FILES => tell(b"is no file: capture wants one, or more, before its options\n"),
-        LONG => tell(b"is too long\n"),
-        MISSING => tell(b"is missing\n"),
-        HEX_WORD => tell(b"is none of check, image, text, for hex\n"),
+        PART => tell(host, b"is no part: a digit, or a name such as M24C64-D\n"),
+        PIN => tell(host, b"is none of high, low, floating, for --pin\n"),
+        SCL => tell(host, b"is no bit of a byte, 0 to 7\n"),
+        SDA => tell(host, b"is no bit of a byte, 0 to 7\n"),
+        FILL => tell(host, b"is no byte: two hexadecimal digits, for --fill\n"),
+        SAVE => tell(host, b"is not --save, and hex image wants --save FILE\n"),
+        FORM => tell(host, b"is none of epr, hex, raw, for --as\n"),
+        OPTION => tell(host, b"is one too many\n"),
+        BYTES => tell(
+            host,
+            b"is no row of bytes: two hexadecimal digits a byte, or -\n",
+        ),
+        FILES => tell(
+            host,
+            b"is no file: capture wants one, or more, before its options\n",
+        ),
+        LONG => tell(host, b"is too long\n"),
+        MISSING => tell(host, b"is missing\n"),
+        HEX_WORD => tell(host, b"is none of check, image, text, for hex\n"),
         SOURCES => tell(
+            host,
             b"is missing: wear wants a TRACE, --list FILE, --counts FILE or --image FILE\n",
         ),
-        IMAGE_WORD => tell(b"is none of info, convert, for image\n"),
-        TO => tell(b"is not as image convert wants it: FILE OUT --to 1, or --to 2\n"),
-        _ => tell(b"is no number, decimal or 0x\n"),
+        IMAGE_WORD => tell(host, b"is none of info, convert, for image\n"),
+        TO => tell(
+            host,
+            b"is not as image convert wants it: FILE OUT --to 1, or --to 2\n",
+        ),
+        _ => tell(host, b"is no number, decimal or 0x\n"),
     }
 }
 
-fn quote(word: &[u8]) {
-    tell(b" '");
-    tell(word);
-    tell(b"' ");
+fn quote(host: &Host, word: &[u8]) {
+    tell(host, b" '");
+    tell(host, word);
+    tell(host, b"' ");
 }
 
 // An option that is none of the command's; a word that is none is one too many, and so is an option that is said again.
-fn reason_of(command: u8, word: &[u8], kind: usize) {
+fn reason_of(host: &Host, command: u8, word: &[u8], kind: usize) {
     if (kind == OPTION) & dashed(word) {
         if help::option_of(command, word) == options::NO_OPTION {
-            return help::unknown_option(command, word);
+            return help::unknown_option(host, command, word);
         }
     }
     if (kind == MISSING) & (0 < word.len()) {
-        return tell(b"stands where a word is missing\n");
+        return tell(host, b"stands where a word is missing\n");
     }
-    reason(kind);
+    reason(host, kind);
 }
 
-fn tell_wrong(command: u8, i: usize, kind: usize) {
+fn tell_wrong(host: &Host, command: u8, i: usize, kind: usize) {
     let mut word = io::buffer();
-    let n = os::arg(i, &mut word);
-    quote(&word[..n]);
-    reason_of(command, &word[..n], kind);
+    let n = host.arg(i, &mut word);
+    quote(host, &word[..n]);
+    reason_of(host, command, &word[..n], kind);
 }
 
-fn tell_missing(kind: usize) {
+fn tell_missing(host: &Host, kind: usize) {
     if kind == SOURCES {
-        tell(b" ");
-        return reason(kind);
+        tell(host, b" ");
+        return reason(host, kind);
     }
-    tell(b" is missing\n");
+    tell(host, b" is missing\n");
 }
 
 // A word is named by its number too: it may be missing, or too long to show. The second line says how the command is used.
-fn complain(command: u8, i: usize, kind: usize) {
-    tell(b"sapwoodle: word ");
-    io::print_decimal(STDERR_FILENO, i as u64);
-    if i < os::arg_count() {
-        tell_wrong(command, i, kind);
+fn complain(host: &Host, command: u8, i: usize, kind: usize) {
+    tell(host, b"sapwoodle: word ");
+    host.print_decimal(STDERR, i as u64);
+    if i < host.arg_count() {
+        tell_wrong(host, command, i, kind);
     } else {
-        tell_missing(kind);
+        tell_missing(host, kind);
     }
-    help::usage(command);
-    status::trouble();
+    help::usage(host, command);
+    status::trouble(host);
 }
 
 // What is wrong, in a line behind the program's name.
-pub fn trouble(what: &[u8]) {
-    tell(b"sapwoodle: ");
-    tell(what);
-    status::trouble();
+pub fn trouble(host: &Host, what: &[u8]) {
+    tell(host, b"sapwoodle: ");
+    tell(host, what);
+    status::trouble(host);
 }
 
 // What the system did not do, with its own reason: to be called before anything else is asked of it.
-pub fn failed(what: &[u8]) {
-    tell(b"sapwoodle: ");
-    os::fail(what);
-    status::trouble();
+pub fn failed(host: &Host, what: &[u8]) {
+    tell(host, b"sapwoodle: ");
+    host.fail(what);
+    status::trouble(host);
+}
+
+// Standard output did not take all. Where nobody reads it any more, nobody is told.
+pub fn unsaid(host: &Host) {
+    if host.is_unread() {
+        return status::trouble(host);
+    }
+    failed(host, b"standard output");
 }
 
 // The word that is looked at is wrong.
-fn bad(read: Read, kind: usize) -> Read {
-    complain(read.command, read.next, kind);
+fn bad(host: &Host, read: Read, kind: usize) -> Read {
+    complain(host, read.command, read.next, kind);
     Read { ok: false, ..read }
 }
 
 // ---- answers
 
 // What a refusal that ends a begun driver means at a bench, and what to look at first.
-pub fn say_advice(r: Refusal) -> bool {
+pub fn say_advice(host: &Host, r: Refusal) -> bool {
     let n = parts::number(r);
     if n == parts::number(Refusal::NoSelect(0)) {
-        return text::say(b"look at the enable straps first; or the chip is busy, or there is none");
+        return host.say(b"look at the enable straps first; or the chip is busy, or there is none");
     }
     if n == parts::number(Refusal::NoData(0)) {
-        return text::say(b"Write Control is high, or the identification page is locked");
+        return host.say(b"Write Control is high, or the identification page is locked");
     }
     if n == parts::number(Refusal::PollsUsed) {
-        return text::say(b"the chip stayed busy longer than the budget of polls");
+        return host.say(b"the chip stayed busy longer than the budget of polls");
     }
-    text::say(b"the chip answered its select, so look at the line, not at the board")
+    host.say(b"the chip answered its select, so look at the line, not at the board")
 }
 
 // The name of a part of the part table.
-pub fn say_name(part: u8) -> bool {
+pub fn say_name(host: &Host, part: u8) -> bool {
     let name = parts::name_of(part);
     let bytes = name.bytes;
     let n = name.length;
-    text::say(&bytes[..n])
+    host.say(&bytes[..n])
 }
 
 // ---- letters and numbers
@@ -396,32 +415,32 @@ fn parsed(word: &[u8], kind: usize) -> Number {
     }
 }
 
-fn parsed_at(i: usize, kind: usize) -> Number {
+fn parsed_at(host: &Host, i: usize, kind: usize) -> Number {
     let mut word = io::buffer();
-    let n = os::arg(i, &mut word);
+    let n = host.arg(i, &mut word);
     parsed(&word[..n], kind)
 }
 
 // The option of a command that word i names.
-fn option_at(command: u8, i: usize) -> usize {
+fn option_at(host: &Host, command: u8, i: usize) -> usize {
     let mut word = io::buffer();
-    let n = os::arg(i, &mut word);
+    let n = host.arg(i, &mut word);
     help::option_of(command, &word[..n])
 }
 
 // Whether word i is this one.
-pub fn is(i: usize, this: &[u8]) -> bool {
+pub fn is(host: &Host, i: usize, this: &[u8]) -> bool {
     let mut word = io::buffer();
-    let n = os::arg(i, &mut word);
+    let n = host.arg(i, &mut word);
     same(&word[..n], this)
 }
 
 // Whether a word stands for standard input; 0, which names no word, does not.
-pub fn is_input(i: usize) -> bool {
+pub fn is_input(host: &Host, i: usize) -> bool {
     if i == 0 {
         return false;
     }
-    is(i, b"-")
+    is(host, i, b"-")
 }
 
 // ---- reading the words
@@ -452,75 +471,75 @@ fn passed(read: Read) -> Read {
 }
 
 // The next word, as a number of the kind.
-fn take(read: Read, kind: usize) -> Read {
+fn take(host: &Host, read: Read, kind: usize) -> Read {
     if !read.ok {
         return read;
     }
-    let value = parsed_at(read.next, kind);
+    let value = parsed_at(host, read.next, kind);
     if value.ok {
         return set(passed(read), kind, value.n);
     }
-    bad(read, kind)
+    bad(host, read, kind)
 }
 
 // The next word names a file.
-fn take_file(read: Read, kind: usize) -> Read {
+fn take_file(host: &Host, read: Read, kind: usize) -> Read {
     let word = read.next;
     if word < read.end {
         return set(passed(read), kind, word);
     }
-    bad(read, MISSING)
+    bad(host, read, MISSING)
 }
 
 // `read` stands behind the option's name.
-fn take_value(read: Read, kind: usize) -> Read {
+fn take_value(host: &Host, read: Read, kind: usize) -> Read {
     if kind < FROM_IMAGE {
-        return take(read, kind);
+        return take(host, read, kind);
     }
     if kind < IDENT {
-        return take_file(read, kind);
+        return take_file(host, read, kind);
     }
     set(read, kind, 1)
 }
 
-fn take_option(read: Read) -> Read {
+fn take_option(host: &Host, read: Read) -> Read {
     if !read.ok {
         return read;
     }
     if read.end <= read.next {
         return read;
     }
-    let kind = option_at(read.command, read.next);
+    let kind = option_at(host, read.command, read.next);
     if kind < options::END {
-        return take_value(passed(read), kind);
+        return take_value(host, passed(read), kind);
     }
-    bad(read, OPTION)
+    bad(host, read, OPTION)
 }
 
-fn take_some(read: Read) -> Read {
-    let one = take_option(read);
-    let two = take_option(one);
-    let three = take_option(two);
-    take_option(three)
+fn take_some(host: &Host, read: Read) -> Read {
+    let one = take_option(host, read);
+    let two = take_option(host, one);
+    let three = take_option(host, two);
+    take_option(host, three)
 }
 
 // No word is left over.
-fn ended(read: Read) -> Read {
+fn ended(host: &Host, read: Read) -> Read {
     if read.ok {
         if read.next < read.end {
-            return bad(read, OPTION);
+            return bad(host, read, OPTION);
         }
     }
     read
 }
 
 // There are sixteen options of a write, twelve of a read: more words than that repeat one.
-fn take_options(read: Read) -> Read {
-    let twelve = take_some(take_some(take_some(read)));
+fn take_options(host: &Host, read: Read) -> Read {
+    let twelve = take_some(host, take_some(host, take_some(host, read)));
     if twelve.command == WRITE {
-        return ended(take_some(twelve));
+        return ended(host, take_some(host, twelve));
     }
-    ended(twelve)
+    ended(host, twelve)
 }
 
 // No bit, no byte and no event is named.
@@ -542,22 +561,22 @@ fn start(command: u8, next: usize, end: usize) -> Read {
 }
 
 // The bytes of a write are taken later, where there is a buffer for them.
-fn take_last(read: Read) -> Read {
+fn take_last(host: &Host, read: Read) -> Read {
     if read.command == WRITE {
         return put(passed(read), BYTES, read.next);
     }
-    take(read, LENGTH)
+    take(host, read, LENGTH)
 }
 
 // The words that are always there, and options.
-fn take_all(read: Read) -> Read {
-    let three = take(take(take(read, PART), ENABLE), ADDRESS);
-    take_options(take_last(three))
+fn take_all(host: &Host, read: Read) -> Read {
+    let three = take(host, take(host, take(host, read, PART), ENABLE), ADDRESS);
+    take_options(host, take_last(host, three))
 }
 
 // ---- jobs: the words go from `next` to before `end`
 
-fn job_of(read: Read) -> Job {
+fn job_of(host: &Host, read: Read) -> Job {
     let said = read.said;
     Job {
         ok: read.ok,
@@ -574,7 +593,7 @@ fn job_of(read: Read) -> Job {
         events: said[EVENTS] == 1,
         image: said[FROM_IMAGE],
         save: said[SAVE],
-        form: form::saved(said[FORM], said[SAVE]),
+        form: form::saved(host, said[FORM], said[SAVE]),
         wear: said[WORN] == 1,
         bytes: said[BYTES],
         drawn: said[DRAWN],
@@ -594,25 +613,27 @@ fn job_of(read: Read) -> Job {
     }
 }
 
-fn mistaken(job: Job, what: &[u8]) -> Job {
+fn mistaken(host: &Host, job: Job, what: &[u8]) -> Job {
     if job.ok {
-        trouble(what);
+        trouble(host, what);
     }
     Job { ok: false, ..job }
 }
 
 // Standard input is read once: for the bytes of a write, for its image, or for the page that is lent.
-fn once(job: Job) -> Job {
-    let bytes = is_input(job.bytes);
-    let image = is_input(job.image);
+fn once(host: &Host, job: Job) -> Job {
+    let bytes = is_input(host, job.bytes);
+    let image = is_input(host, job.image);
     if bytes & image {
         return mistaken(
+            host,
             job,
             b"only one of HEXBYTES and --image can be standard input\n",
         );
     }
-    if is_input(job.page) & (bytes | image) {
+    if is_input(host, job.page) & (bytes | image) {
         return mistaken(
+            host,
             job,
             b"only one of HEXBYTES, --image and --page can be standard input\n",
         );
@@ -621,13 +642,14 @@ fn once(job: Job) -> Job {
 }
 
 // What is lent for a cut is said once, and of a cut alone.
-fn lent(job: Job) -> Job {
+fn lent(host: &Host, job: Job) -> Job {
     let paged = 0 < job.page;
     if paged & job.fills {
-        return mistaken(job, b"--page and --fill do not go together\n");
+        return mistaken(host, job, b"--page and --fill do not go together\n");
     }
     if !job.cuts & (paged | job.fills | job.lock) {
         return mistaken(
+            host,
             job,
             b"--page, --fill and --lock are for a write with --cut\n",
         );
@@ -636,15 +658,16 @@ fn lent(job: Job) -> Job {
 }
 
 // Counts are kept in a file alone, and in an EPR image alone.
-fn kept(job: Job) -> Job {
+fn kept(host: &Host, job: Job) -> Job {
     if (job.form != form::EPR) & (job.save == 0) {
-        return mistaken(job, b"--as goes with --save\n");
+        return mistaken(host, job, b"--as goes with --save\n");
     }
     if job.wear & (job.save == 0) {
-        return mistaken(job, b"--wear goes with --save\n");
+        return mistaken(host, job, b"--wear goes with --save\n");
     }
     if job.wear & (job.form != form::EPR) {
         return mistaken(
+            host,
             job,
             b"--wear keeps the counts in an EPR image: HEX and raw bytes do not hold them\n",
         );
@@ -653,28 +676,37 @@ fn kept(job: Job) -> Job {
 }
 
 // A word that is always there is missing.
-fn missing(command: u8, end: usize) -> Job {
-    job_of(bad(start(command, end, end), MISSING))
+fn missing(host: &Host, command: u8, end: usize) -> Job {
+    job_of(host, bad(host, start(command, end, end), MISSING))
 }
 
 // `PART ENABLE ADDRESS LENGTH` of a read, `PART ENABLE ADDRESS HEXBYTES` of a write, and options.
-pub fn asked(reads: bool, next: usize, end: usize) -> Job {
+pub fn asked(host: &Host, reads: bool, next: usize, end: usize) -> Job {
     let command = if reads { READ } else { WRITE };
     let last = after(after(after(next)));
     if end <= last {
-        return missing(command, end);
+        return missing(host, command, end);
     }
-    kept(lent(once(job_of(take_all(start(command, next, end))))))
+    kept(
+        host,
+        lent(
+            host,
+            once(
+                host,
+                job_of(host, take_all(host, start(command, next, end))),
+            ),
+        ),
+    )
 }
 
 // `PART ADDRESS LENGTH`, and options: judged as a write of so many bytes.
-pub fn power_asked(next: usize, end: usize) -> Job {
+pub fn power_asked(host: &Host, next: usize, end: usize) -> Job {
     let last = after(after(next));
     if end <= last {
-        return missing(POWER, end);
+        return missing(host, POWER, end);
     }
-    let two = take(take(start(POWER, next, end), PART), ADDRESS);
-    job_of(take_options(take_last(two)))
+    let two = take(host, take(host, start(POWER, next, end), PART), ADDRESS);
+    job_of(host, take_options(host, take_last(host, two)))
 }
 
 // ---- the files of a capture
@@ -686,17 +718,17 @@ fn dashed(word: &[u8]) -> bool {
     false
 }
 
-fn dashed_at(i: usize) -> bool {
+fn dashed_at(host: &Host, i: usize) -> bool {
     let mut word = io::buffer();
-    let n = os::arg(i, &mut word);
+    let n = host.arg(i, &mut word);
     dashed(&word[..n])
 }
 
 // The first word from one on that begins with `--`, or the end.
-fn files_end(next: usize, end: usize) -> usize {
+fn files_end(host: &Host, next: usize, end: usize) -> usize {
     let mut i = next;
     while i < end {
-        if dashed_at(i) {
+        if dashed_at(host, i) {
             return i;
         }
         i += 1;
@@ -704,30 +736,30 @@ fn files_end(next: usize, end: usize) -> usize {
     i
 }
 
-fn counted(n: usize, i: usize) -> usize {
-    if is_input(i) { after(n) } else { n }
+fn counted(host: &Host, n: usize, i: usize) -> usize {
+    if is_input(host, i) { after(n) } else { n }
 }
 
 // How many words stand for standard input.
-fn inputs(next: usize, end: usize) -> usize {
+fn inputs(host: &Host, next: usize, end: usize) -> usize {
     let mut n = 0;
     let mut i = next;
     while i < end {
-        n = counted(n, i);
+        n = counted(host, n, i);
         i += 1;
     }
     n
 }
 
 // The files, which go up to the first option.
-fn take_files(read: Read) -> Read {
+fn take_files(host: &Host, read: Read) -> Read {
     if !read.ok {
         return read;
     }
     let next = read.next;
-    let behind = files_end(next, read.end);
+    let behind = files_end(host, next, read.end);
     if behind <= next {
-        return bad(read, FILES);
+        return bad(host, read, FILES);
     }
     put(
         put(
@@ -751,123 +783,139 @@ fn alone(scl: u8, sda: u8) -> bool {
 }
 
 // Two bits that differ, or none.
-fn paired(job: Job) -> Job {
+fn paired(host: &Host, job: Job) -> Job {
     if alone(job.scl, job.sda) {
-        return mistaken(job, b"--scl and --sda go together\n");
+        return mistaken(host, job, b"--scl and --sda go together\n");
     }
     if job.picks {
         if job.scl == job.sda {
-            return mistaken(job, b"--scl and --sda are the same bit\n");
+            return mistaken(host, job, b"--scl and --sda are the same bit\n");
         }
     }
     job
 }
 
 // Standard input is read once: for one of the files, or for the image.
-fn once_of_all(job: Job) -> Job {
-    let files = inputs(job.files, job.behind);
+fn once_of_all(host: &Host, job: Job) -> Job {
+    let files = inputs(host, job.files, job.behind);
     if 1 < files {
-        return mistaken(job, b"only one FILE can be standard input\n");
+        return mistaken(host, job, b"only one FILE can be standard input\n");
     }
     if files == 1 {
-        if is_input(job.image) {
-            return mistaken(job, b"only one of FILE and --image can be standard input\n");
+        if is_input(host, job.image) {
+            return mistaken(
+                host,
+                job,
+                b"only one of FILE and --image can be standard input\n",
+            );
         }
     }
     job
 }
 
 // `PART ENABLE FILE..` of a capture, and options.
-pub fn capture_asked(next: usize, end: usize) -> Job {
+pub fn capture_asked(host: &Host, next: usize, end: usize) -> Job {
     let first = after(after(next));
     if end <= first {
-        return missing(CAPTURE, end);
+        return missing(host, CAPTURE, end);
     }
-    let two = take(take(start(CAPTURE, next, end), PART), ENABLE);
-    kept(once_of_all(paired(job_of(take_options(take_files(two))))))
+    let two = take(host, take(host, start(CAPTURE, next, end), PART), ENABLE);
+    kept(
+        host,
+        once_of_all(
+            host,
+            paired(
+                host,
+                job_of(host, take_options(host, take_files(host, two))),
+            ),
+        ),
+    )
 }
 
 // The enable of `PART [--enable N]`, behind the part.
-fn take_enable(read: Read) -> Read {
+fn take_enable(host: &Host, read: Read) -> Read {
     if read.end <= read.next {
         return read;
     }
-    if option_at(read.command, read.next) == ENABLE {
-        return take(passed(read), ENABLE);
+    if option_at(host, read.command, read.next) == ENABLE {
+        return take(host, passed(read), ENABLE);
     }
     if read.ok {
-        return bad(read, OPTION);
+        return bad(host, read, OPTION);
     }
     read
 }
 
-pub fn bench_asked(next: usize, end: usize) -> Job {
-    job_of(take_enable(take(start(BENCH, next, end), PART)))
+pub fn bench_asked(host: &Host, next: usize, end: usize) -> Job {
+    job_of(
+        host,
+        take_enable(host, take(host, start(BENCH, next, end), PART)),
+    )
 }
 
 // The file that is read; what was wrong before it is said already.
-fn take_read(read: Read) -> Read {
+fn take_read(host: &Host, read: Read) -> Read {
     if read.ok {
-        return take_file(read, FROM_IMAGE);
+        return take_file(host, read, FROM_IMAGE);
     }
     read
 }
 
 // `--save FILE`, and perhaps a form.
-fn take_saved(read: Read) -> Read {
+fn take_saved(host: &Host, read: Read) -> Read {
     if !read.ok {
         return read;
     }
     if read.next < read.end {
-        if option_at(read.command, read.next) == SAVE {
-            return take_option(take_file(passed(read), SAVE));
+        if option_at(host, read.command, read.next) == SAVE {
+            return take_option(host, take_file(host, passed(read), SAVE));
         }
     }
-    bad(read, SAVE)
+    bad(host, read, SAVE)
 }
 
 // `PART FILE` of hex check, `PART FILE --save FILE` of hex image.
-pub fn hex_asked(saves: bool, next: usize, end: usize) -> Job {
+pub fn hex_asked(host: &Host, saves: bool, next: usize, end: usize) -> Job {
     if end <= next {
-        return missing(HEX, end);
+        return missing(host, HEX, end);
     }
-    let read = take_read(take(start(HEX, next, end), PART));
+    let read = take_read(host, take(host, start(HEX, next, end), PART));
     if saves {
-        return job_of(ended(take_saved(read)));
+        return job_of(host, ended(host, take_saved(host, read)));
     }
-    job_of(ended(read))
+    job_of(host, ended(host, read))
 }
 
 // `IMAGE` of hex text.
-pub fn text_asked(next: usize, end: usize) -> Job {
-    job_of(ended(take_read(start(HEX, next, end))))
+pub fn text_asked(host: &Host, next: usize, end: usize) -> Job {
+    job_of(host, ended(host, take_read(host, start(HEX, next, end))))
 }
 
 // The word behind `hex` is missing, or none that it knows.
-pub fn complain_hex(next: usize, end: usize) {
+pub fn complain_hex(host: &Host, next: usize, end: usize) {
     if next < end {
-        return complain(HEX, next, HEX_WORD);
+        return complain(host, HEX, next, HEX_WORD);
     }
-    complain(HEX, end, MISSING);
+    complain(host, HEX, end, MISSING);
 }
 
 // ---- the bytes of a write
 
 // All that a file or the standard input has, or as much as there is room for. One more read tells the end from a failure.
-pub fn read_all(fd: i32, to: &mut [u8]) -> Number {
-    let n = io::read_full(fd, to);
+pub fn read_all(host: &Host, fd: i32, to: &mut [u8]) -> Number {
+    let n = host.read_full(fd, to);
     if n < to.len() {
         let mut more = [0u8; 1];
-        let got = libc::read(fd, &mut more);
+        let got = host.read(fd, &mut more);
         return Number { ok: got == 0, n };
     }
     Number { ok: true, n }
 }
 
-fn input(to: &mut [u8]) -> Number {
-    let got = read_all(STDIN_FILENO, to);
+fn input(host: &Host, to: &mut [u8]) -> Number {
+    let got = read_all(host, STDIN, to);
     if !got.ok {
-        failed(b"standard input");
+        failed(host, b"standard input");
     }
     got
 }
@@ -899,25 +947,25 @@ fn unhex(word: &[u8], to: &mut [u8]) -> Number {
     Number { ok, n: k }
 }
 
-fn bytes(word: &[u8], to: &mut [u8], i: usize) -> Number {
+fn bytes(host: &Host, word: &[u8], to: &mut [u8], i: usize) -> Number {
     if same(word, b"-") {
-        return input(to);
+        return input(host, to);
     }
     let made = unhex(word, to);
     if !made.ok {
-        complain(WRITE, i, BYTES);
+        complain(host, WRITE, i, BYTES);
     }
     made
 }
 
 // The bytes of word i, and how many. A word that the buffer cannot hold has more bytes than any array.
-pub fn data(to: &mut [u8], i: usize) -> Number {
+pub fn data(host: &Host, to: &mut [u8], i: usize) -> Number {
     let mut word = io::large_buffer();
-    let n = os::arg(i, &mut word);
-    let error = os::errno();
+    let n = host.arg(i, &mut word);
+    let error = host.errno();
     if error != 0 {
-        complain(WRITE, i, LONG);
+        complain(host, WRITE, i, LONG);
         return Number { ok: false, n: 0 };
     }
-    bytes(&word[..n], to, i)
+    bytes(host, &word[..n], to, i)
 }

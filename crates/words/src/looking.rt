@@ -4,6 +4,7 @@ use crate::{
     parsed_at, trouble,
 };
 use help::{COMPARE, DUMP, INFO, options};
+use host::Host;
 
 // What is asked for; `ok` false: a word was wrong, and that was said. `named`: whether there is a part. `one` and `two` are the words that name
 // files, or 0.
@@ -43,16 +44,16 @@ fn nothing_yet(command: u8, next: usize, end: usize) -> Looking {
     }
 }
 
-fn wrong(l: Looking, i: usize, kind: usize) -> Looking {
-    complain(l.command, i, kind);
+fn wrong(host: &Host, l: Looking, i: usize, kind: usize) -> Looking {
+    complain(host, l.command, i, kind);
     Looking { ok: false, ..l }
 }
 
 // ---- the words that are always there
 
-fn file(l: Looking, behind: usize) -> Looking {
+fn file(host: &Host, l: Looking, behind: usize) -> Looking {
     if behind <= l.next {
-        return wrong(l, behind, MISSING);
+        return wrong(host, l, behind, MISSING);
     }
     Looking {
         one: l.next,
@@ -61,12 +62,12 @@ fn file(l: Looking, behind: usize) -> Looking {
     }
 }
 
-fn second(l: Looking, behind: usize) -> Looking {
+fn second(host: &Host, l: Looking, behind: usize) -> Looking {
     if !l.ok {
         return l;
     }
     if behind <= l.next {
-        return wrong(l, behind, MISSING);
+        return wrong(host, l, behind, MISSING);
     }
     Looking {
         two: l.next,
@@ -76,34 +77,34 @@ fn second(l: Looking, behind: usize) -> Looking {
 }
 
 // No word is left over before the options, and standard input is read once.
-fn filed(l: Looking, behind: usize) -> Looking {
+fn filed(host: &Host, l: Looking, behind: usize) -> Looking {
     if !l.ok {
         return l;
     }
     if l.next < behind {
-        return wrong(l, l.next, OPTION);
+        return wrong(host, l, l.next, OPTION);
     }
-    if 1 < inputs(l.one, behind) {
-        trouble(b"only one FILE can be standard input\n");
+    if 1 < inputs(host, l.one, behind) {
+        trouble(host, b"only one FILE can be standard input\n");
         return Looking { ok: false, ..l };
     }
     l
 }
 
-fn files(l: Looking, behind: usize) -> Looking {
+fn files(host: &Host, l: Looking, behind: usize) -> Looking {
     if !l.ok {
         return l;
     }
-    let one = file(l, behind);
+    let one = file(host, l, behind);
     if l.command == COMPARE {
-        return filed(second(one, behind), behind);
+        return filed(host, second(host, one, behind), behind);
     }
-    filed(one, behind)
+    filed(host, one, behind)
 }
 
 // The part, where there is a word more than there are files.
-fn parted(l: Looking) -> Looking {
-    let value = parsed_at(l.next, PART);
+fn parted(host: &Host, l: Looking) -> Looking {
+    let value = parsed_at(host, l.next, PART);
     if value.ok {
         return Looking {
             named: true,
@@ -112,14 +113,14 @@ fn parted(l: Looking) -> Looking {
             ..l
         };
     }
-    wrong(l, l.next, PART)
+    wrong(host, l, l.next, PART)
 }
 
 // ---- the options of a dump
 
-fn numbered(l: Looking, value: Number, from: bool) -> Looking {
+fn numbered(host: &Host, l: Looking, value: Number, from: bool) -> Looking {
     if !value.ok {
-        return wrong(l, l.next, ADDRESS);
+        return wrong(host, l, l.next, ADDRESS);
     }
     let next = after(l.next);
     if from {
@@ -137,21 +138,21 @@ fn numbered(l: Looking, value: Number, from: bool) -> Looking {
     }
 }
 
-fn number(l: Looking, from: bool) -> Looking {
+fn number(host: &Host, l: Looking, from: bool) -> Looking {
     if l.end <= l.next {
-        return wrong(l, l.end, MISSING);
+        return wrong(host, l, l.end, MISSING);
     }
-    numbered(l, parsed_at(l.next, ADDRESS), from)
+    numbered(host, l, parsed_at(host, l.next, ADDRESS), from)
 }
 
-fn option(l: Looking) -> Looking {
+fn option(host: &Host, l: Looking) -> Looking {
     if !l.ok {
         return l;
     }
     if l.end <= l.next {
         return l;
     }
-    let kind = option_at(l.command, l.next);
+    let kind = option_at(host, l.command, l.next);
     let behind = Looking {
         next: after(l.next),
         ..l
@@ -165,61 +166,64 @@ fn option(l: Looking) -> Looking {
             all: true,
             ..behind
         },
-        options::FROM => number(behind, true),
-        options::LENGTH => number(behind, false),
-        _ => wrong(l, l.next, OPTION),
+        options::FROM => number(host, behind, true),
+        options::LENGTH => number(host, behind, false),
+        _ => wrong(host, l, l.next, OPTION),
     }
 }
 
 // No word is left over.
-fn ended(l: Looking) -> Looking {
+fn ended(host: &Host, l: Looking) -> Looking {
     if l.ok {
         if l.next < l.end {
-            return wrong(l, l.next, OPTION);
+            return wrong(host, l, l.next, OPTION);
         }
     }
     l
 }
 
 // Of four options one is said again where there are more.
-fn optioned(l: Looking) -> Looking {
-    ended(option(option(option(option(l)))))
+fn optioned(host: &Host, l: Looking) -> Looking {
+    ended(
+        host,
+        option(host, option(host, option(host, option(host, l)))),
+    )
 }
 
 // ---- the commands: the words go from `next` to before `end`
 
-fn asked(l: Looking, files_wanted: usize) -> Looking {
-    let behind = files_end(l.next, l.end);
+fn asked(host: &Host, l: Looking, files_wanted: usize) -> Looking {
+    let behind = files_end(host, l.next, l.end);
     if behind <= std::num::wrapping_add_usize(l.next, files_wanted) {
-        return optioned(files(l, behind));
+        return optioned(host, files(host, l, behind));
     }
-    optioned(files(parted(l), behind))
+    optioned(host, files(host, parted(host, l), behind))
 }
 
 // `PART`, `FILE` or `PART FILE`: a word that names a part does not name a file.
-pub fn info_asked(next: usize, end: usize) -> Looking {
+pub fn info_asked(host: &Host, next: usize, end: usize) -> Looking {
     let l = nothing_yet(INFO, next, end);
-    let value = parsed_at(next, PART);
+    let value = parsed_at(host, next, PART);
     if value.ok & (end <= after(next)) {
-        return parted(l);
+        return parted(host, l);
     }
-    asked(l, 1)
+    asked(host, l, 1)
 }
 
 // `[PART] FILE`, and options.
-pub fn dump_asked(next: usize, end: usize) -> Looking {
-    asked(nothing_yet(DUMP, next, end), 1)
+pub fn dump_asked(host: &Host, next: usize, end: usize) -> Looking {
+    asked(host, nothing_yet(DUMP, next, end), 1)
 }
 
 // `[PART] FILE FILE`
-pub fn compare_asked(next: usize, end: usize) -> Looking {
-    asked(nothing_yet(COMPARE, next, end), 2)
+pub fn compare_asked(host: &Host, next: usize, end: usize) -> Looking {
+    asked(host, nothing_yet(COMPARE, next, end), 2)
 }
 
 // No word stands behind the command.
-pub fn nothing_asked(command: u8, next: usize, end: usize) -> bool {
+pub fn nothing_asked(host: &Host, command: u8, next: usize, end: usize) -> bool {
     if next < end {
-        complain(command, next, OPTION);
+        complain(host, command, next, OPTION);
         return false;
     }
     true

@@ -2,6 +2,7 @@
 // written, and says so of its own.
 use crate::answer;
 use crate::answer::{address, bytes, count, number, say};
+use host::Host;
 use parts::{Refusal, Verdict};
 
 // Where the bytes of a request lie: the bytes of a page, which of the two memories, and the first place.
@@ -43,74 +44,76 @@ fn last_of(page: usize, size: usize) -> usize {
 }
 
 // A page's number, and its addresses.
-pub fn page(ok: bool, g: Ground, p: usize) -> bool {
+pub fn page(host: &Host, ok: bool, g: Ground, p: usize) -> bool {
     if g.ident {
-        return say(ok, b"identification page");
+        return say(host, ok, b"identification page");
     }
-    let named = say(ok, b"page ");
-    let told = number(named, p);
-    let from = say(told, b" (");
-    let low = address(from, first_of(p, g.page));
-    let to = say(low, b" to ");
-    let high = address(to, last_of(p, g.page));
-    say(high, b")")
+    let named = say(host, ok, b"page ");
+    let told = number(host, named, p);
+    let from = say(host, told, b" (");
+    let low = address(host, from, first_of(p, g.page));
+    let to = say(host, low, b" to ");
+    let high = address(host, to, last_of(p, g.page));
+    say(host, high, b")")
 }
 
-fn memory(ok: bool, g: Ground) -> bool {
+fn memory(host: &Host, ok: bool, g: Ground) -> bool {
     if g.ident {
-        return say(ok, b" (location ");
+        return say(host, ok, b" (location ");
     }
-    say(ok, b" (address ")
+    say(host, ok, b" (address ")
 }
 
 // And what to look at first.
-fn advised(ok: bool, r: Refusal) -> bool {
-    let named = say(ok, b": ");
+fn advised(host: &Host, ok: bool, r: Refusal) -> bool {
+    let named = say(host, ok, b": ");
     if !named {
         return false;
     }
-    let told = answer::written(crate::say_advice(r));
-    say(told, b"\n")
+    let told = answer::written(host, crate::say_advice(host, r));
+    say(host, told, b"\n")
 }
 
-fn lost(g: Ground, name: &[u8], p: usize, r: Refusal) -> bool {
-    let named = say(true, name);
-    let told = say(named, b" not acknowledged, ");
-    let paged = page(told, g, p);
-    advised(paged, r)
+fn lost(host: &Host, g: Ground, name: &[u8], p: usize, r: Refusal) -> bool {
+    let named = say(host, true, name);
+    let told = say(host, named, b" not acknowledged, ");
+    let paged = page(host, told, g, p);
+    advised(host, paged, r)
 }
 
-fn lost_data(g: Ground, i: usize, r: Refusal) -> bool {
-    let named = say(true, b"data byte ");
-    let told = number(named, i);
-    let there = memory(told, g);
-    let placed = address(there, onward(g.from, i));
-    let all = say(placed, b") not acknowledged");
-    advised(all, r)
+fn lost_data(host: &Host, g: Ground, i: usize, r: Refusal) -> bool {
+    let named = say(host, true, b"data byte ");
+    let told = number(host, named, i);
+    let there = memory(host, told, g);
+    let placed = address(host, there, onward(g.from, i));
+    let all = say(host, placed, b") not acknowledged");
+    advised(host, all, r)
 }
 
 // What a call is refused for, and which byte ended a run that has begun. Of a HEX file standard error has the reason; the others cannot
 // come of these commands.
-fn reason(g: Ground, r: Refusal) -> bool {
+fn reason(host: &Host, g: Ground, r: Refusal) -> bool {
     let k = parts::verdict_place(Verdict::Refused(r));
     match r {
-        Refusal::NoPart => answer::no_part(true),
-        Refusal::WrongEnable => answer::wrong_enable(true),
-        Refusal::BadEvent(_) => answer::no_pin(true),
+        Refusal::NoPart => answer::no_part(host, true),
+        Refusal::WrongEnable => answer::wrong_enable(host, true),
+        Refusal::BadEvent(_) => answer::no_pin(host, true),
         Refusal::Beyond => say(
+            host,
             true,
             b"the bytes do not all lie in the array or the page, or there is no such page\n",
         ),
         Refusal::BadLimit => say(
+            host,
             true,
             b"the budget goes from 1 to 1000, --ends-at from 1 to 65535\n",
         ),
-        Refusal::NoSelect(_) => lost(g, b"select", k, r),
-        Refusal::NoFirst(_) => lost(g, b"first address byte", k, r),
-        Refusal::NoSecond(_) => lost(g, b"second address byte", k, r),
-        Refusal::NoData(_) => lost_data(g, k, r),
-        Refusal::PollsUsed => advised(say(true, b"polls used up"), r),
-        Refusal::BadImage => answer::no_image(true),
+        Refusal::NoSelect(_) => lost(host, g, b"select", k, r),
+        Refusal::NoFirst(_) => lost(host, g, b"first address byte", k, r),
+        Refusal::NoSecond(_) => lost(host, g, b"second address byte", k, r),
+        Refusal::NoData(_) => lost_data(host, g, k, r),
+        Refusal::PollsUsed => advised(host, say(host, true, b"polls used up"), r),
+        Refusal::BadImage => answer::no_image(host, true),
         Refusal::WrongBuffer => true,
         Refusal::BadState => true,
         Refusal::ShortBuffer => true,
@@ -124,23 +127,24 @@ fn reason(g: Ground, r: Refusal) -> bool {
     }
 }
 
-pub fn refused(g: Ground, r: Refusal) -> bool {
-    if answer::refused(r) {
-        return reason(g, r);
+pub fn refused(host: &Host, g: Ground, r: Refusal) -> bool {
+    if answer::refused(host, r) {
+        return reason(host, g, r);
     }
     false
 }
 
 // The first line, which tells a refusal from a run that is done.
-pub fn head(g: Ground, verdict: Verdict) -> bool {
+pub fn head(host: &Host, g: Ground, verdict: Verdict) -> bool {
     match verdict {
-        Verdict::Fine => say(true, b"done\n"),
-        Verdict::Refused(r) => refused(g, r),
+        Verdict::Fine => say(host, true, b"done\n"),
+        Verdict::Refused(r) => refused(host, g, r),
     }
 }
 
 // The figures of a run.
 pub fn figures(
+    host: &Host,
     ok: bool,
     done: usize,
     asked: usize,
@@ -148,27 +152,27 @@ pub fn figures(
     cycles: usize,
     clocks: usize,
 ) -> bool {
-    let one = bytes(ok, done, asked);
-    let two = count(one, b"polls ", polls);
-    let three = count(two, b"cycles ", cycles);
-    count(three, b"clocks ", clocks)
+    let one = bytes(host, ok, done, asked);
+    let two = count(host, one, b"polls ", polls);
+    let three = count(host, two, b"cycles ", cycles);
+    count(host, three, b"clocks ", clocks)
 }
 
 // ---- the most worn group
 
 // A count that stays at its top says how many there were at least.
-pub fn or_more(ok: bool, most: u32) -> bool {
+pub fn or_more(host: &Host, ok: bool, most: u32) -> bool {
     if most == FULL {
-        return say(ok, b" or more");
+        return say(host, ok, b" or more");
     }
     ok
 }
 
 // `most group 16, 0040h..0043h: 560`, of groups of so many bytes; with no line end.
-pub fn most(ok: bool, size: usize, group: usize, count: u32) -> bool {
-    let named = number(say(ok, b"most group "), group);
+pub fn most(host: &Host, ok: bool, size: usize, group: usize, count: u32) -> bool {
+    let named = number(host, say(host, ok, b"most group "), group);
     let from = first_of(group, size);
-    let there = answer::span(say(named, b", "), from, onward(from, size));
-    let told = number(say(there, b": "), count as usize);
-    or_more(told, count)
+    let there = answer::span(host, say(host, named, b", "), from, onward(from, size));
+    let told = number(host, say(host, there, b": "), count as usize);
+    or_more(host, told, count)
 }

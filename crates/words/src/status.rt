@@ -1,19 +1,12 @@
-// How a run ends. A program has no exit status of its own: ./sapwoodle lends it descriptor 3 and ends with the highest number that is there,
-// or with 0. It starts the program under the name `sapwoodle`; under any other name nothing is written there.
-const LENT: i32 = 3;
-
-fn mark(status: &[u8]) {
-    if crate::is(0, b"sapwoodle") {
-        io::write_all(LENT, status);
-    }
-}
+// How a run ends: `main` ends with the highest status that was marked, or with 0.
+use host::Host;
 
 // 1: the answer is a refusal, or two things differ.
-pub fn refused() {
-    mark(b"1");
+pub fn refused(host: &Host) {
+    host.mark(1);
 }
 
 // 2: there is no answer, or not all of it: a word was wrong, or a file could not be read or written.
-pub fn trouble() {
-    mark(b"2");
+pub fn trouble(host: &Host) {
+    host.mark(2);
 }

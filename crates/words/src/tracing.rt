@@ -1,6 +1,7 @@
 // The words of the command `trace`: files, with its options before, between and behind them.
 use crate::{MISSING, OPTION, after, complain, dashed_at, is, is_input, trouble};
 use help::TRACE;
+use host::Host;
 
 // What a word is.
 #[derive(Clone, Copy)]
@@ -26,34 +27,34 @@ pub struct Tracing {
     inputs: usize,
 }
 
-fn option_or_file(i: usize) -> Role {
-    if is(i, b"--bytes") {
+fn option_or_file(host: &Host, i: usize) -> Role {
+    if is(host, i, b"--bytes") {
         return Role::Bytes;
     }
-    if is(i, b"--vcd") {
+    if is(host, i, b"--vcd") {
         return Role::Vcd;
     }
-    if dashed_at(i) {
+    if dashed_at(host, i) {
         return Role::Wrong;
     }
     Role::File
 }
 
 // What word i is, behind a word that is `before`; no option's name stands before the first.
-pub fn role_of(before: Role, i: usize) -> Role {
+pub fn role_of(host: &Host, before: Role, i: usize) -> Role {
     match before {
         Role::Vcd => Role::VcdFile,
-        _ => option_or_file(i),
+        _ => option_or_file(host, i),
     }
 }
 
-fn wrong(t: Tracing, i: usize, kind: usize) -> Tracing {
-    complain(TRACE, i, kind);
+fn wrong(host: &Host, t: Tracing, i: usize, kind: usize) -> Tracing {
+    complain(host, TRACE, i, kind);
     Tracing { ok: false, ..t }
 }
 
-fn file(t: Tracing, i: usize) -> Tracing {
-    let inputs = if is_input(i) {
+fn file(host: &Host, t: Tracing, i: usize) -> Tracing {
+    let inputs = if is_input(host, i) {
         after(t.inputs)
     } else {
         t.inputs
@@ -67,34 +68,34 @@ fn file(t: Tracing, i: usize) -> Tracing {
 }
 
 // One file is drawn.
-fn drawn(t: Tracing, i: usize) -> Tracing {
+fn drawn(host: &Host, t: Tracing, i: usize) -> Tracing {
     if t.vcd == 0 {
         return t;
     }
-    wrong(t, i, OPTION)
+    wrong(host, t, i, OPTION)
 }
 
-fn seen(t: Tracing, role: Role, i: usize) -> Tracing {
+fn seen(host: &Host, t: Tracing, role: Role, i: usize) -> Tracing {
     match role {
-        Role::File => file(t, i),
+        Role::File => file(host, t, i),
         Role::Bytes => Tracing { bytes: true, ..t },
-        Role::Vcd => drawn(t, i),
+        Role::Vcd => drawn(host, t, i),
         Role::VcdFile => Tracing { vcd: i, ..t },
-        Role::Wrong => wrong(t, i, OPTION),
+        Role::Wrong => wrong(host, t, i, OPTION),
     }
 }
 
-fn next(t: Tracing, i: usize) -> Tracing {
+fn next(host: &Host, t: Tracing, i: usize) -> Tracing {
     let before = t.role;
-    let here = role_of(before, i);
-    let behind = seen(t, here, i);
+    let here = role_of(host, before, i);
+    let behind = seen(host, t, here, i);
     Tracing {
         role: here,
         ..behind
     }
 }
 
-fn look(first: usize, end: usize) -> Tracing {
+fn look(host: &Host, first: usize, end: usize) -> Tracing {
     let mut t = Tracing {
         ok: true,
         bytes: false,
@@ -106,7 +107,7 @@ fn look(first: usize, end: usize) -> Tracing {
     };
     let mut i = first;
     while i < end {
-        t = next(t, i);
+        t = next(host, t, i);
         if !t.ok {
             return t;
         }
@@ -115,18 +116,18 @@ fn look(first: usize, end: usize) -> Tracing {
     t
 }
 
-fn mistaken(t: Tracing, what: &[u8]) -> Tracing {
-    trouble(what);
+fn mistaken(host: &Host, t: Tracing, what: &[u8]) -> Tracing {
+    trouble(host, what);
     Tracing { ok: false, ..t }
 }
 
 // Standard input is read once, and one trace is drawn.
-fn whole(t: Tracing) -> Tracing {
+fn whole(host: &Host, t: Tracing) -> Tracing {
     if 1 < t.inputs {
-        return mistaken(t, b"only one FILE can be standard input\n");
+        return mistaken(host, t, b"only one FILE can be standard input\n");
     }
     if (0 < t.vcd) & (1 < t.files) {
-        return mistaken(t, b"--vcd draws one trace: there are more\n");
+        return mistaken(host, t, b"--vcd draws one trace: there are more\n");
     }
     t
 }
@@ -139,14 +140,14 @@ fn wants_file(last: Role) -> bool {
 }
 
 // The words go from `next` to before `end`.
-pub fn asked(first: usize, end: usize) -> Tracing {
-    let t = look(first, end);
+pub fn asked(host: &Host, first: usize, end: usize) -> Tracing {
+    let t = look(host, first, end);
     let last = t.role;
     if !t.ok {
         return t;
     }
     if wants_file(last) {
-        return wrong(t, end, MISSING);
+        return wrong(host, t, end, MISSING);
     }
-    whole(t)
+    whole(host, t)
 }

@@ -1,5 +1,6 @@
 // The words of the command `wear`: its options stand before, between and behind the traces, and the order of the words is that of the work.
 use crate::{MISSING, OPTION, SOURCES, after, complain, dashed_at, is, is_input, trouble};
+use host::Host;
 
 // What a word is.
 #[derive(Clone, Copy)]
@@ -40,53 +41,53 @@ struct Taken {
     inputs: usize,
 }
 
-fn option(i: usize) -> Role {
-    if is(i, b"--counts") {
+fn option(host: &Host, i: usize) -> Role {
+    if is(host, i, b"--counts") {
         return Role::Counts;
     }
-    if is(i, b"--list") {
+    if is(host, i, b"--list") {
         return Role::List;
     }
-    if is(i, b"--image") {
+    if is(host, i, b"--image") {
         return Role::Image;
     }
-    if is(i, b"--save") {
+    if is(host, i, b"--save") {
         return Role::Save;
     }
-    if is(i, b"--all") {
+    if is(host, i, b"--all") {
         return Role::All;
     }
     Role::Wrong
 }
 
-fn option_or_trace(i: usize) -> Role {
-    if dashed_at(i) {
-        return option(i);
+fn option_or_trace(host: &Host, i: usize) -> Role {
+    if dashed_at(host, i) {
+        return option(host, i);
     }
     Role::Trace
 }
 
 // What word i is, behind a word that is `before`; no option's name stands before the first.
-pub fn role_of(before: Role, i: usize) -> Role {
+pub fn role_of(host: &Host, before: Role, i: usize) -> Role {
     match before {
         Role::Counts => Role::CountsFile,
         Role::List => Role::ListFile,
         Role::Image => Role::ImageFile,
         Role::Save => Role::SaveFile,
-        _ => option_or_trace(i),
+        _ => option_or_trace(host, i),
     }
 }
 
 // ---- looking at all words, before anything is read
 
-fn wrong(l: Taken, i: usize) -> Taken {
-    complain(help::WEAR, i, OPTION);
+fn wrong(host: &Host, l: Taken, i: usize) -> Taken {
+    complain(host, help::WEAR, i, OPTION);
     Taken { ok: false, ..l }
 }
 
-fn source(l: Taken, i: usize) -> Taken {
+fn source(host: &Host, l: Taken, i: usize) -> Taken {
     let sources = after(l.sources);
-    if is_input(i) {
+    if is_input(host, i) {
         return Taken {
             sources,
             inputs: after(l.inputs),
@@ -97,39 +98,39 @@ fn source(l: Taken, i: usize) -> Taken {
 }
 
 // One file is saved, and the counts of one image are gone on from.
-fn once(l: Taken, named: usize, i: usize) -> Taken {
+fn once(host: &Host, l: Taken, named: usize, i: usize) -> Taken {
     if named == 0 {
         return l;
     }
-    wrong(l, i)
+    wrong(host, l, i)
 }
 
-fn seen(l: Taken, role: Role, i: usize) -> Taken {
+fn seen(host: &Host, l: Taken, role: Role, i: usize) -> Taken {
     match role {
-        Role::Trace => source(l, i),
-        Role::CountsFile => source(l, i),
-        Role::ListFile => source(l, i),
-        Role::Image => once(l, l.image, i),
-        Role::ImageFile => source(Taken { image: i, ..l }, i),
-        Role::Save => once(l, l.save, i),
+        Role::Trace => source(host, l, i),
+        Role::CountsFile => source(host, l, i),
+        Role::ListFile => source(host, l, i),
+        Role::Image => once(host, l, l.image, i),
+        Role::ImageFile => source(host, Taken { image: i, ..l }, i),
+        Role::Save => once(host, l, l.save, i),
         Role::SaveFile => Taken { save: i, ..l },
         Role::All => Taken { all: true, ..l },
-        Role::Wrong => wrong(l, i),
+        Role::Wrong => wrong(host, l, i),
         _ => l,
     }
 }
 
-fn next(l: Taken, i: usize) -> Taken {
+fn next(host: &Host, l: Taken, i: usize) -> Taken {
     let before = l.role;
-    let here = role_of(before, i);
-    let behind = seen(l, here, i);
+    let here = role_of(host, before, i);
+    let behind = seen(host, l, here, i);
     Taken {
         role: here,
         ..behind
     }
 }
 
-fn look(next_word: usize, end: usize) -> Taken {
+fn look(host: &Host, next_word: usize, end: usize) -> Taken {
     let mut l = Taken {
         ok: true,
         role: Role::All,
@@ -141,7 +142,7 @@ fn look(next_word: usize, end: usize) -> Taken {
     };
     let mut i = next_word;
     while i < end {
-        l = next(l, i);
+        l = next(host, l, i);
         if !l.ok {
             return l;
         }
@@ -160,31 +161,34 @@ fn wants_file(last: Role) -> bool {
     }
 }
 
-fn lacks(end: usize, kind: usize) -> bool {
-    complain(help::WEAR, end, kind);
+fn lacks(host: &Host, end: usize, kind: usize) -> bool {
+    complain(host, help::WEAR, end, kind);
     false
 }
 
 // Something is there to be counted, and standard input is read once.
-fn whole(l: Taken, end: usize) -> bool {
+fn whole(host: &Host, l: Taken, end: usize) -> bool {
     let last = l.role;
     if wants_file(last) {
-        return lacks(end, MISSING);
+        return lacks(host, end, MISSING);
     }
     if l.sources == 0 {
-        return lacks(end, SOURCES);
+        return lacks(host, end, SOURCES);
     }
     if 1 < l.inputs {
-        trouble(b"only one of TRACE, --list, --counts and --image can be standard input\n");
+        trouble(
+            host,
+            b"only one of TRACE, --list, --counts and --image can be standard input\n",
+        );
         return false;
     }
     true
 }
 
 // The words go from `next` to before `end`.
-pub fn asked(next: usize, end: usize) -> Wear {
-    let l = look(next, end);
-    let ok = l.ok && whole(l, end);
+pub fn asked(host: &Host, next: usize, end: usize) -> Wear {
+    let l = look(host, next, end);
+    let ok = l.ok && whole(host, l, end);
     Wear {
         ok,
         image: l.image,
