@@ -315,7 +315,7 @@ pub explain_determined : ExplainDetermined
 explain_determined = record {
   taken = λ κs a. tt;
   equal = λ κs a x y p q. same (agree p.0 q.0)
-      (λ i. (tt, (agree p.1 q.1 i, tt)));
+      (λ i. (tt, (tt, (agree p.1 q.1 i, tt))));
 }
 
 pub judge_determined : JudgeDetermined

@@ -1,16 +1,21 @@
 // Files by name. A name is bytes; one that is no UTF-8 is refused, since std takes text.
 use crate::Host;
-use crate::error::{NO_TEXT, number_of};
+use crate::error::{INVALID, NO_TEXT, number_of};
 use std::fs::OpenOptions;
 use std::{fs, io};
 
 // How often a name that no file has is looked for.
 const TRIES: u32 = 1000000;
 
+// The number of a name that is no text: a NUL is told first.
+fn number_of_name(name: &[u8]) -> i32 {
+    if name.contains(&0) { INVALID } else { NO_TEXT }
+}
+
 fn text_of(name: &[u8]) -> io::Result<&str> {
     match std::str::from_utf8(name) {
         Ok(text) => Ok(text),
-        Err(_) => Err(io::Error::from_raw_os_error(NO_TEXT)),
+        Err(_) => Err(io::Error::from_raw_os_error(number_of_name(name))),
     }
 }
 

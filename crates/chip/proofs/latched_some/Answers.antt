@@ -3,7 +3,11 @@ use Prim.Native.Nat.{ℕ}
 use native.Mathlib.Omega.{arith}
 use Rattle.chip.specs.Memory.{latched_in}
 use Rattle.chip.proofs.Groups.{latched_here, latched_on, latched_beyond}
+use borrow.Author.Rules.{rules}
 use Rattle.chip.proofs.latched_some.Goals as goal
+
+pub bounds-latch-i : goal.bounds-latch-i
+bounds-latch-i c = search rules
 
 pub returns-then-latch-i : goal.returns-then-latch-i
 returns-then-latch-i c = let l = c.loop-left in sym (latched_beyond c.args.latch.now l.i l.left c.if-latch-i.true) ∙ l.invariant
