@@ -1,6 +1,6 @@
 /* Sapwoodle: the M24C serial EEPROM as a library. Static, for C on x86-64 Linux:
  *
- *     rt staticlib sapwoodle          proves it and writes target/staticlib/libsapwoodle.a
+ *     examples/run                    proves it, writes target/staticlib/libsapwoodle.a, and runs the examples with it
  *
  * It has no state of its own, allocates nothing, calls nothing but memcpy and memset, and every function ends.
  *
