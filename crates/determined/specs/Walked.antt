@@ -1,5 +1,5 @@
--- `capture::count` is proved by a walk, and of such a function the toolchain makes no reading of the contract, as it does for the others (module
--- `Reads`). It stands here, and `CountSays` says that it is the contract's own clause, in every world: a clause that is weakened in src/ breaks it.
+-- What the contract of `capture::count` says, which writes into a struct that it is lent, written out beside the toolchain's own reading (module
+-- `Reads`). `CountSays` says that it is the contract's own clause, in every world: a clause that is weakened in src/ breaks it.
 -- Assumes nothing.
 use Rattle.std.specs.Prelude.{◌≡◌}
 use seplogic.Ra.Ura.{Ura}
