@@ -1,11 +1,10 @@
 -- What a run of driver and chip answers and leaves, for refused input too (document 01, refusals 1 to 8 in order).
 -- Assumes nothing.
-use Rattle.std.specs.Prelude.{ℕ, Bool, true, false, cond, not, List, [], ◌++◌, length, take, drop, eqb, ltb}
+use Rattle.std.specs.Prelude.{ℕ, Bool, true, false, cond, not, List, [], ◌++◌, length, take, drop, eqb, ltb, Ok, Err}
 use Rattle.parts.specs.declared.Facts.{Facts}
 use Rattle.parts.specs.declared.Refusal.{Refusal}
 use Rattle.parts.specs.declared.Refusal.TheVariants.{BadState, ShortBuffer, BadLimit}
-use Rattle.parts.specs.declared.Verdict.{Verdict}
-use Rattle.parts.specs.declared.Verdict.TheVariants.{Fine, Refused as Judged}
+use Rattle.parts.specs.Verdict.{Verdict}
 use Rattle.parts.specs.Table.{facts_of}
 use Rattle.parts.specs.Refusals.{claim_of, sooner_of}
 use Rattle.state.specs.declared.Chip.{Chip}
@@ -56,12 +55,12 @@ final_of D M r d c m buffer = turns_of D M d enough (outset_of r c m buffer)
 
 -- of the system and the driver's last answer; one that would still send cannot be (proved with the promises)
 abbrev pub report_by : System → Answer → Report
-report_by s (Send e) = record { verdict = Fine; polls = 0; bytes = 0; cycles = s.cycles; clocks = s.clocks; chip = s.chip }
-report_by s (Done polls bytes) = record { verdict = Fine; polls = polls; bytes = bytes; cycles = s.cycles; clocks = s.clocks; chip = s.chip }
-report_by s (Refused r polls bytes) = record { verdict = Judged r; polls = polls; bytes = bytes; cycles = s.cycles; clocks = s.clocks; chip = s.chip }
+report_by s (Send e) = record { verdict = Ok tt; polls = 0; bytes = 0; cycles = s.cycles; clocks = s.clocks; chip = s.chip }
+report_by s (Done polls bytes) = record { verdict = Ok tt; polls = polls; bytes = bytes; cycles = s.cycles; clocks = s.clocks; chip = s.chip }
+report_by s (Refused r polls bytes) = record { verdict = Err r; polls = polls; bytes = bytes; cycles = s.cycles; clocks = s.clocks; chip = s.chip }
 
 abbrev pub refused_by : Refusal → Chip → Report
-refused_by x c = record { verdict = Judged x; polls = 0; bytes = 0; cycles = 0; clocks = 0; chip = c }
+refused_by x c = record { verdict = Err x; polls = 0; bytes = 0; cycles = 0; clocks = 0; chip = c }
 
 -- what a call answers and leaves: the report, the two lent buffers of the chip, the driver's buffer, and the tape
 pub record BenchLeft : Type 0 where
@@ -73,7 +72,7 @@ pub record BenchLeft : Type 0 where
 
 -- bytes past the answer keep their values; a refused call changes nothing and sends nothing
 abbrev pub bench_by : Machine → Model → Request → ℕ → Chip → Mem → List ℕ → Verdict → BenchLeft
-bench_by D M r d c m buffer Fine =
+bench_by D M r d c m buffer (Ok _) =
     record {
       report = report_by (final_of D M r d c m buffer) (last_of D M d enough (Done 0 0) (outset_of r c m buffer));
       mem = (final_of D M r d c m buffer).mem;
@@ -81,7 +80,7 @@ bench_by D M r d c m buffer Fine =
       events = tape_events_of D M d enough (outset_of r c m buffer);
       levels = tape_levels_of D M d enough (outset_of r c m buffer);
     }
-bench_by D M r d c m buffer (Judged x) = record { report = refused_by x c; mem = m; buffer = buffer; events = []; levels = [] }
+bench_by D M r d c m buffer (Err x) = record { report = refused_by x c; mem = m; buffer = buffer; events = []; levels = [] }
 
 abbrev pub bench_verdict : Request → ℕ → ℕ → Chip → Mem → List ℕ → Verdict
 bench_verdict r enable d c m buffer = bench_verdict_of r enable d c (length m.cells) (length m.ident) (length buffer)

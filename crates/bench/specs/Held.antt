@@ -1,7 +1,6 @@
 -- What the code keeps between two askings, beside the lent buffers, and what it needs of the chip.
 -- Assumes nothing.
-use Rattle.std.specs.Prelude.{ℕ, ◌+◌, ◌≡◌, Bool, true, cond, List}
-use Rattle.parts.specs.declared.Verdict.TheVariants.{Fine, Refused as Judged}
+use Rattle.std.specs.Prelude.{ℕ, ◌+◌, ◌≡◌, Bool, true, cond, List, Ok, Err}
 use Rattle.parts.specs.Table.{facts_of, enable_right_of, buffers_right_of}
 use Rattle.state.specs.declared.Chip.{Chip}
 use Rattle.state.specs.Range.{in_range_of}
@@ -53,6 +52,6 @@ pub record Fit (part enable : ℕ) (c : Chip) (n i : ℕ) : Type 0 where
 
 -- the report on what is held
 abbrev pub made_of : Held → Answer → Report
-made_of h (Send e) = record { verdict = Fine; polls = 0; bytes = 0; cycles = h.cycles; clocks = h.clocks; chip = h.chip }
-made_of h (Done polls bytes) = record { verdict = Fine; polls = polls; bytes = bytes; cycles = h.cycles; clocks = h.clocks; chip = h.chip }
-made_of h (Refused r polls bytes) = record { verdict = Judged r; polls = polls; bytes = bytes; cycles = h.cycles; clocks = h.clocks; chip = h.chip }
+made_of h (Send e) = record { verdict = Ok tt; polls = 0; bytes = 0; cycles = h.cycles; clocks = h.clocks; chip = h.chip }
+made_of h (Done polls bytes) = record { verdict = Ok tt; polls = polls; bytes = bytes; cycles = h.cycles; clocks = h.clocks; chip = h.chip }
+made_of h (Refused r polls bytes) = record { verdict = Err r; polls = polls; bytes = bytes; cycles = h.cycles; clocks = h.clocks; chip = h.chip }

@@ -1,7 +1,7 @@
 -- A run of driver and chip that counts wear and keeps the stored worst (document 02, §8): "4 also for a stored worst that the counts don't bear out".
 -- Assumes nothing.
 use Rattle.std.specs.Prelude.{ℕ, List}
-use Rattle.parts.specs.declared.Verdict.{Verdict}
+use Rattle.parts.specs.Verdict.{Verdict}
 use Rattle.parts.specs.Table.{facts_of}
 use Rattle.parts.specs.Refusals.{sooner_of}
 use Rattle.state.specs.declared.Chip.{Chip}

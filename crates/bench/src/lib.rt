@@ -107,7 +107,7 @@ const ENOUGH: usize = 6000000;
 fn clock(code: u8) -> usize
     ensures { result ≡ clock_of code }
 {
-    if code < 2 { 1 } else { 0 }
+    usize::from(code < 2)
 }
 
 // The chip takes an event that the driver sends.
@@ -127,17 +127,14 @@ fn send(
     ensures stored { mem array.new id.new
         ≡ store_of (facts_of part) held.chip (mem array.old id.old) (event_of code) }
 {
-    let before = held.chip;
-    let s = chip::step(part, enable, Loss::Old, b"", before, array, id, code);
-    let chip = s.chip;
-    let worst = held.worst;
+    let s = chip::step(part, enable, Loss::Old, b"", held.chip, array, id, code);
     Held {
         driver,
         level: s.level,
-        chip,
+        chip: s.chip,
         cycles: held.cycles + s.cycles as usize,
         clocks: held.clocks + clock(code),
-        worst,
+        ..held
     }
 }
 
@@ -163,19 +160,13 @@ fn end(
     if !due {
         return held;
     }
-    let before = held.chip;
-    let raised = wear::mark(part, before, counts);
+    let raised = wear::mark(part, held.chip, counts);
     let worst = wear::worst::worse(held.worst, raised);
-    let s = chip::step(part, enable, Loss::Old, b"", before, array, id, ENDS);
-    let chip = s.chip;
-    let driver = held.driver;
+    let s = chip::step(part, enable, Loss::Old, b"", held.chip, array, id, ENDS);
     Held {
-        driver,
-        level: held.level,
-        chip,
-        cycles: held.cycles,
-        clocks: held.clocks,
+        chip: s.chip,
         worst,
+        ..held
     }
 }
 
@@ -198,10 +189,9 @@ fn ask(
 {
     let asked = driver::next(held.driver, held.level, buffer);
     let answer = asked.answer;
-    let driver = asked.driver;
     match answer {
         Answer::Send(e) => {
-            let sent = send(part, enable, held, driver, e, array, id);
+            let sent = send(part, enable, held, asked.driver, e, array, id);
             Turned {
                 held: sent,
                 ended,
@@ -222,45 +212,35 @@ fn ask(
 }
 
 // After a poll: whether the next Start is that of poll number d of the page.
+#[tactic(auto, using(crate::proofs::Laws::no_poll, crate::proofs::Laws::poll_test))]
 fn polls_again(tries: usize, allowed: usize, level: u8, d: usize) -> bool
     requires { 0 < d }
     ensures { result ≡ eqb (cond (eqb level 0) 0 (cond (ltb tries allowed) (tries + 1) 0)) d }
 {
-    if level == 0 {
-        return false;
-    }
-    if tries < allowed {
-        return tries == d - 1;
-    }
-    false
+    level != 0 && tries < allowed && tries == d - 1
 }
 
+#[tactic(auto, using(crate::proofs::Laws::no_poll))]
 fn due_after(slot: Slot, tries: usize, allowed: usize, level: u8, d: usize) -> bool
     requires { 0 < d }
     ensures { result ≡ eqb (poll_by slot tries allowed level) d }
 {
     match slot {
-        Slot::Select => false,
-        Slot::High => false,
-        Slot::Low => false,
-        Slot::Data => false,
         Slot::Poll => polls_again(tries, allowed, level, d),
-        Slot::Turn => false,
-        Slot::Take => false,
+        _ => false,
     }
 }
 
 // "each cycle ends just before its poll number d": whether that poll's Start is sent next.
+#[tactic(auto, using(crate::proofs::Laws::no_poll, crate::proofs::Laws::poll_test))]
 fn due(phase: Phase, tries: usize, allowed: usize, level: u8, d: usize) -> bool
     requires { 0 < d }
     ensures { result ≡ eqb (poll_next phase tries allowed level) d }
 {
     match phase {
-        Phase::Ready => false,
-        Phase::Bits(_, _) => false,
         Phase::Heard(slot) => due_after(slot, tries, allowed, level, d),
         Phase::Rest => tries == d - 1,
-        Phase::Over(_) => false,
+        _ => false,
     }
 }
 
@@ -289,9 +269,8 @@ fn turn(
     ensures worst { result.held.worst ≡ most_of counts.new }
 {
     let driver = held.driver;
-    let phase = driver.phase;
     let most = driver::allowed(driver.request);
-    let ended = due(phase, driver.counts.tries, most, held.level, d);
+    let ended = due(driver.phase, driver.counts.tries, most, held.level, d);
     let ready = end(ended, part, enable, held, array, id, counts);
     ask(ended, part, enable, ready, array, id, buffer)
 }
@@ -301,11 +280,7 @@ fn turn(
 fn sends(answer: Answer) -> bool
     ensures { result ≡ sends_of answer }
 {
-    match answer {
-        Answer::Send(_) => true,
-        Answer::Done(_, _) => false,
-        Answer::Refused(_, _, _) => false,
-    }
+    matches!(answer, Answer::Send(_))
 }
 
 // 0 where nothing is sent.
@@ -314,8 +289,7 @@ fn code(answer: Answer) -> u8
 {
     match answer {
         Answer::Send(e) => e,
-        Answer::Done(_, _) => 0,
-        Answer::Refused(_, _, _) => 0,
+        _ => 0,
     }
 }
 
@@ -365,10 +339,7 @@ fn tape(
 fn going(ended: bool, sends: bool) -> bool
     ensures { result ≡ cond ended true sends }
 {
-    if ended {
-        return true;
-    }
-    sends
+    ended || sends
 }
 
 // Turn after turn, until nothing changes any more.
@@ -432,7 +403,7 @@ fn reported(held: Held, answer: Answer) -> Report
     let chip = held.chip;
     match answer {
         Answer::Send(_) => Report {
-            verdict: Verdict::Fine,
+            verdict: Ok(()),
             polls: 0,
             bytes: 0,
             cycles: held.cycles,
@@ -440,7 +411,7 @@ fn reported(held: Held, answer: Answer) -> Report
             chip,
         },
         Answer::Done(polls, bytes) => Report {
-            verdict: Verdict::Fine,
+            verdict: Ok(()),
             polls,
             bytes,
             cycles: held.cycles,
@@ -448,7 +419,7 @@ fn reported(held: Held, answer: Answer) -> Report
             chip,
         },
         Answer::Refused(r, polls, bytes) => Report {
-            verdict: Verdict::Refused(r),
+            verdict: Err(r),
             polls,
             bytes,
             cycles: held.cycles,
@@ -542,33 +513,27 @@ fn drive(
 // ---- refusals
 
 // 4: the data have another length than asked.
+#[tactic(auto, unfolding(crate::specs::Calls::other_length_of))]
 fn other_length(reads: bool, length: usize, b: usize) -> bool
     ensures { result ≡ other_length_of reads length b }
 {
-    if reads {
-        return false;
-    }
-    b != length
+    !reads && b != length
 }
 
 // 6: a read's buffer is too short.
+#[tactic(auto, unfolding(crate::specs::Calls::short_of))]
 fn short(reads: bool, length: usize, b: usize) -> bool
     ensures { result ≡ short_of reads length b }
 {
-    if reads {
-        return b < length;
-    }
-    false
+    reads && b < length
 }
 
 // 8: d outside 1 to 65,535.
+#[tactic(auto, unfolding(crate::specs::Calls::late_of))]
 fn late(d: usize) -> bool
     ensures { result ≡ late_of d }
 {
-    if d < 1 {
-        return true;
-    }
-    65535 < d
+    d < 1 || 65535 < d
 }
 
 // The request is the driver's to judge, the chip and its buffers are the chip's.
@@ -623,7 +588,7 @@ fn refused(why: Refusal, chip: Chip) -> Recorded
     ensures { (result.report ≡ refused_by why chip) × (result.sent ≡ 0) }
 {
     let report = Report {
-        verdict: Verdict::Refused(why),
+        verdict: Err(why),
         polls: 0,
         bytes: 0,
         cycles: 0,
@@ -666,7 +631,7 @@ pub fn record(
         buffer.len(),
     );
     match verdict {
-        Verdict::Fine => {
+        Ok(()) => {
             let n = request.length;
             let bytes = &mut buffer[..n];
             let mut none = [0u32; 1];
@@ -675,14 +640,12 @@ pub fn record(
             let driven = drive(
                 request, enable, d, chip, array, id, bytes, counts, worst, events, levels,
             );
-            let kept = driven.kept;
-            let report = kept.report;
             Recorded {
-                report,
+                report: driven.kept.report,
                 sent: driven.sent,
             }
         }
-        Verdict::Refused(r) => refused(r, chip),
+        Err(r) => refused(r, chip),
     }
 }
 
@@ -753,7 +716,7 @@ pub fn run_worn(
         worst,
     );
     match verdict {
-        Verdict::Fine => {
+        Ok(()) => {
             let n = request.length;
             let bytes = &mut buffer[..n];
             let mut events = [0u8; 1];
@@ -773,10 +736,12 @@ pub fn run_worn(
             );
             driven.kept
         }
-        Verdict::Refused(r) => {
+        Err(r) => {
             let gone = refused(r, chip);
-            let report = gone.report;
-            Kept { report, worst }
+            Kept {
+                report: gone.report,
+                worst,
+            }
         }
     }
 }

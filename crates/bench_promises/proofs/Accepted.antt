@@ -1,5 +1,6 @@
 -- No call of a run is refused for the state, so the run of calls is the run.
 -- Assumes nothing.
+use Rattle.std.specs.Prelude.{Ok, Err}
 use Prim.Native.Nat.{ℕ, zero, suc, ◌+◌, ◌<◌}
 use mathlib.Core.Path.{◌≡◌, refl, sym, ◌∙◌, ap, subst}
 use mathlib.Core.Bool.{Bool, true, false, false≢true}
@@ -9,8 +10,7 @@ use lib.Dec.{eqb, ltb}
 use native.Mathlib.Omega.{arith}
 use borrow.Author.Tests.{lt-ltb, eq-eqb}
 use Rattle.parts.specs.declared.Refusal.TheVariants.{BadState}
-use Rattle.parts.specs.declared.Verdict.{Verdict}
-use Rattle.parts.specs.declared.Verdict.TheVariants.{Fine, Refused as Judged}
+use Rattle.parts.specs.Verdict.{Verdict}
 use Rattle.parts.specs.Table.{facts_of, id_size_of, enable_right_of, buffers_right_of}
 use Rattle.parts.specs.Events.{event_with, event_of}
 use Rattle.parts.specs.Refusals.{is_fine, number_of, sooner_of}
@@ -121,11 +121,11 @@ module _ (part en : ℕ) where
       let l = store_lengths [] (facts_of part) c m (event_of e) in
       rw (l.0, l.1) (fit_on part en c (length m.cells) (length m.ident) t e h)
 
-  taken : (s : System) (e : ℕ) → e < 5 → Fits s → step_verdict part en old s.chip s.mem e ≡ Fine
+  taken : (s : System) (e : ℕ) → e < 5 → Fits s → step_verdict part en old s.chip s.mem e ≡ Ok tt
   taken s e h t = fine_step part en s.chip (length s.mem.cells) (length s.mem.ident) t e h
 
   -- the answer's own verdict
-  told : (c : Chip) (m : Mem) (e : ℕ) → step_verdict part en old c m e ≡ Fine → (step_of part en old c m e).answer.verdict ≡ Fine
+  told : (c : Chip) (m : Mem) (e : ℕ) → step_verdict part en old c m e ≡ Ok tt → (step_of part en old c m e).answer.verdict ≡ Ok tt
   told c m e h = ap (λ (v : Verdict). (step_by M c m e v).verdict) h
 
   -- ---- one asking
@@ -359,10 +359,10 @@ still_busy p =
 
 -- a step that is not refused has a chip in range
 says : (M : Model) (c : Chip) (m : Mem) (e : ℕ) (v : Verdict) → (step_by M c m e v).verdict ≡ v
-says M c m e Fine = refl
-says M c m e (Judged r) = refl
+says M c m e (Ok _) = refl
+says M c m e (Err r) = refl
 
-ranged : (part en : ℕ) (c : Chip) (m : Mem) (e : ℕ) → (step_of part en old c m e).answer.verdict ≡ Fine → in_range_of (facts_of part) c ≡ true
+ranged : (part en : ℕ) (c : Chip) (m : Mem) (e : ℕ) → (step_of part en old c m e).answer.verdict ≡ Ok tt → in_range_of (facts_of part) c ≡ true
 unfolding step_verdict_of
 ranged part en c m e h =
     let v = sym (says (ours (facts_of part) en) c m e (step_verdict part en old c m e)) ∙ h in

@@ -1,6 +1,7 @@
 -- Select and address bytes on any chip, at any enable of its own, with its power kept: by the driver's phase, what the chip is about to
 -- hear. After a Start it hears the select, or is busy and hears nothing; who acknowledged the select hears the address.
 -- Assumes nothing.
+use Rattle.std.specs.Prelude.{Ok, Option, None, Some}
 use Prim.Native.Nat.{ℕ, zero, suc, ◌+◌, ◌-◌, ◌*◌, ◌/◌, ◌%◌, ◌<◌, ◌≤◌}
 use mathlib.Core.Path.{◌≡◌, refl, sym, ◌∙◌, ap, subst}
 use mathlib.Core.Bool.{Bool, true, false, cond}
@@ -14,8 +15,7 @@ use borrow.Author.Tests.{ne_eqb}
 use Rattle.parts.specs.declared.Facts.{Facts}
 use Rattle.parts.specs.Table.{facts_of, enable_right_of}
 use Rattle.parts.specs.Events.{event_with, event_of}
-use Rattle.parts.specs.declared.Verdict.{Verdict}
-use Rattle.parts.specs.declared.Verdict.TheVariants.{Fine}
+use Rattle.parts.specs.Verdict.{Verdict}
 use Rattle.parts.specs.Refusals.{number_of, verdict_number_of, sooner_of}
 use Rattle.parts.proofs.Laws.{branch}
 use Rattle.line.specs.declared.Pin.{Pin}
@@ -24,8 +24,6 @@ use Rattle.line.specs.declared.Target.{Target}
 use Rattle.line.specs.declared.Target.TheVariants.{Array as TheArray, Ident as TheIdent}
 use Rattle.line.specs.declared.Recv.{Recv}
 use Rattle.line.specs.declared.Recv.TheVariants.{Select as SelectByte, AddressHigh, AddressLow}
-use Rattle.line.specs.declared.Selected.{Selected}
-use Rattle.line.specs.declared.Selected.TheVariants.{Miss, Hit}
 use Rattle.line.specs.declared.Cycle.{Cycle}
 use Rattle.line.specs.declared.Cycle.TheVariants.{Writing, Locking}
 use Rattle.line.specs.declared.Phase.{Phase as ChipPhase}
@@ -149,22 +147,22 @@ module _ (r : Request) (own : ℕ) where
     select_bit b o (inr d) = deaf_heard F own ch m (λ n _ _ _ _. Chosen (b + 1) n) (clock_of r c ys Select b) (bit_lt _ b) d (inr d)
 
     -- a select code that ends in 0 is missed, or it is a write
-    decoded : (Q : Selected → Type 0) (b : ℕ) → b % 2 ≡ 0 → Q Miss → ((t : Target) → Q (Hit t false)) → Q (decode_of F own b)
+    decoded : (Q : Option (Target × Bool) → Type 0) (b : ℕ) → b % 2 ≡ 0 → Q None → ((t : Target) → Q (Some (t, false))) → Q (decode_of F own b)
     unfolding decode_of named_of
     decoded Q b e n y =
         let w : eqb (b % 2) 1 ≡ false = ne_eqb (b % 2) 1 (λ z. omega arith) in
         branch Q (enabled_of F own b)
-        (λ _. branch Q (eqb (b / 16) 10) (λ _. subst (λ (t : Bool). Q (Hit TheArray t)) (sym w) (y TheArray))
-        (λ _. branch Q (eqb (b / 16) 11) (λ _. branch Q F.ident (λ _. subst (λ (t : Bool). Q (Hit TheIdent t)) (sym w) (y TheIdent)) (λ _. n)) (λ _. n)))
+        (λ _. branch Q (eqb (b / 16) 10) (λ _. subst (λ (t : Bool). Q (Some (TheArray, t))) (sym w) (y TheArray))
+        (λ _. branch Q (eqb (b / 16) 11) (λ _. branch Q F.ident (λ _. subst (λ (t : Bool). Q (Some (TheIdent, t))) (sym w) (y TheIdent)) (λ _. n)) (λ _. n)))
         (λ _. n)
 
     select_ninth : Chosen 8 l → InHeard Select (state_of F own ch (event_of 1)).line (chip_level_of F own ch m (event_of 1))
     unfolding taken_of selected_of address_start_of
     select_ninth (inl (k, e)) =
         ninth_heard F own ch m (λ n _ _ v _. First n ⊎ (0 < v)) 1 SelectByte (omega arith) k.phase k.left
-        (decoded (λ (s : Selected). First (landed (selected_of F l.core l.shift s)) ⊎ (0 < released_in (selected_of F l.core l.shift s).phase)) l.shift (e refl) (inr (omega arith)) hit)
+        (decoded (λ (s : Option (Target × Bool)). First (landed (selected_of F l.core l.shift s)) ⊎ (0 < released_in (selected_of F l.core l.shift s).phase)) l.shift (e refl) (inr (omega arith)) hit)
       where
-        hit : (t : Target) → First (landed (selected_of F l.core l.shift (Hit t false))) ⊎ (0 < 0)
+        hit : (t : Target) → First (landed (selected_of F l.core l.shift (Some (t, false)))) ⊎ (0 < 0)
         hit TheArray = inl (TheArray, l.shift / 2 % 8, record { phase = refl; left = refl })
         hit TheIdent = inl (TheIdent, 0, record { phase = refl; left = refl })
     select_ninth (inr d) = deaf_heard F own ch m (λ n _ _ v _. First n ⊎ (0 < v)) 1 (omega arith) d (inr (omega arith))
@@ -402,7 +400,7 @@ ends_only [] = tt
 ends_only (true ∷ bs) = ends_only bs
 ends_only (false ∷ bs) = ((omega arith, omega arith), ends_only bs)
 
-module _ (r : Request) (own d : ℕ) (c : Chip) (m : Mem) (ys : List ℕ) (fine : bench_verdict r own d c m ys ≡ Fine) where
+module _ (r : Request) (own d : ℕ) (c : Chip) (m : Mem) (ys : List ℕ) (fine : bench_verdict r own d c m ys ≡ Ok tt) where
   abbrev M₁ : Model
   M₁ = ours (facts_of r.part) own
 
@@ -424,7 +422,7 @@ module _ (r : Request) (own d : ℕ) (c : Chip) (m : Mem) (ys : List ℕ) (fine 
   reported y (Refused f q k) h = h
 
   -- `enough` is not computed
-  by_turns : (n : ℕ) → n ≡ enough → Neither (bench_by our_driver M₁ r d c m ys Fine).report
+  by_turns : (n : ℕ) → n ≡ enough → Neither (bench_by our_driver M₁ r d c m ys (Ok tt)).report
   unfolding final_of
   by_turns n e =
       let a = accepted r own d c m ys fine in

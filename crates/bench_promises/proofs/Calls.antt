@@ -1,5 +1,6 @@
 -- The run of driver and model keeps its promises.
 -- Assumes nothing.
+use Rattle.std.specs.Prelude.{Ok}
 use Prim.Native.Nat.{ℕ, suc, ◌+◌, ◌-◌, ◌*◌, ◌≤◌, ◌<◌}
 use mathlib.Core.Path.{◌≡◌, refl, sym, ◌∙◌, ap, subst}
 use mathlib.Core.Bool.{Bool, true, false, cond, not, false≢true}
@@ -10,8 +11,7 @@ use lib.Seq.{take_all, get_or-take, get_or-drop, ext_get_or}
 use native.Mathlib.Omega.{arith}
 use borrow.Author.Tests.{le-ltb, eqb-true, not-false}
 use Rattle.parts.specs.declared.Refusal.TheVariants.{NoPart, WrongEnable, Beyond, NoData, PollsUsed}
-use Rattle.parts.specs.declared.Verdict.{Verdict}
-use Rattle.parts.specs.declared.Verdict.TheVariants.{Fine}
+use Rattle.parts.specs.Verdict.{Verdict}
 use Rattle.parts.specs.Table.{facts_of, id_size_of, enable_right_of, buffers_right_of}
 use Rattle.parts.specs.Refusals.{is_fine, claim_of, sooner_of}
 use Rattle.parts.proofs.Claims.{sooner_fine}
@@ -208,7 +208,7 @@ module _ (n : ℕ) (turns : n ≡ enough) (r : Request) (d : ℕ) (c : Chip) (m 
         stored = λ t. subst (λ (y : Mem). AllBelow 256 (cells_of t y)) (sym memory_is) (still_bytes z t);
       }
     where
-      idle_again : (a : Answer) → answer_of Y ≡ a → Finished a → (report_by Y a).verdict ≡ Fine → Safe r ws c m Y → (report_by Y a).chip.line.phase ≡ Idle
+      idle_again : (a : Answer) → answer_of Y ≡ a → Finished a → (report_by Y a).verdict ≡ Ok tt → Safe r ws c m Y → (report_by Y a).chip.line.phase ≡ Idle
       idle_again (Send e) z f v q = absurd f
       idle_again (Done x n) z f v q = q.idle x n z
       idle_again (Refused x q n) z f v k = absurd (false≢true (ap is_fine v))
@@ -238,7 +238,7 @@ module _ (n : ℕ) (turns : n ≡ enough) (r : Request) (d : ℕ) (c : Chip) (m 
           (λ e. subst (λ (u : Target). get_or (cells_of u Y.mem) i 0 < 256) (sym e) (subst (λ (l : List ℕ). get_or l i 0 < 256) (sym z.other) (was (other_of (target_of r.place)) i)))
           (either (target_of r.place) t)
 
-      all : (a : Answer) → answer_of Y ≡ a → Finished a → (report_by Y a).verdict ≡ Fine → reported_of a ≡ r.length
+      all : (a : Answer) → answer_of Y ≡ a → Finished a → (report_by Y a).verdict ≡ Ok tt → reported_of a ≡ r.length
       all (Send e) z f v = absurd f
       all (Done q n) z f v = all_done r ws c m (begins r d c m ys k) bs q n z
       all (Refused x q n) z f v = absurd (false≢true (ap is_fine v))
@@ -340,7 +340,7 @@ kept_sizes r d c m ys z t =
     (either (target_of r.place) t)
 
 -- the same request as a read is not refused either
-judged_read : (r : Request) → judge_of r ≡ Fine → judge_of (read_of r) ≡ Fine
+judged_read : (r : Request) → judge_of r ≡ Ok tt → judge_of (read_of r) ≡ Ok tt
 unfolding judge_of sooner_of limit_of
 judged_read r h =
     let (part, u) = sooner_fine (claim_of (not (facts_of r.part).known) NoPart) _ h in
@@ -362,7 +362,7 @@ late_not e lo hi = rw (le-ltb e 1 lo, le-ltb 65535 e hi) refl
 
 -- the read is not refused
 read_fine : (r : Request) (d e : ℕ) (c : Chip) (m : Mem) (ys zs : List ℕ) → Called (call_of r d c m ys) → Typed c → r.reads ≡ false → 1 ≤ e → e ≤ 65535 → r.length ≤ length zs
-    → bench_verdict (read_of r) r.enable e (our_bench.report (call_of r d c m ys)).chip (our_bench.memory (call_of r d c m ys)) zs ≡ Fine
+    → bench_verdict (read_of r) r.enable e (our_bench.report (call_of r d c m ys)).chip (our_bench.memory (call_of r d c m ys)) zs ≡ Ok tt
 read_fine r d e c m ys zs k typed w lo hi room =
     let f = facts_of r.part in
     let z = written enough refl r d c m ys k w in
@@ -381,7 +381,7 @@ read_fine r d e c m ys zs k typed w lo hi room =
       ends = late_not e lo hi;
     }
 
-reads_back : (r : Request) (d e : ℕ) (c : Chip) (m : Mem) (ys zs : List ℕ) → Called (call_of r d c m ys) → Typed c → r.reads ≡ false → (our_bench.report (call_of r d c m ys)).verdict ≡ Fine
+reads_back : (r : Request) (d e : ℕ) (c : Chip) (m : Mem) (ys zs : List ℕ) → Called (call_of r d c m ys) → Typed c → r.reads ≡ false → (our_bench.report (call_of r d c m ys)).verdict ≡ Ok tt
     → RoomBack (call_of r d c m ys) e zs → our_bench.buffer (read_back_lem our_bench (call_of r d c m ys) e zs) ≡ ys ++ drop r.length zs
 reads_back r d e c m ys zs k typed w done room' =
     let z = written enough refl r d c m ys k w in
@@ -413,7 +413,7 @@ bench_promises_lem =
       writes = λ k q w. at_own (Written our_bench) k q (λ q'. written enough refl k.request k.d k.chip k.mem k.buffer q' w);
       reads = λ k q w. at_own (ReadThere our_bench) k q (λ q'. taken enough refl k.request k.d k.chip k.mem k.buffer q' w);
       reads_back = λ k e zs q t w v s.
-          at_own (λ j. (our_bench.report j).verdict ≡ Fine → RoomBack j e zs → our_bench.buffer (read_back_lem our_bench j e zs) ≡ k.buffer ++ drop k.request.length zs) k q
+          at_own (λ j. (our_bench.report j).verdict ≡ Ok tt → RoomBack j e zs → our_bench.buffer (read_back_lem our_bench j e zs) ≡ k.buffer ++ drop k.request.length zs) k q
           (λ q' v' s'. reads_back k.request k.d e k.chip k.mem k.buffer zs q' t w v' s') v s;
       ends = λ k q a h. at_own (Ended our_bench) k q (λ q'. ends enough refl k.request k.d k.chip k.mem k.buffer q' a.writes a.writable h);
       cycle_each = λ k q a.

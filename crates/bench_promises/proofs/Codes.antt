@@ -1,5 +1,6 @@
 -- The bytes that the driver sends are what the chip hears: select codes and addresses.
 -- Assumes nothing.
+use Rattle.std.specs.Prelude.{None, Some}
 use Prim.Native.Nat.{ℕ, ◌+◌, ◌-◌, ◌*◌, ◌/◌, ◌%◌, ◌^◌, ◌≤◌, ◌<◌}
 use mathlib.Core.Path.{◌≡◌, refl, sym, ◌∙◌, ap, subst}
 use mathlib.Core.Bool.{Bool, true, false, cond, false≢true}
@@ -17,8 +18,6 @@ use Rattle.line.specs.declared.Target.{Target}
 use Rattle.line.specs.declared.Target.TheVariants.{Array as TheArray, Ident as TheIdent}
 use Rattle.line.specs.declared.Recv.{Recv}
 use Rattle.line.specs.declared.Recv.TheVariants.{AddressHigh, AddressLow, Fill, LockByte}
-use Rattle.line.specs.declared.Selected.TheVariants.{Miss, Hit}
-use Rattle.line.specs.declared.CycleAsked.TheVariants.{NoCycle}
 use Rattle.line.specs.declared.Phase.TheVariants.{Receive}
 use Rattle.line.specs.declared.Core.{Core}
 use Rattle.line.specs.declared.Act.TheVariants.{Drop}
@@ -34,7 +33,7 @@ use Rattle.bench_promises.specs.Ground.{target_of}
 -- ---- select codes
 
 module _ (f : Facts) (en : ℕ) where
-  named_hit : (p : Place) (b y z : ℕ) → b ≡ select_name_of p + 2 * y + z → y ≤ 7 → z < 2 → there_of f p ≡ true → named_of f b ≡ Hit (target_of p) (eqb z 1)
+  named_hit : (p : Place) (b y z : ℕ) → b ≡ select_name_of p + 2 * y + z → y ≤ 7 → z < 2 → there_of f p ≡ true → named_of f b ≡ Some ((target_of p), (eqb z 1))
   unfolding named_of
   named_hit (Array a) b y z e h o t =
       let d : b % 2 ≡ z = omega arith in
@@ -58,19 +57,19 @@ module _ (f : Facts) (en : ℕ) where
       (λ k. eq-eqb (b / 2 % 8) en (let n = whole_name p in let q = w k in omega arith))
       (λ k. refl)
 
-  pub decode_hit : (p : Place) (b y z : ℕ) → b ≡ select_name_of p + 2 * y + z → y ≤ 7 → z < 2 → (f.wide ≡ true → y ≡ en) → there_of f p ≡ true → decode_of f en b ≡ Hit (target_of p) (eqb z 1)
+  pub decode_hit : (p : Place) (b y z : ℕ) → b ≡ select_name_of p + 2 * y + z → y ≤ 7 → z < 2 → (f.wide ≡ true → y ≡ en) → there_of f p ≡ true → decode_of f en b ≡ Some ((target_of p), (eqb z 1))
   unfolding decode_of
   decode_hit p b y z e h o w t =
-      ap (λ (u : Bool). cond u (named_of f b) Miss) (enabled p b y z e h o w) ∙ named_hit p b y z e h o t
+      ap (λ (u : Bool). cond u (named_of f b) None) (enabled p b y z e h o w) ∙ named_hit p b y z e h o t
 
 -- what follows the select of a write begins no cycle
-pub asks_none : (f : Facts) (t : Target) (b : ℕ) → asks_of (address_start_of f t b) ≡ NoCycle
+pub asks_none : (f : Facts) (t : Target) (b : ℕ) → asks_of (address_start_of f t b) ≡ None
 unfolding address_start_of asks_of
 asks_none f t b = go t
   where
-    go : (t : Target) → asks_of (address_start_of f t b) ≡ NoCycle
-    go TheArray = branch (λ (r : Recv). asks_of r ≡ NoCycle) f.wide (λ _. refl) (λ _. refl)
-    go TheIdent = branch (λ (r : Recv). asks_of r ≡ NoCycle) f.wide (λ _. refl) (λ _. refl)
+    go : (t : Target) → asks_of (address_start_of f t b) ≡ None
+    go TheArray = branch (λ (r : Recv). asks_of r ≡ None) f.wide (λ _. refl) (λ _. refl)
+    go TheIdent = branch (λ (r : Recv). asks_of r ≡ None) f.wide (λ _. refl) (λ _. refl)
 
 pub first_wide : (f : Facts) (p : Place) (b : ℕ) → f.wide ≡ true → address_start_of f (target_of p) b ≡ AddressHigh (target_of p)
 unfolding address_start_of

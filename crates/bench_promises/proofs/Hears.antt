@@ -1,6 +1,7 @@
 -- What the chip does with one event, by its phase: one law for each that the driver meets. `Q` is whatever is to hold of the
 -- line, the latches, the memory, the level and the cycles begun after the event.
 -- Assumes nothing.
+use Rattle.std.specs.Prelude.{Option, None, Some}
 use Prim.Native.Nat.{ℕ, suc, ◌+◌, ◌*◌, ◌%◌, ◌<◌}
 use mathlib.Core.Path.{◌≡◌, refl, sym, ◌∙◌, ap, subst}
 use mathlib.Core.Bool.{Bool, true, false, cond, not, ◌&&◌}
@@ -15,8 +16,6 @@ use Rattle.parts.proofs.Laws.{clock_code}
 use Rattle.line.specs.declared.Target.{Target}
 use Rattle.line.specs.declared.Recv.{Recv}
 use Rattle.line.specs.declared.Cycle.{Cycle}
-use Rattle.line.specs.declared.CycleAsked.{CycleAsked}
-use Rattle.line.specs.declared.CycleAsked.TheVariants.{NoCycle, For}
 use Rattle.line.specs.declared.Phase.{Phase}
 use Rattle.line.specs.declared.Phase.TheVariants.{Idle, Receive, Send, Busy}
 use Rattle.line.specs.declared.Line.{Line}
@@ -111,27 +110,27 @@ module _ (f : Facts) (en : ℕ) (c : Chip) (m : Mem) (Q : Line → List ℕ → 
   unfolding stopped_of stop_act_of stop_begun_of
   stop_busy y e q = stop_at (Busy y) e q
 
-  stop_by : (rc : Recv) (a : CycleAsked) → c.line.phase ≡ Receive rc → due_of (placed_of c.line) (asks_of rc) ≡ a
+  stop_by : (rc : Recv) (a : Option Cycle) → c.line.phase ≡ Receive rc → due_of (placed_of c.line) (asks_of rc) ≡ a
       → Q (stopped_by_lem c.line.core a) (latch_of c.latch (stop_act_by a)) m 2 (begun_by a) → After (event_of 3)
   unfolding stopped_of stop_act_of stop_begun_of
   stop_by rc a e z q =
-      stop_at (Receive rc) e (subst (λ (a : CycleAsked). Q (stopped_by_lem c.line.core a) (latch_of c.latch (stop_act_by a)) m 2 (begun_by a)) (sym z) q)
+      stop_at (Receive rc) e (subst (λ (a : Option Cycle). Q (stopped_by_lem c.line.core a) (latch_of c.latch (stop_act_by a)) m 2 (begun_by a)) (sym z) q)
 
-  due_none : (b : Bool) → due_of b NoCycle ≡ NoCycle
+  due_none : (b : Bool) → due_of b None ≡ None
   due_none true = refl
   due_none false = refl
 
   -- a Stop that begins nothing
-  pub stop_none : (rc : Recv) → c.line.phase ≡ Receive rc → asks_of rc ≡ NoCycle → Q (at c.line.core Idle) no_latch m 2 0 → After (event_of 3)
-  stop_none rc e z q = stop_by rc NoCycle e (ap (due_of (placed_of c.line)) z ∙ due_none (placed_of c.line)) q
+  pub stop_none : (rc : Recv) → c.line.phase ≡ Receive rc → asks_of rc ≡ None → Q (at c.line.core Idle) no_latch m 2 0 → After (event_of 3)
+  stop_none rc e z q = stop_by rc None e (ap (due_of (placed_of c.line)) z ∙ due_none (placed_of c.line)) q
 
   -- a well-placed Stop
-  pub stop_begins : (rc : Recv) (y : Cycle) → c.line.phase ≡ Receive rc → asks_of rc ≡ For y → c.line.left ≡ 8 → c.line.core.inhibited ≡ false
+  pub stop_begins : (rc : Recv) (y : Cycle) → c.line.phase ≡ Receive rc → asks_of rc ≡ Some y → c.line.left ≡ 8 → c.line.core.inhibited ≡ false
       → Q (at c.line.core (Busy y)) c.latch m 2 1 → After (event_of 3)
   unfolding placed_of
   stop_begins rc y e z n i q =
-      stop_by rc (For y) e
-      (ap (due_of (placed_of c.line)) z ∙ (ap (λ (k : ℕ). due_of (eqb k 8 && not c.line.core.inhibited) (For y)) n ∙ ap (λ (b : Bool). due_of (not b) (For y)) i)) q
+      stop_by rc (Some y) e
+      (ap (due_of (placed_of c.line)) z ∙ (ap (λ (k : ℕ). due_of (eqb k 8 && not c.line.core.inhibited) (Some y)) n ∙ ap (λ (b : Bool). due_of (not b) (Some y)) i)) q
 
   -- the end of a cycle
   end_at : (ph : Phase) → c.line.phase ≡ ph → Q (ended_of f c.line ph) (latch_of c.latch (end_act_of ph)) (stored_of f c.line c.latch m ph) 2 0 → After Ends

@@ -1,5 +1,6 @@
 -- Each run that only seems to work breaks the promise that is named, by one byte on a chip as delivered.
 -- Assumes nothing.
+use Rattle.std.specs.Prelude.{Ok, Err}
 use Prim.Native.Nat.{ℕ, zero, suc, ◌<◌}
 use mathlib.Core.Path.{◌≡◌, refl, sym, ◌∙◌, ap}
 use mathlib.Core.Bool.{Bool, true, false, cond, false≢true}
@@ -9,8 +10,7 @@ use native.Mathlib.Omega.{arith}
 use Rattle.parts.specs.declared.Facts.{Facts}
 use Rattle.parts.specs.declared.Refusal.{Refusal}
 use Rattle.parts.specs.declared.Refusal.TheVariants.{NoPart, WrongEnable, NoSelect}
-use Rattle.parts.specs.declared.Verdict.{Verdict}
-use Rattle.parts.specs.declared.Verdict.TheVariants.{Fine, Refused as Judged}
+use Rattle.parts.specs.Verdict.{Verdict}
 use Rattle.parts.specs.Table.{facts_of, id_size_of, enable_right_of, buffers_right_of}
 use Rattle.parts.specs.Events.{event_with}
 use Rattle.parts.specs.Refusals.{number_of, verdict_number_of, sooner_of, lent_verdict_of, is_fine}
@@ -111,7 +111,7 @@ module _ (B : Bench) where
   abbrev reported : Bool → ℕ → Report
   reported reads d = B.report (call reads d)
 
-  ended : EndsKept B → ((reported false 1).verdict ≡ Fine) × ((reported false 1).cycles ≡ 1)
+  ended : EndsKept B → ((reported false 1).verdict ≡ Ok tt) × ((reported false 1).cycles ≡ 1)
   ended p =
       let e = p (call false 1) writes (free 1) (omega arith) in
       (e.done, e.cycles ∙ one_page)
@@ -122,10 +122,10 @@ module _ (B : Bench) where
   read : ReadsKept B → get_or (B.buffer (call true 1)) 0 0 ≡ 255
   read p = ap (λ (l : List ℕ). get_or l 0 0) (p (call true 1) reads refl).buffer
 
-  read_done : ReadsKept B → (reported true 1).verdict ≡ Fine
+  read_done : ReadsKept B → (reported true 1).verdict ≡ Ok tt
   read_done p = (p (call true 1) reads refl).done
 
-refused : (x : Refusal) (v : Verdict) → v ≡ Judged x → v ≡ Fine → ⊥
+refused : (x : Refusal) (v : Verdict) → v ≡ Err x → v ≡ Ok tt → ⊥
 refused x v e f = false≢true (ap is_fine (sym e ∙ f))
 
 -- ---- what refuses everything
@@ -142,7 +142,7 @@ astray part enable =
       buffer = byte;
     }
 
-two_numbers : (verdict_of (astray 6 0) ≡ Judged NoPart) × (verdict_of (astray 0 1) ≡ Judged WrongEnable)
+two_numbers : (verdict_of (astray 6 0) ≡ Err NoPart) × (verdict_of (astray 0 1) ≡ Err WrongEnable)
 unfolding bench_verdict_of judge_of other_length_of short_of late_of sooner_of lent_verdict_of held_verdict_of facts_of id_size_of enable_right_of buffers_right_of marks_right_of pin_right_of lock_right_of phase_right_of rest_right_of in_range_of beyond_at limit_of standby_of pin_at_first_of no_latch
 two_numbers = (refl, refl)
 
@@ -168,17 +168,17 @@ unfolding end_due_of turns_of
 rests_refusing x true = record { due = refl; sent = refl }
 rests_refusing x false = record { due = refl; sent = refl }
 
-refusing_driver_lem : (x : Refusal) (reads : Bool) → Called (call reads 1) → (reported (bench_under (refusing_driver x) ours) reads 1).verdict ≡ Judged x
+refusing_driver_lem : (x : Refusal) (reads : Bool) → Called (call reads 1) → (reported (bench_under (refusing_driver x) ours) reads 1).verdict ≡ Err x
 refusing_driver_lem x reads k =
     ap (λ (p : Report). p.verdict) (report_is (refusing_driver x) ours (one reads) 1 chip₀ mem₀ byte 0 k.fine (omega arith) (rests_refusing x reads))
 
 pub refusing_run_breaks : RefusingRunBreaks
 refusing_run_breaks =
     record {
-      judge = λ x p. refused x (Judged x) refl (fine (Judged x) (in_order (refusing_judge x) p));
+      judge = λ x p. refused x (Err x) refl (fine (Err x) (in_order (refusing_judge x) p));
       table = table_breaks;
-      reads = λ x p. refused x (Judged x) refl (read_done (refusing_bench x) p);
-      ends = λ x p. refused x (Judged x) refl (ended (refusing_bench x) p).0;
+      reads = λ x p. refused x (Err x) refl (read_done (refusing_bench x) p);
+      ends = λ x p. refused x (Err x) refl (ended (refusing_bench x) p).0;
       driver_reads = λ x p. refused x _ (refusing_driver_lem x true reads) (read_done (bench_under (refusing_driver x) ours) p);
       driver_ends = λ x p. refused x _ (refusing_driver_lem x false writes) (ended (bench_under (refusing_driver x) ours) p).0;
     }
@@ -226,7 +226,7 @@ record Computed : Type 0 where
   high_written : Ran (constant 1) false 1 (Refused (NoSelect 0) 0 0)
   forgotten : Ran forgetful false 1 (Done 1 1)
   nothing_stored : get_or (ran forgetful false 1).mem.cells 0 0 ≡ 255
-  again_fine : bench_verdict (one true) 0 1 (ran forgetful false 1).chip (ran forgetful false 1).mem byte ≡ Fine
+  again_fine : bench_verdict (one true) 0 1 (ran forgetful false 1).chip (ran forgetful false 1).mem byte ≡ Ok tt
   again_rests : Rests our_driver 1 again
   again_byte : get_or (again.buffer ++ []) 0 0 ≡ 255
   none_begun : Ran silent false 1 (Done 1 1)

@@ -1,5 +1,6 @@
 -- Each asking of the driver keeps the relation, one law for each way of a step; so does each end of a cycle.
 -- Assumes nothing.
+use Rattle.std.specs.Prelude.{Some, Option}
 use Prim.Native.Nat.{ℕ, zero, suc, ◌+◌, ◌-◌, ◌*◌, ◌/◌, ◌%◌, ◌^◌, ◌≤◌, ◌<◌}
 use mathlib.Core.Path.{◌≡◌, refl, sym, ◌∙◌, ap, subst}
 use mathlib.Core.Bool.{Bool, true, false, cond, ◌||◌, false≢true}
@@ -23,7 +24,6 @@ use Rattle.line.specs.declared.Target.{Target}
 use Rattle.line.specs.declared.Target.TheVariants.{Array as TheArray, Ident as TheIdent}
 use Rattle.line.specs.declared.Recv.{Recv}
 use Rattle.line.specs.declared.Recv.TheVariants.{Select as SelectByte, AddressHigh, AddressLow, Fill}
-use Rattle.line.specs.declared.Selected.TheVariants.{Hit}
 use Rattle.line.specs.declared.Cycle.TheVariants.{Writing}
 use Rattle.line.specs.declared.Phase.TheVariants.{Idle, Receive, Send as Sending, Busy}
 use Rattle.line.specs.declared.Core.{Core}
@@ -53,7 +53,6 @@ use Rattle.chip_promises.specs.States.{NotBusy}
 use Rattle.bench_promises.proofs.Hears.{After, bit_heard, ninth_heard, deaf_heard, sent_heard, end_heard, start_free, start_busy, stop_idle, stop_busy, stop_none, stop_begins, end_free, end_busy}
 use Rattle.bench_promises.proofs.Wrote.{wrote, less_or_same, commit_none, commit_more, cells_with, with_with}
 use Rattle.bench_promises.proofs.Codes.{decode_hit, asks_none, first_wide, first_narrow, Placed, room_most, load_is, shown_is, moved_last, register_step, inside_page}
-use Rattle.line.specs.declared.Selected.{Selected}
 use Rattle.line.specs.declared.Phase.{Phase as ChipPhase}
 use Rattle.line.specs.declared.After.{After as Outcome}
 use Rattle.bench_promises.proofs.Rel.{Taking, refusing, Given, F, T, from, W, there, select_b, high_b, low_b, Heading, Lower, Filling, Filled, Dropped, Running, Settled, Pending, Polled, Reading, Read, InBits, InHeard, At, Buffer, Rel}
@@ -98,7 +97,7 @@ module _ (g : Given) (s : Sane g) where
   in_place : (x : ℕ) → x < r.length → Placed (F g) r.place (from g + x)
   in_place x h = record { there = s.good.there; room = omega (arith, s.good.fits) }
 
-  select_hit : (x z : ℕ) → z < 2 → (b : ℕ) → b ≡ select_b g x + z → decode_of (F g) r.enable b ≡ Hit (T g) (eqb z 1)
+  select_hit : (x z : ℕ) → z < 2 → (b : ℕ) → b ≡ select_b g x + z → decode_of (F g) r.enable b ≡ Some ((T g), (eqb z 1))
   unfolding select_at
   select_hit x z o b e =
       decode_hit (F g) r.enable r.place b (cond (F g).wide r.enable ((from g + x) / 256 % 8)) z e
@@ -149,12 +148,12 @@ module _ (g : Given) (s : Sane g) where
 
     -- the ninth clock of a select code that names the request's memory
     select_ninth : (Q : Line → List ℕ → Mem → ℕ → ℕ → Type 0) (b v z x : ℕ) → b ≡ 8 → z < 2 → v ≡ select_b g x + z → Taking SelectByte b v l
-        → Q (landed (selected_of (F g) l.core v (Hit (T g) (eqb z 1)))) (latch_of ch.latch (selected_of (F g) l.core v (Hit (T g) (eqb z 1))).act) m (released_in (selected_of (F g) l.core v (Hit (T g) (eqb z 1))).phase) 0
+        → Q (landed (selected_of (F g) l.core v (Some ((T g), (eqb z 1))))) (latch_of ch.latch (selected_of (F g) l.core v (Some ((T g), (eqb z 1)))).act) m (released_in (selected_of (F g) l.core v (Some ((T g), (eqb z 1)))).phase) 0
         → After' Q 1
     unfolding taken_of
     select_ninth Q b v z x e o k t q =
         take_ninth Q SelectByte b v e t
-        (subst (λ (h : Selected). Q (landed (selected_of (F g) l.core v h)) (latch_of ch.latch (selected_of (F g) l.core v h).act) m (released_in (selected_of (F g) l.core v h).phase) 0) (sym (select_hit x z o v k)) q)
+        (subst (λ (h : Option (Target × Bool)). Q (landed (selected_of (F g) l.core v h)) (latch_of ch.latch (selected_of (F g) l.core v h).act) m (released_in (selected_of (F g) l.core v h).phase) 0) (sym (select_hit x z o v k)) q)
 
     -- ---- the steps, each with what is to hold after it
     abbrev pub Goal : Type 1

@@ -1,13 +1,13 @@
 -- The stored worst of a run of driver and chip is what the walk would find, and any other is refused.
 -- Assumes nothing.
+use Rattle.std.specs.Prelude.{Ok, Err}
 use Prim.Native.Nat.{ℕ}
 use mathlib.Core.Path.{◌≡◌, ◌∙◌, refl, ap, subst⁻¹}
 use mathlib.Core.List.{List}
 use lib.Dec.{ltb}
 use Rattle.parts.specs.declared.Refusal.{Refusal}
 use Rattle.parts.specs.declared.Refusal.TheVariants.{BadState}
-use Rattle.parts.specs.declared.Verdict.{Verdict}
-use Rattle.parts.specs.declared.Verdict.TheVariants.{Fine, Refused}
+use Rattle.parts.specs.Verdict.{Verdict}
 use Rattle.parts.specs.Table.{facts_of}
 use Rattle.parts.specs.Refusals.{rank_of, sooner_of}
 use Rattle.parts.proofs.Laws.{branch}
@@ -32,8 +32,8 @@ module _ (r : Request) (own d : ℕ) (c : Chip) (m : Mem) (buffer counts : List 
   judged = worn_verdict r own d c m buffer counts
 
   kept_by : worst ≡ most_of counts → (v : Verdict) → (left v).worst ≡ most_of (left v).worn.counts
-  kept_by e Fine = refl
-  kept_by e (Refused x) = e
+  kept_by e (Ok _) = refl
+  kept_by e (Err x) = e
 
   -- told, and nothing changed
   abbrev Unchanged : Verdict → Type 0
@@ -45,14 +45,14 @@ module _ (r : Request) (own d : ℕ) (c : Chip) (m : Mem) (buffer counts : List 
       × ((left v).worn.left.buffer ≡ buffer)
       × ((left v).worn.left.report.chip ≡ c)
 
-  by_refusal : (x : Refusal) → Unchanged (Refused x)
+  by_refusal : (x : Refusal) → Unchanged (Err x)
   by_refusal x = (refl, refl, refl, refl, refl, refl)
 
   -- 4, or what goes before it: a refusal
-  by_four : (v : Verdict) → Unchanged (sooner_of (Refused BadState) v)
+  by_four : (v : Verdict) → Unchanged (sooner_of (Err BadState) v)
   unfolding sooner_of
-  by_four Fine = by_refusal BadState
-  by_four (Refused s) = branch Unchanged (ltb (rank_of s) (rank_of BadState)) (λ _. by_refusal s) (λ _. by_refusal BadState)
+  by_four (Ok _) = by_refusal BadState
+  by_four (Err s) = branch Unchanged (ltb (rank_of s) (rank_of BadState)) (λ _. by_refusal s) (λ _. by_refusal BadState)
 
   by_unborne : (worst ≡ most_of counts → ⊥) → Unchanged (bench_kept_verdict r own d c m buffer counts worst)
   by_unborne o = subst⁻¹ (λ (v : Verdict). Unchanged (sooner_of v judged)) (unborne counts worst o) (by_four judged)

@@ -1,5 +1,6 @@
 -- The numbers of a run of driver and chip are given in document 01's order.
 -- Assumes nothing.
+use Rattle.std.specs.Prelude.{Ok, Err}
 use Prim.Native.Nat.{ℕ, ◌+◌, ◌<◌, ◌≤◌}
 use mathlib.Core.Path.{◌≡◌, refl, sym, ap, ◌∙◌}
 use mathlib.Core.Bool.{Bool, true, false, not, cond}
@@ -12,8 +13,7 @@ use native.Mathlib.Decide.{ℕ_discrete}
 use borrow.Author.Tests.{lt-ltb, le-ltb, eq-eqb, ne_eqb}
 use Rattle.parts.specs.declared.Refusal.{Refusal}
 use Rattle.parts.specs.declared.Refusal.TheVariants.{NoPart, WrongEnable, WrongBuffer, BadState, ShortBuffer, Beyond, BadLimit}
-use Rattle.parts.specs.declared.Verdict.{Verdict}
-use Rattle.parts.specs.declared.Verdict.TheVariants.{Fine, Refused}
+use Rattle.parts.specs.Verdict.{Verdict}
 use Rattle.parts.specs.Table.{facts_of, enable_right_of, buffers_right_of}
 use Rattle.parts.specs.Refusals.{number_of, rank_of, verdict_number_of, claim_of, sooner_of, lent_verdict_of}
 use Rattle.parts.proofs.Laws.{known}
@@ -195,10 +195,10 @@ module _ (k : BenchCall) where
         delay = later_claim (rank_of x) (late_of d) BadLimit h;
       }
 
-  by_request : (x : Refusal) → judge_of r ≡ Refused x → Within (rank_of x) given
+  by_request : (x : Refusal) → judge_of r ≡ Err x → Within (rank_of x) given
   by_request x e = within_left (rank_of x) (judge_of r) (sooner_of held (sooner_of other (sooner_of short late))) (is_within x (judge_of r) e)
 
-  by_chip : (x : Refusal) → held ≡ Refused x → Within (rank_of x) given
+  by_chip : (x : Refusal) → held ≡ Err x → Within (rank_of x) given
   by_chip x e =
       within_right (rank_of x) (judge_of r) (sooner_of held (sooner_of other (sooner_of short late)))
       (within_left (rank_of x) held (sooner_of other (sooner_of short late)) (is_within x held e))
@@ -210,8 +210,8 @@ module _ (k : BenchCall) where
   number_1 : 5 < r.part → verdict_number_of (verdict_of k) ≡ 1
   number_1 h =
       let a = judged_1 r h in
-      number NoPart (early NoPart (omega arith) (is_later (rank_of NoPart) (judge_of r) (Refused NoPart) a (omega arith))
-      (is_later (rank_of NoPart) held (Refused NoPart) (held_1 r.part en c (length m.cells) (length m.ident) h) (omega arith)))
+      number NoPart (early NoPart (omega arith) (is_later (rank_of NoPart) (judge_of r) (Err NoPart) a (omega arith))
+      (is_later (rank_of NoPart) held (Err NoPart) (held_1 r.part en c (length m.cells) (length m.ident) h) (omega arith)))
       (by_request NoPart a)
 
   number_2 : r.part ≤ 5 → ((facts_of r.part).enables ≤ r.enable) ⊎ ((facts_of r.part).enables ≤ en) → verdict_number_of (verdict_of k) ≡ 2
@@ -223,9 +223,9 @@ module _ (k : BenchCall) where
       by (inr g) = by_chip WrongEnable (held_2 r.part en c (length m.cells) (length m.ident) n g)
 
   -- 3 and 4 of the chip
-  of_chip : (x : Refusal) → rank_of x ≤ rank_of BadState → Enabled r → held ≡ Refused x → verdict_number_of (verdict_of k) ≡ number_of x
+  of_chip : (x : Refusal) → rank_of x ≤ rank_of BadState → Enabled r → held ≡ Err x → verdict_number_of (verdict_of k) ≡ number_of x
   of_chip x h e g =
-      number x (early x h (judge_later r (rank_of x) (omega (arith, h)) e) (is_later (rank_of x) held (Refused x) g (omega arith))) (by_chip x g)
+      number x (early x h (judge_later r (rank_of x) (omega (arith, h)) e) (is_later (rank_of x) held (Err x) g (omega arith))) (by_chip x g)
 
   number_4 : Placed k → r.reads ≡ false → (length ys ≡ r.length → ⊥) → verdict_number_of (verdict_of k) ≡ 4
   number_4 p w h =

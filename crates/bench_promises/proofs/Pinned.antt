@@ -1,5 +1,6 @@
 -- Two runs that keep the four promises are one.
 -- Assumes nothing.
+use Rattle.std.specs.Prelude.{Ok, Err}
 use Prim.Native.Nat.{ℕ, ◌+◌, ◌<◌}
 use mathlib.Core.Path.{◌≡◌, refl, sym, ◌∙◌, ap, subst}
 use mathlib.Core.Bool.{Bool, true, false, cond, ◌&&◌}
@@ -8,8 +9,7 @@ use lib.ListN.{length, get_or, take, drop}
 use lib.Dec.{eqb}
 use native.Mathlib.Omega.{arith}
 use Rattle.parts.specs.declared.Refusal.{Refusal}
-use Rattle.parts.specs.declared.Verdict.{Verdict}
-use Rattle.parts.specs.declared.Verdict.TheVariants.{Fine, Refused as Judged}
+use Rattle.parts.specs.Verdict.{Verdict}
 use Rattle.parts.specs.Table.{facts_of}
 use Rattle.state.specs.declared.Chip.{Chip}
 use Rattle.chip.specs.Memory.{Mem}
@@ -180,10 +180,10 @@ module _ (B C : Bench) (b : Settled B) (o : Settled C) (call : BenchCall) where
   abbrev M₀ : Model
   M₀ = ours (facts_of r.part) call.own
 
-  abbrev its_own : verdict_of call ≡ Fine → Accepted r (take r.length ys)
+  abbrev its_own : verdict_of call ≡ Ok tt → Accepted r (take r.length ys)
   its_own = accepted r call.own call.d c m ys
 
-  refused_alike : (x : Refusal) → verdict_of call ≡ Judged x → SameRun B C call
+  refused_alike : (x : Refusal) → verdict_of call ≡ Err x → SameRun B C call
   refused_alike x f =
       let p = b.refuses call x f in
       let q = o.refuses call x f in
@@ -195,7 +195,7 @@ module _ (B C : Bench) (b : Settled B) (o : Settled C) (call : BenchCall) where
         levels = p.levels ∙ sym q.levels;
       }
 
-  module _ (f : verdict_of call ≡ Fine) where
+  module _ (f : verdict_of call ≡ Ok tt) where
     abbrev xs : List ℕ
     xs = take r.length ys
 
@@ -237,8 +237,8 @@ pub bench_pinned : BenchPinned
 bench_pinned B C b o call = go (verdict_of call) refl
   where
     go : (v : Verdict) → verdict_of call ≡ v → SameRun B C call
-    go Fine f = fine_alike B C b o call f
-    go (Judged x) f = refused_alike B C b o call x f
+    go (Ok _) f = fine_alike B C b o call f
+    go (Err x) f = refused_alike B C b o call x f
 
 settled : (B : Bench) → BenchPromises B → Settled B
 settled B p = record { refuses = p.refuses; drives = p.drives; ends_at = p.ends_at; replays = p.replays }

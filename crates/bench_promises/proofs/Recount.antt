@@ -1,12 +1,12 @@
 -- How many cycles a chip says it begins changes nothing that a driver sends.
 -- Assumes nothing.
+use Rattle.std.specs.Prelude.{Ok, Err}
 use Prim.Native.Nat.{ℕ, zero, suc}
 use mathlib.Core.Path.{◌≡◌, refl, ◌∙◌, ap}
 use mathlib.Core.Bool.{Bool, true, false, cond}
 use mathlib.Core.List.{List, ◌++◌}
 use Rattle.parts.specs.declared.Facts.{Facts}
-use Rattle.parts.specs.declared.Verdict.{Verdict}
-use Rattle.parts.specs.declared.Verdict.TheVariants.{Fine, Refused as Judged}
+use Rattle.parts.specs.Verdict.{Verdict}
 use Rattle.parts.specs.Table.{facts_of}
 use Rattle.state.specs.declared.Chip.{Chip}
 use Rattle.chip.specs.Memory.{Mem}
@@ -60,8 +60,8 @@ module _ (D : Machine) (count : Chip → ℕ → ℕ) (f : Facts) (en : ℕ) whe
 -- refused or not
 tape_by_lem : (D : Machine) (count : Chip → ℕ → ℕ) (r : Request) (en d : ℕ) (c : Chip) (m : Mem) (ys : List ℕ) (v : Verdict)
     → (bench_by D (inventing_model count (facts_of r.part) en) r d c m ys v).events ≡ (bench_by D (ours (facts_of r.part) en) r d c m ys v).events
-tape_by_lem D count r en d c m ys Fine = tape D count (facts_of r.part) en d enough 0 (outset_of r c m ys)
-tape_by_lem D count r en d c m ys (Judged x) = refl
+tape_by_lem D count r en d c m ys (Ok _) = tape D count (facts_of r.part) en d enough 0 (outset_of r c m ys)
+tape_by_lem D count r en d c m ys (Err x) = refl
 
 pub same_events : (D : Machine) (count : Chip → ℕ → ℕ) (r : Request) (en d : ℕ) (c : Chip) (m : Mem) (ys : List ℕ)
     → (bench_over D (inventing_model count) r en d c m ys).events ≡ (bench_over D ours r en d c m ys).events

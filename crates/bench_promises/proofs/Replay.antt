@@ -1,5 +1,6 @@
 -- The tape of a run, given to the same chip by the chip's own definitions, is the run.
 -- Assumes nothing.
+use Rattle.std.specs.Prelude.{Ok, Err}
 use Prim.Native.Nat.{ℕ, zero, suc, ◌+◌}
 use mathlib.Core.Path.{◌≡◌, refl, ◌∙◌, ap, subst}
 use mathlib.Core.Bool.{Bool, true, false, cond}
@@ -7,8 +8,7 @@ use mathlib.Core.List.{List, [], ◌∷◌, ◌++◌}
 use lib.ListN.{take}
 use native.Mathlib.Omega.{arith}
 use Rattle.parts.specs.declared.Facts.{Facts}
-use Rattle.parts.specs.declared.Verdict.{Verdict}
-use Rattle.parts.specs.declared.Verdict.TheVariants.{Fine, Refused as Judged}
+use Rattle.parts.specs.Verdict.{Verdict}
 use Rattle.parts.specs.Table.{facts_of}
 use Rattle.parts.specs.Events.{event_with}
 use Rattle.line.specs.Rules.{level_of, begun_of}
@@ -106,7 +106,7 @@ module _ (r : Request) (en d : ℕ) (c : Chip) (m : Mem) (ys : List ℕ) where
   first = start_of r (take r.length ys) c m
 
   -- n: the turns, a name so that nobody counts them
-  all : (n : ℕ) → n ≡ enough → Played F en first (final_of our_driver (ours (facts_of r.part) en) r d c m ys) (bench_by our_driver (ours (facts_of r.part) en) r d c m ys Fine).events (bench_by our_driver (ours (facts_of r.part) en) r d c m ys Fine).levels
+  all : (n : ℕ) → n ≡ enough → Played F en first (final_of our_driver (ours (facts_of r.part) en) r d c m ys) (bench_by our_driver (ours (facts_of r.part) en) r d c m ys (Ok tt)).events (bench_by our_driver (ours (facts_of r.part) en) r d c m ys (Ok tt)).levels
   unfolding final_of
   all n e = subst (λ (i : ℕ). Played F en first (turns_of our_driver (ours F en) d i first) (tape_events_of our_driver (ours F en) d i first) (tape_levels_of our_driver (ours F en) d i first)) e (turns F en d n first)
 
@@ -120,12 +120,12 @@ module _ (r : Request) (en d : ℕ) (c : Chip) (m : Mem) (ys : List ℕ) where
 
   pub by : (v : Verdict) → By v
   unfolding after_of memory_of levels_of cycles_of
-  by Fine =
+  by (Ok _) =
       let p = all enough refl in
       let z = final_of our_driver (ours (facts_of r.part) en) r d c m ys in
       let q = parts z (last_of our_driver (ours F en) d enough (Done 0 0) first) in
       record { state = p.state ∙ q.0; memory = p.mem; levels = p.levels; cycles = omega (arith, p.cycles, q.1); clocks = omega (arith, p.clocks, q.2) }
-  by (Judged x) = record { state = refl; memory = refl; levels = refl; cycles = refl; clocks = refl }
+  by (Err x) = record { state = refl; memory = refl; levels = refl; cycles = refl; clocks = refl }
 
 pub replayed : ReplaysKept our_bench
 replayed k =

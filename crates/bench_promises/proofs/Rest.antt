@@ -1,6 +1,7 @@
 -- A run of any driver on any chip: once no end is due and nothing is sent, no turn changes anything, so the run that the call takes is
 -- the run up to there.
 -- Assumes nothing.
+use Rattle.std.specs.Prelude.{Ok}
 use Prim.Native.Nat.{ℕ, zero, suc, ◌≤◌, ◌<◌}
 use mathlib.Core.Path.{◌≡◌, refl, sym, ◌∙◌, ap}
 use mathlib.Core.Bool.{Bool, false, cond, false≢true}
@@ -8,8 +9,7 @@ use mathlib.Core.List.{List, ◌++◌}
 use lib.ListN.{drop}
 use native.Mathlib.Omega.{arith}
 use Rattle.parts.specs.declared.Facts.{Facts}
-use Rattle.parts.specs.declared.Verdict.{Verdict}
-use Rattle.parts.specs.declared.Verdict.TheVariants.{Fine}
+use Rattle.parts.specs.Verdict.{Verdict}
 use Rattle.parts.specs.Table.{facts_of}
 use Rattle.state.specs.declared.Chip.{Chip}
 use Rattle.chip.specs.Memory.{Mem}
@@ -70,7 +70,7 @@ module _ (D : Machine) (M : Facts → ℕ → Model) (r : Request) (d : ℕ) (c 
   abbrev pub after : System
   after = turns_of D (M (facts_of r.part) r.enable) d n (outset_of r c m ys)
 
-  module _ (fine : bench_verdict r r.enable d c m ys ≡ Fine) (few : n < enough) (h : Rests D d after) where
+  module _ (fine : bench_verdict r r.enable d c m ys ≡ Ok tt) (few : n < enough) (h : Rests D d after) where
     final : final_of D (M (facts_of r.part) r.enable) r d c m ys ≡ after
     unfolding final_of
     final = turns_rest D (M (facts_of r.part) r.enable) d n enough (outset_of r c m ys) (omega (arith, few)) h

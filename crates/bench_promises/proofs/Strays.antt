@@ -1,5 +1,6 @@
 -- Each run that strays from ours on the tape breaks its promise.
 -- Assumes nothing.
+use Rattle.std.specs.Prelude.{Ok}
 use Prim.Native.Nat.{ℕ, zero, suc, ◌+◌, ◌-◌, ◌≤◌, ◌<◌}
 use mathlib.Core.Path.{◌≡◌, refl, sym, ◌∙◌, ap, subst}
 use mathlib.Core.Bool.{Bool, true, false, cond, ◌&&◌}
@@ -11,7 +12,6 @@ use native.Mathlib.Omega.{arith}
 use borrow.Author.Tests.{ne_eqb}
 use Rattle.parts.specs.declared.Facts.{Facts}
 use Rattle.parts.specs.declared.Refusal.TheVariants.{BadLimit}
-use Rattle.parts.specs.declared.Verdict.TheVariants.{Fine}
 use Rattle.parts.specs.Table.{facts_of, id_size_of, enable_right_of, buffers_right_of}
 use Rattle.parts.specs.Refusals.{claim_of, sooner_of, lent_verdict_of}
 use Rattle.parts.specs.Bytes.{AllBelow}
@@ -116,23 +116,23 @@ both : (n i : ℕ) (t : Target) → AllBelow 256 (cells_of t (mem₀ n i))
 both n i TheArray = same_bytes n
 both n i TheIdent = same_bytes i
 
-called : (budget d : ℕ) → verdict_of (call budget d) ≡ Fine → Called (call budget d)
+called : (budget d : ℕ) → verdict_of (call budget d) ≡ Ok tt → Called (call budget d)
 unfolding standby_of
 called budget d f = record { fine = f; enabled = refl; idle = refl; stored = both 2048 16; lent = (omega arith, tt) }
 
-fine_one : verdict_of (call 1 1) ≡ Fine
+fine_one : verdict_of (call 1 1) ≡ Ok tt
 unfolding bench_verdict_of judge_of other_length_of short_of late_of sooner_of lent_verdict_of held_verdict_of facts_of id_size_of enable_right_of buffers_right_of marks_right_of pin_right_of lock_right_of phase_right_of rest_right_of in_range_of beyond_at limit_of standby_of pin_at_first_of no_latch
 fine_one = refl
 
-fine_two : verdict_of (call 1 2) ≡ Fine
+fine_two : verdict_of (call 1 2) ≡ Ok tt
 unfolding bench_verdict_of judge_of other_length_of short_of late_of sooner_of lent_verdict_of held_verdict_of facts_of id_size_of enable_right_of buffers_right_of marks_right_of pin_right_of lock_right_of phase_right_of rest_right_of in_range_of beyond_at limit_of standby_of pin_at_first_of no_latch
 fine_two = refl
 
-fine_late : (d : ℕ) → late_of d ≡ false → verdict_of (call 2 d) ≡ Fine
+fine_late : (d : ℕ) → late_of d ≡ false → verdict_of (call 2 d) ≡ Ok tt
 unfolding bench_verdict_of judge_of other_length_of short_of sooner_of lent_verdict_of held_verdict_of facts_of id_size_of enable_right_of buffers_right_of marks_right_of pin_right_of lock_right_of phase_right_of rest_right_of in_range_of beyond_at limit_of standby_of pin_at_first_of no_latch
 fine_late d e = ap (λ (b : Bool). claim_of b BadLimit) e
 
-fine_other : verdict_of other ≡ Fine
+fine_other : verdict_of other ≡ Ok tt
 unfolding bench_verdict_of judge_of other_length_of short_of late_of sooner_of lent_verdict_of held_verdict_of facts_of id_size_of enable_right_of buffers_right_of marks_right_of pin_right_of lock_right_of phase_right_of rest_right_of in_range_of beyond_at limit_of standby_of pin_at_first_of no_latch
 fine_other = refl
 

@@ -1,5 +1,6 @@
 -- The tape of the run: every call that is not refused is our driver's run, on any chip.
 -- Assumes nothing.
+use Rattle.std.specs.Prelude.{Ok, Err}
 use Prim.Native.Nat.{ℕ, suc, ◌+◌, ◌-◌, ◌*◌, ◌≤◌, ◌<◌}
 use mathlib.Core.Path.{◌≡◌, refl, sym, ◌∙◌, ap, subst}
 use mathlib.Core.Bool.{Bool, true, false, cond, false≢true}
@@ -8,8 +9,7 @@ use lib.ListN.{length, take, drop, length-take}
 use lib.Dec.{eqb, ltb}
 use native.Mathlib.Omega.{arith}
 use borrow.Author.Tests.{eqb-true, le-ltb}
-use Rattle.parts.specs.declared.Verdict.{Verdict}
-use Rattle.parts.specs.declared.Verdict.TheVariants.{Fine, Refused as Judged}
+use Rattle.parts.specs.Verdict.{Verdict}
 use Rattle.parts.specs.Table.{facts_of}
 use Rattle.parts.specs.Refusals.{is_fine}
 use Rattle.state.specs.declared.Chip.{Chip}
@@ -77,7 +77,7 @@ module _ (r : Request) (ys : List ℕ) (a : Accepted r (take r.length ys)) (M : 
         buffer = ap (λ (k : DriverHeld). k.buffer ++ drop r.length ys) (sym h);
       }
 
-module _ (r : Request) (en d : ℕ) (c : Chip) (m : Mem) (ys : List ℕ) (fine : bench_verdict r en d c m ys ≡ Fine) where
+module _ (r : Request) (en d : ℕ) (c : Chip) (m : Mem) (ys : List ℕ) (fine : bench_verdict r en d c m ys ≡ Ok tt) where
   abbrev M₀ : Model
   M₀ = ours (facts_of r.part) en
 
@@ -90,7 +90,7 @@ module _ (r : Request) (en d : ℕ) (c : Chip) (m : Mem) (ys : List ℕ) (fine :
   abbrev DrivenBy : BenchLeft → Type 0
   DrivenBy x = Driven r ys x.report x.buffer x.events x.levels
 
-  by_turns : (n : ℕ) → n ≡ enough → DrivenBy (bench_by our_driver M₀ r d c m ys Fine)
+  by_turns : (n : ℕ) → n ≡ enough → DrivenBy (bench_by our_driver M₀ r d c m ys (Ok tt))
   unfolding final_of
   by_turns n e =
       let s = start_of r (take r.length ys) c m in
@@ -112,7 +112,7 @@ without_clocks (e ∷ es) = go (eqb e 4) refl (without_clocks es)
     go false z k = omega arith
 
 -- the answer was done, and the clocks on the tape are those of the events sent
-done_as : (r : Request) (ys : List ℕ) (p : Report) (left es ls : List ℕ) → Accepted r (take r.length ys) → Driven r ys p left es ls → p.verdict ≡ Fine
+done_as : (r : Request) (ys : List ℕ) (p : Report) (left es ls : List ℕ) → Accepted r (take r.length ys) → Driven r ys p left es ls → p.verdict ≡ Ok tt
     → DoneOf our_driver r (take r.length ys) (told_on es ls) 0 r.reads p.polls × (clocks_in es ≡ clocks_in (sent our_driver r (take r.length ys) (told_on es ls) 0))
 done_as r ys p left es ls a v f = (go (answers our_driver r (take r.length ys) (told_on es ls) 0) refl (v.answer 0), sym (without_clocks es) ∙ ap clocks_in v.events)
   where
@@ -121,7 +121,7 @@ done_as r ys p left es ls a v f = (go (answers our_driver r (take r.length ys) (
     go (Done q n) z k = subst (DoneOf our_driver r (take r.length ys) (told_on es ls) 0 r.reads) (sym k.1) (promises.done_all r (take r.length ys) a (told_on es ls) 0 q n z).plan
     go (Refused x q n) z k = absurd (false≢true (ap is_fine (sym k.0 ∙ f)))
 
-module _ (r : Request) (ys : List ℕ) (p : Report) (left es ls : List ℕ) (a : Accepted r (take r.length ys)) (v : Driven r ys p left es ls) (f : p.verdict ≡ Fine) where
+module _ (r : Request) (ys : List ℕ) (p : Report) (left es ls : List ℕ) (a : Accepted r (take r.length ys)) (v : Driven r ys p left es ls) (f : p.verdict ≡ Ok tt) where
   pub done_clocks : r.reads ≡ false → clocks_in es ≡ 9 * (k_of r * (1 + address_bytes r) + r.length + p.polls)
   done_clocks w =
       let t = done_as r ys p left es ls a v f in
@@ -147,9 +147,9 @@ module _ (r : Request) (en d : ℕ) (c : Chip) (m : Mem) (ys : List ℕ) where
   ends_at = go (bench_verdict r en d c m ys) refl
     where
       go : (v : Verdict) → bench_verdict r en d c m ys ≡ v → EndsAt d (bench_by our_driver (ours (facts_of r.part) en) r d c m ys v).events
-      go Fine f =
+      go (Ok _) f =
           let x = start_of r (take r.length ys) c m in
           let a = accepted r en d c m ys f in
           let o = run_first r en d c (length m.cells) (length m.ident) (length ys) f in
           tape_placed r d o (ours (facts_of r.part) en) enough x (drives_of r (take r.length ys) a x [] refl) false 0 (λ _. (refl, refl))
-      go (Judged z) f = refl
+      go (Err z) f = refl

@@ -1,13 +1,13 @@
 -- The counts of driver and chip together are what the tape says: the tape is the run.
 -- Assumes nothing.
+use Rattle.std.specs.Prelude.{Ok, Err}
 use Prim.Native.Nat.{ℕ, ◌+◌, ◌<◌}
 use mathlib.Core.Path.{◌≡◌, ◌∙◌, ap}
 use mathlib.Core.List.{List, []}
 use native.Mathlib.Omega.{arith}
 use lib.ListN.{length, get_or}
 use Rattle.parts.specs.declared.Facts.{Facts}
-use Rattle.parts.specs.declared.Verdict.{Verdict}
-use Rattle.parts.specs.declared.Verdict.TheVariants.{Fine, Refused}
+use Rattle.parts.specs.Verdict.{Verdict}
 use Rattle.parts.specs.Table.{facts_of, groups_of}
 use Rattle.parts.specs.Refusals.{sooner_of}
 use Rattle.parts.specs.Bytes.{topped}
@@ -49,8 +49,8 @@ bench_wear_is_history r own d c m buffer counts idle held = go (worn_verdict r o
     go : (v : Verdict) → let x = bench_worn_by our_counter our_driver (ours f own) r d c m buffer counts v in
         Counts r.part x.counts
         × ((n : ℕ) → n < groups_of f → get_or x.counts n 0 ≡ topped (get_or counts n 0 + times_of f (watch_at c) [] x.left.events x.left.levels n))
-    go Fine = (
+    go (Ok _) = (
       record { size = w.size ∙ held.size; wide = w.wide },
-      λ n h. w.each n (omega (arith, h, held.size)) ∙ ap (λ (z : List ℕ). topped (get_or counts n 0 + times_of f (watch_at c) [] es z n)) (by r own d c m buffer Fine).levels,
+      λ n h. w.each n (omega (arith, h, held.size)) ∙ ap (λ (z : List ℕ). topped (get_or counts n 0 + times_of f (watch_at c) [] es z n)) (by r own d c m buffer (Ok tt)).levels,
     )
-    go (Refused x) = (held, λ n h. still counts n held.wide)
+    go (Err x) = (held, λ n h. still counts n held.wide)

@@ -2,9 +2,8 @@
 -- a chip in range none of these calls is refused for the state at any moment, so the run of calls is the run of Together.antt and
 -- Ends.antt, and every demand on that run is one on what calls answer and leave. Each statement is a type over any such calls.
 -- Assumes nothing.
-use Rattle.std.specs.Prelude.{ℕ, ◌+◌, ◌≡◌, Bool, true, false, cond, List, [], ◌∷◌, length, eqb}
+use Rattle.std.specs.Prelude.{ℕ, ◌+◌, ◌≡◌, Bool, true, false, cond, List, [], ◌∷◌, length, eqb, Ok}
 use Rattle.parts.specs.declared.Refusal.TheVariants.{BadState, BadEvent}
-use Rattle.parts.specs.declared.Verdict.TheVariants.{Fine}
 use Rattle.state.specs.declared.Chip.{Chip}
 use Rattle.chip.specs.Model.{old}
 use Rattle.chip.specs.Calls.{step_of}
@@ -28,13 +27,13 @@ Ranged w = ChipRanged w.request w.chip
 
 -- `begin` is not refused, and answers the driver that the run starts with
 abbrev pub BeginAccepted : Type 0
-BeginAccepted = (w : Session) → begin_of w.request ≡ record { verdict = Fine; driver = (first w).driver }
+BeginAccepted = (w : Session) → begin_of w.request ≡ record { verdict = Ok tt; driver = (first w).driver }
 
 -- at one moment
 pub record Accepts (S : Step) (r : Request) (s : System) : Type 0 where
   -- `step`, power kept, takes the event that the driver sends next, and the end of a cycle, whether one runs or not
-  pub sent : (e : ℕ) → answer_of s ≡ Send e → (S r.part r.enable old s.chip s.mem e).answer.verdict ≡ Fine
-  pub ended : (S r.part r.enable old s.chip s.mem ends).answer.verdict ≡ Fine
+  pub sent : (e : ℕ) → answer_of s ≡ Send e → (S r.part r.enable old s.chip s.mem e).answer.verdict ≡ Ok tt
+  pub ended : (S r.part r.enable old s.chip s.mem ends).answer.verdict ≡ Ok tt
   -- the driver is in range with its buffer, and `next` does not answer refusal 4
   pub ranged : range_of s.driver (length s.buffer) ≡ true
   pub asked : (q n : ℕ) → answer_of s ≡ Refused BadState q n → ⊥

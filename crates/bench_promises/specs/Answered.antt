@@ -2,11 +2,10 @@
 -- outside at any moment between askings. The chip is any chip of the named part: in standby, in a transfer, in a cycle, at any enable
 -- of its own, whatever its pin and lock. (The faulty line is `FaultyLine` of crate driver_promises.)
 -- Assumes nothing.
-use Rattle.std.specs.Prelude.{ℕ, ◌≤◌, ◌≡◌, Bool, true, false, List, [], ◌∷◌, ◌++◌, map, replicate}
+use Rattle.std.specs.Prelude.{ℕ, ◌≤◌, ◌≡◌, Bool, true, false, List, [], ◌∷◌, ◌++◌, map, replicate, Ok}
 use Rattle.parts.specs.declared.Facts.{Facts}
 use Rattle.parts.specs.declared.Refusal.TheVariants.{NoFirst, NoSecond}
 use Rattle.parts.specs.Table.{facts_of}
-use Rattle.parts.specs.declared.Verdict.TheVariants.{Fine}
 use Rattle.parts.specs.Refusals.{number_of, verdict_number_of}
 use Rattle.state.specs.declared.Chip.{Chip}
 use Rattle.chip.specs.Memory.{Mem, mem}
@@ -75,7 +74,7 @@ AddressAnswered = AnsweredWith PowerKept
 -- and of the public run: a call that begins ends in neither, whatever chip is lent
 abbrev pub AddressedKept : Bench → Type 0
 AddressedKept B =
-    (k : BenchCall) → verdict_of k ≡ Fine
+    (k : BenchCall) → verdict_of k ≡ Ok tt
     → (verdict_number_of (B.report k).verdict ≡ 14 → ⊥) × (verdict_number_of (B.report k).verdict ≡ 15 → ⊥)
 
 -- ---- power kept is needed: one reset behind the select's acknowledge gives 14, one behind the first address byte's 15

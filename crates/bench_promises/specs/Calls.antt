@@ -1,12 +1,11 @@
 -- The demands as promises about the public run of driver and model (crate bench): what it answers, and what it leaves in the lent
 -- buffers on an idle chip, and its tape on any. The run is a record of functions, so that a wrong one breaks them; `our_bench` is what its contract says.
 -- Assumes nothing.
-use Rattle.std.specs.Prelude.{ℕ, ◌+◌, ◌*◌, ◌<◌, ◌≤◌, ◌≡◌, true, false, ◌⊎◌, List, [], ◌++◌, length, get_or, take, drop, replicate}
+use Rattle.std.specs.Prelude.{ℕ, ◌+◌, ◌*◌, ◌<◌, ◌≤◌, ◌≡◌, true, false, ◌⊎◌, List, [], ◌++◌, length, get_or, take, drop, replicate, Ok, Err}
 use Rattle.parts.specs.declared.Facts.{Facts}
 use Rattle.parts.specs.declared.Refusal.{Refusal}
 use Rattle.parts.specs.declared.Refusal.TheVariants.{NoData, PollsUsed}
-use Rattle.parts.specs.declared.Verdict.{Verdict}
-use Rattle.parts.specs.declared.Verdict.TheVariants.{Fine, Refused as Judged}
+use Rattle.parts.specs.Verdict.{Verdict}
 use Rattle.parts.specs.Table.{facts_of}
 use Rattle.parts.specs.Bytes.{AllBelow}
 use Rattle.line.specs.declared.Target.{Target}
@@ -71,7 +70,7 @@ verdict_of k = bench_verdict k.request k.own k.d k.chip k.mem k.buffer
 
 -- one that is not refused, on an idle chip of the named part and enable; the lent buffers hold bytes
 pub record Called (k : BenchCall) : Type 0 where
-  pub fine : verdict_of k ≡ Fine
+  pub fine : verdict_of k ≡ Ok tt
   pub enabled : k.own ≡ k.request.enable
   pub idle : k.chip.line.phase ≡ Idle
   pub stored : (t : Target) → AllBelow 256 (cells_of t k.mem)
@@ -130,7 +129,7 @@ module _ (B : Bench) (k : BenchCall) where
   -- demand 2: "what our driver reports written is then stored ... and bytes it was not asked to write are as before"
   pub record Written : Type 0 where
     pub reported : (i : ℕ) → i < report.bytes → now (from_of r.place + i) ≡ get_or k.buffer i 0
-    pub done : report.verdict ≡ Fine → report.bytes ≡ r.length
+    pub done : report.verdict ≡ Ok tt → report.bytes ≡ r.length
     pub outside : (i : ℕ) → (i < from_of r.place) ⊎ (from_of r.place + r.length ≤ i) → now i ≡ before i
     pub inside : (i : ℕ) → i < r.length
         → (now (from_of r.place + i) ≡ before (from_of r.place + i)) ⊎ (now (from_of r.place + i) ≡ get_or k.buffer i 0)
@@ -139,12 +138,12 @@ module _ (B : Bench) (k : BenchCall) where
     pub lock : report.chip.line.core.locked ≡ k.chip.line.core.locked
     pub buffer : B.buffer k ≡ k.buffer
     -- done, the chip is idle again; and the memories hold bytes
-    pub idle : report.verdict ≡ Fine → report.chip.line.phase ≡ Idle
+    pub idle : report.verdict ≡ Ok tt → report.chip.line.phase ≡ Idle
     pub stored : (t : Target) → AllBelow 256 (cells_of t (B.memory k))
 
   -- demand 2: "what it reads is what is there"; bytes of the buffer past the answer keep their values
   pub record ReadThere : Type 0 where
-    pub done : report.verdict ≡ Fine
+    pub done : report.verdict ≡ Ok tt
     pub bytes : report.bytes ≡ r.length
     pub polls : report.polls ≡ 0
     pub cycles : report.cycles ≡ 0
@@ -156,7 +155,7 @@ module _ (B : Bench) (k : BenchCall) where
 
   -- demand 3: "ends done and not refused, reports all n bytes and begins exactly one cycle for each page it meets"
   pub record Ended : Type 0 where
-    pub done : report.verdict ≡ Fine
+    pub done : report.verdict ≡ Ok tt
     pub bytes : report.bytes ≡ r.length
     pub cycles : report.cycles ≡ k_of r
     -- d polls for each page, and nine clocks for each byte on the bus: a select code and the address for each page, the data, the polls
@@ -166,21 +165,21 @@ module _ (B : Bench) (k : BenchCall) where
 
   -- "A chip that stays busy for longer than our driver polls": refusal 11
   pub record UsedUp : Type 0 where
-    pub refused : report.verdict ≡ Judged PollsUsed
+    pub refused : report.verdict ≡ Err PollsUsed
     pub polls : report.polls ≡ r.budget
     pub bytes : report.bytes ≡ 0
     pub cycles : report.cycles ≡ 1
 
   -- refusal 10 at the first data byte, and nothing stored changes
   pub record Protected : Type 0 where
-    pub refused : report.verdict ≡ Judged (NoData 0)
+    pub refused : report.verdict ≡ Err (NoData 0)
     pub bytes : report.bytes ≡ 0
     pub cycles : report.cycles ≡ 0
     pub memory : B.memory k ≡ k.mem
 
   -- demand 1: "A call refused for bad input changes no byte and no chip state"
   pub record Untouched (x : Refusal) : Type 0 where
-    pub verdict : report.verdict ≡ Judged x
+    pub verdict : report.verdict ≡ Err x
     pub chip : report.chip ≡ k.chip
     pub memory : B.memory k ≡ k.mem
     pub buffer : B.buffer k ≡ k.buffer
@@ -214,7 +213,7 @@ module _ (B : Bench) where
   -- code can hold
   abbrev pub ReadsBackKept : Type 0
   ReadsBackKept =
-      (k : BenchCall) (e : ℕ) (zs : List ℕ) → Called k → Typed k.chip → WriteCall k → (B.report k).verdict ≡ Fine → RoomBack k e zs
+      (k : BenchCall) (e : ℕ) (zs : List ℕ) → Called k → Typed k.chip → WriteCall k → (B.report k).verdict ≡ Ok tt → RoomBack k e zs
       → B.buffer (read_back_lem B k e zs) ≡ k.buffer ++ drop k.request.length zs
 
   abbrev pub EndsKept : Type 0
@@ -232,11 +231,11 @@ module _ (B : Bench) where
 
   -- also of a chip at another enable
   abbrev pub RefusesKept : Type 0
-  RefusesKept = (k : BenchCall) (x : Refusal) → verdict_of k ≡ Judged x → Untouched B k x
+  RefusesKept = (k : BenchCall) (x : Refusal) → verdict_of k ≡ Err x → Untouched B k x
 
   -- every call that is not refused before it begins, on any chip, is our driver's run, so all that it promises over any levels holds
   abbrev pub DrivesKept : Type 0
-  DrivesKept = (k : BenchCall) → verdict_of k ≡ Fine → Driven k.request k.buffer (B.report k) (B.buffer k) (B.events k) (B.levels k)
+  DrivesKept = (k : BenchCall) → verdict_of k ≡ Ok tt → Driven k.request k.buffer (B.report k) (B.buffer k) (B.events k) (B.levels k)
 
   abbrev pub EndsAtKept : Type 0
   EndsAtKept = (k : BenchCall) → EndsAt k.d (B.events k)

@@ -1,10 +1,9 @@
 -- The idle versions of document 01, 'Strength of the promises', as runs of driver and chip: each breaks the one promise that is named with it.
 -- A driver alone is in driver_promises/specs/Idle.antt, a chip alone in chip_promises/specs/Idle.antt and Invented.antt.
 -- Assumes nothing.
-use Rattle.std.specs.Prelude.{ℕ, ◌+◌, ◌<◌, ◌≡◌, cond, []}
+use Rattle.std.specs.Prelude.{ℕ, ◌+◌, ◌<◌, ◌≡◌, cond, [], Ok, Err}
 use Rattle.parts.specs.declared.Facts.{Facts}
 use Rattle.parts.specs.declared.Refusal.{Refusal}
-use Rattle.parts.specs.declared.Verdict.TheVariants.{Fine, Refused as Judged}
 use Rattle.parts.specs.Refusals.{is_fine}
 use Rattle.state.specs.declared.Chip.{Chip}
 use Rattle.chip.specs.Model.{Model, ours}
@@ -20,7 +19,7 @@ use Rattle.bench_promises.specs.Numbers.{Judge, BenchNumbers}
 -- ---- "the chip or driver that refuses everything (refusal table, demand 2)", whichever refusal it is
 
 abbrev pub refusing_judge : Refusal → Judge
-refusing_judge x k = Judged x
+refusing_judge x k = Err x
 
 -- the whole run, whichever of the two refuses
 abbrev pub refusing_bench : Refusal → Bench
@@ -114,7 +113,7 @@ RunInventsNothing =
 
 -- all bytes done, with nothing sent
 abbrev pub claimed : BenchCall → Report
-claimed k = record { verdict = Fine; polls = 0; bytes = k.request.length; cycles = 0; clocks = 0; chip = k.chip }
+claimed k = record { verdict = Ok tt; polls = 0; bytes = k.request.length; cycles = 0; clocks = 0; chip = k.chip }
 
 -- it reports everything done, and does nothing
 abbrev pub boasting : Bench

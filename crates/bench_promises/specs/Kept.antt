@@ -1,8 +1,7 @@
 -- Document 02, §8, of driver and chip together: of any function that is called as `bench::run_worn` is.
 -- Assumes nothing.
-use Rattle.std.specs.Prelude.{ℕ, ◌≡◌, List}
+use Rattle.std.specs.Prelude.{ℕ, ◌≡◌, List, Err}
 use Rattle.parts.specs.declared.Refusal.TheVariants.{BadState}
-use Rattle.parts.specs.declared.Verdict.TheVariants.{Refused}
 use Rattle.parts.specs.Refusals.{sooner_of}
 use Rattle.state.specs.declared.Chip.{Chip}
 use Rattle.chip.specs.Memory.{Mem}
@@ -31,7 +30,7 @@ BenchAsBefore B =
 -- any other worst is refused with 4, in its place among the refusals of §6, before anything changes
 pub record BenchRefusesUnborne (B : KeptBench) : Type 0 where
   pub first : (r : Request) (own d : ℕ) (c : Chip) (m : Mem) (buffer counts : List ℕ) (worst : Most) → (worst ≡ most_of counts → ⊥)
-      → (B r own d c m buffer counts worst).worn.left.report.verdict ≡ sooner_of (Refused BadState) (worn_verdict r own d c m buffer counts)
+      → (B r own d c m buffer counts worst).worn.left.report.verdict ≡ sooner_of (Err BadState) (worn_verdict r own d c m buffer counts)
   pub keeps : (r : Request) (own d : ℕ) (c : Chip) (m : Mem) (buffer counts : List ℕ) (worst : Most) → (worst ≡ most_of counts → ⊥)
       → ((B r own d c m buffer counts worst).worst ≡ worst)
       × ((B r own d c m buffer counts worst).worn.counts ≡ counts)

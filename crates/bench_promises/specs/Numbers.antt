@@ -2,7 +2,7 @@
 -- 'Refusal numbers': 1 2 3 4 6 7 8), and 0 where none applies. Said of any function that judges a run, so that another order breaks it.
 -- Assumes nothing.
 use Rattle.std.specs.Prelude.{ℕ, ◌+◌, ◌<◌, ◌≤◌, ◌≡◌, true, false, cond, ◌⊎◌, length}
-use Rattle.parts.specs.declared.Verdict.{Verdict}
+use Rattle.parts.specs.Verdict.{Verdict}
 use Rattle.parts.specs.Table.{facts_of}
 use Rattle.parts.specs.Refusals.{verdict_number_of, is_fine}
 use Rattle.state.specs.Range.{in_range_of}

@@ -1,7 +1,6 @@
 -- What is said of a tape, over its events and levels alone: whose events they are, where the ends stand, and which Stops begin a cycle.
 -- Assumes nothing.
-use Rattle.std.specs.Prelude.{ℕ, ◌+◌, ◌≡◌, Bool, false, cond, not, ◌&&◌, List, [], ◌∷◌, ◌++◌, take, drop, eqb}
-use Rattle.parts.specs.declared.Verdict.TheVariants.{Fine, Refused as Judged}
+use Rattle.std.specs.Prelude.{ℕ, ◌+◌, ◌≡◌, Bool, false, cond, not, ◌&&◌, List, [], ◌∷◌, ◌++◌, take, drop, eqb, Ok, Err}
 use Rattle.state.specs.declared.Chip.{Chip}
 use Rattle.chip.specs.Model.{Model}
 use Rattle.chip.specs.Runs.{cycles_of}
@@ -33,8 +32,8 @@ told_on es ls = 1 ∷ levels_heard es ls
 -- a report of a driver's last answer; one that would still send has none
 abbrev pub Reports : Answer → Report → Type 0
 Reports (Send e) p = ⊥
-Reports (Done polls bytes) p = (p.verdict ≡ Fine) × (p.polls ≡ polls) × (p.bytes ≡ bytes)
-Reports (Refused f polls bytes) p = (p.verdict ≡ Judged f) × (p.polls ≡ polls) × (p.bytes ≡ bytes)
+Reports (Done polls bytes) p = (p.verdict ≡ Ok tt) × (p.polls ≡ polls) × (p.bytes ≡ bytes)
+Reports (Refused f polls bytes) p = (p.verdict ≡ Err f) × (p.polls ≡ polls) × (p.bytes ≡ bytes)
 
 -- a report, the lent buffer after it and a tape are those of our driver, told the tape's levels; whatever it is told next, it has finished
 pub record Driven (r : Request) (ys : List ℕ) (p : Report) (left es ls : List ℕ) : Type 0 where

@@ -1,6 +1,6 @@
 -- Document 01, 'Trials on the bench': all trials marked ●, the chip's and the driver's, as one table.
 -- Assumes nothing.
-use Rattle.std.specs.Prelude.{ℕ, ◌≡◌, Bool, false, ◌&&◌, List, [], ◌∷◌, ◌++◌, get_or, eqb}
+use Rattle.std.specs.Prelude.{ℕ, ◌≡◌, Bool, false, ◌&&◌, List, [], ◌∷◌, ◌++◌, get_or, eqb, Ok}
 use Rattle.parts.specs.Table.{facts_of}
 use Rattle.parts.specs.Bytes.{same_of}
 use Rattle.chip.specs.Delivery.{standby_of, delivered_of}
@@ -14,7 +14,6 @@ use Rattle.bench.specs.Together.{System, start_of, turns_of}
 use Rattle.chip_laws.specs.Trials.{Trial, first_wrong, chip_trials}
 use Rattle.bench_promises.specs.Together.{answer_of}
 use Rattle.chip.specs.Model.{ours}
-use Rattle.parts.specs.declared.Verdict.TheVariants.{Fine}
 use Rattle.state.specs.declared.Chip.{Chip}
 use Rattle.chip.specs.Memory.{Mem}
 use Rattle.bench.specs.declared.Report.{Report}
@@ -67,7 +66,7 @@ abbrev pub whole_array_on : ℕ → Chip → Mem → List ℕ → BenchCall
 whole_array_on budget c m ys = record { request = whole_array budget; own = 0; d = 1; chip = c; mem = m; buffer = ys }
 
 pub record WholeArrayWritten (p : Report) : Type 0 where
-  pub done : p.verdict ≡ Fine
+  pub done : p.verdict ≡ Ok tt
   pub cycles : p.cycles ≡ 128
   pub polls : p.polls ≡ 128
   pub clocks : p.clocks ≡ 21888

@@ -1,5 +1,6 @@
 -- A run over a capture comes to the same before and after each of its events.
 -- Assumes nothing.
+use Rattle.std.specs.Prelude.{Ok}
 use Prim.Native.Nat.{ℕ, suc, ◌+◌, ◌≤◌, ◌<◌}
 use mathlib.Core.Path.{◌≡◌, ◌∙◌, sym, ap, refl, subst}
 use mathlib.Core.Bool.{Bool, true, false, not, cond, ◌&&◌}
@@ -9,13 +10,12 @@ use native.Mathlib.Nat.{add-zero, zero-add}
 use lib.ListN.{length, get_or, drop}
 use lib.Seq.{get_or-drop, drop-drop}
 use lib.Dec.{eqb, ltb}
-use borrow.Author.Tests.{lt-ltb, le-ltb, ltb-true, ltb-false, eq-eqb, ne_eqb}
+use borrow.Author.Tests.{lt-ltb, ltb-true, ltb-false, eq-eqb, ne_eqb}
 use Rattle.parts.proofs.Tests.{and_both, either}
 use Rattle.parts.proofs.Laws.{branch}
 use Rattle.parts.proofs.Claims.{sooner_fine}
 use Rattle.parts.specs.Bytes.{flag_of, AllBelow}
 use Rattle.parts.specs.declared.Facts.{Facts}
-use Rattle.parts.specs.declared.Verdict.TheVariants.{Fine}
 use Rattle.parts.specs.Events.{event_with, event_of}
 use Rattle.line.specs.declared.Line.{Line}
 use Rattle.line.specs.Rules.{begun_of}
@@ -35,7 +35,7 @@ use Rattle.capture.specs.Marks.{place_of, clock_of, clocks_in, compared_of, diff
 use Rattle.capture.specs.Calls.{SeenLeft, seen_left_of, seen_verdict_of}
 use Rattle.capture.specs.Steps.{one_of}
 use Rattle.capture.specs.Course.{Moves, Ended, noted_of, Taken, start_of, standing, over_of, finish_of, Turned}
-use Rattle.capture.proofs.Sampled.{judge_fine, one_made, none_made}
+use Rattle.capture.proofs.Sampled.{judge_fine, one_made}
 
 -- ---- the code's steps
 
@@ -114,8 +114,8 @@ sooner_same (At a b d) = refl
 -- ---- over the events with their ends
 
 left_same : (e e' n n' d d' y y' : ℕ) (k k' : Mark) (c c' : Chip) (m m' : Mem) → e ≡ e' → n ≡ n' → d ≡ d' → y ≡ y' → k ≡ k' → c ≡ c' → m ≡ m'
-    → ◌≡◌ {A = SeenLeft} (record { answer = record { verdict = Fine; events = e; clocks = n; ends = d; cycles = y; mark = k; chip = c }; mem = m })
-    (record { answer = record { verdict = Fine; events = e'; clocks = n'; ends = d'; cycles = y'; mark = k'; chip = c' }; mem = m' })
+    → ◌≡◌ {A = SeenLeft} (record { answer = record { verdict = Ok tt; events = e; clocks = n; ends = d; cycles = y; mark = k; chip = c }; mem = m })
+    (record { answer = record { verdict = Ok tt; events = e'; clocks = n'; ends = d'; cycles = y'; mark = k'; chip = c' }; mem = m' })
 left_same e e' n n' d d' y y' k k' c c' m m' h1 h2 h3 h4 h5 h6 h7 = rw (h1, h2, h3, h4, h5, h6, h7) refl
 
 module _ (M : Model) (rises : List ℕ) (c : Chip) (m : Mem) (g r : Going) (c' : Chip) (m' : Mem) (len clocks : ℕ) (xs : List ℕ) where
@@ -199,17 +199,6 @@ module _ (f : Facts) (en : ℕ) (c : Chip) (m : Mem) (at e : ℕ) (es : List ℕ
         cycles = omega (arith, x.cycles, t.cycles, begun_most c₁.line (event_of e));
       }
 
-  pub turned_none : 4 ≤ e → Turned (ours f en) c m at e es g g c m
-  turned_none big =
-      let none : one_of e ≡ [] = rw (le-ltb e 4 big) refl in
-      record {
-        finish = λ rises h. ap (λ (l : List ℕ). finish_of (ours f en) rises c m g l) (sym (none_made e es big));
-        events = omega arith;
-        clocks = rw none (omega arith);
-        ends = omega arith;
-        cycles = omega arith;
-      }
-
 -- ---- the samples at which the clocks rise
 
 pub rises_on : (rises rest : List ℕ) (n at e : ℕ) → drop n rises ≡ rises_in at (one_of e) ++ rest → (drop (n + clocks_in (one_of e)) rises ≡ rest) × (e < 2 → get_or rises n 0 ≡ at)
@@ -246,7 +235,7 @@ finish_none M rises c m g =
 
 pub finished : (M : Model) (bus : Bool) (ss : List ℕ) (c₀ : Chip) (m₀ : Mem) (l : Line) (c : Chip) (m : Mem) (g : Going)
     → finish_of M (rises_of bus ss) c m g [] ≡ finish_of M (rises_of bus ss) c₀ m₀ (start_of l) (events_of bus ss)
-    → standing c m g ≡ seen_left_of M c₀ m₀ bus ss Fine
+    → standing c m g ≡ seen_left_of M c₀ m₀ bus ss (Ok tt)
 unfolding finish_of
 finished M bus ss c₀ m₀ l c m g q =
     let es = events_of bus ss in
@@ -256,6 +245,6 @@ finished M bus ss c₀ m₀ l c m g q =
 
 -- ---- a call that is not refused
 
-pub seen_fine : (part en : ℕ) (c : Chip) (n d : ℕ) (ss : List ℕ) → seen_verdict_of part en c n d ss ≡ Fine → AllBelow 4 ss
+pub seen_fine : (part en : ℕ) (c : Chip) (n d : ℕ) (ss : List ℕ) → seen_verdict_of part en c n d ss ≡ Ok tt → AllBelow 4 ss
 unfolding seen_verdict_of
 seen_fine part en c n d ss h = judge_fine ss (sooner_fine (held_verdict_of part en c n d) (judge_of ss) h).1

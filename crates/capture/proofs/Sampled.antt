@@ -1,5 +1,6 @@
 -- Laws of samples: which are refused, what a run of equal samples makes, and what is left of a capture from a sample on.
 -- Assumes nothing.
+use Rattle.std.specs.Prelude.{Ok, Err}
 use Prim.Native.Nat.{ℕ, zero, suc, ◌+◌, ◌-◌, ◌/◌, ◌%◌, ◌≤◌, ◌<◌}
 use mathlib.Core.Path.{◌≡◌, ◌∙◌, refl, sym, ap}
 use mathlib.Core.Bool.{Bool, true, false, not, cond, ◌&&◌}
@@ -11,8 +12,7 @@ use lib.ListN.{length, get_or, take, drop, set, drop_of_length-le, take-append-d
 use lib.Seq.{drop-cons, drop-drop, take-suc-set, drop-set-lt}
 use lib.Dec.{eqb, ltb}
 use borrow.Author.Tests.{lt-ltb, le-ltb, eq-eqb, ne_eqb, ltb-true, ltb-false, eqb-true, eqb-false}
-use Rattle.parts.specs.declared.Verdict.{Verdict}
-use Rattle.parts.specs.declared.Verdict.TheVariants.{Fine, Refused}
+use Rattle.parts.specs.Verdict.{Verdict}
 use Rattle.parts.specs.declared.Refusal.{Refusal}
 use Rattle.parts.specs.declared.Refusal.TheVariants.{BadSample, ShortBuffer}
 use Rattle.parts.specs.Bytes.{AllBelow, all_below_of}
@@ -28,43 +28,43 @@ use Rattle.capture.specs.Steps.{SameTo, falls_of, code_of, left_of, rises_left, 
 
 -- ---- samples above 3
 
-clear_from : (k : ℕ) (ss : List ℕ) → all_below_of 4 true ss ≡ true → Fine ≡ judge_from k ss
+clear_from : (k : ℕ) (ss : List ℕ) → all_below_of 4 true ss ≡ true → Ok tt ≡ judge_from k ss
 unfolding all_below_of
 clear_from k [] h = refl
 clear_from k (s ∷ ss) h =
     let small : ltb s 4 ≡ true = low_before 4 (ltb s 4) ss h in
     rw (le-ltb 3 s (omega (arith, ltb-true s 4 small))) (clear_from (suc k) ss (rw small at h))
 
-pub judge_clear : (ss : List ℕ) → all_below_of 4 true ss ≡ true → Fine ≡ judge_of ss
+pub judge_clear : (ss : List ℕ) → all_below_of 4 true ss ≡ true → Ok tt ≡ judge_of ss
 unfolding judge_of
 judge_clear ss h = clear_from 0 ss h
 
 pub judge_step : (i : ℕ) (ss : List ℕ) → i < length ss → get_or ss i 0 ≤ 3 → judge_from (i + 1) (drop (i + 1) ss) ≡ judge_from i (drop i ss)
 judge_step i ss h l = rw (add-one, drop-cons ss i 0 h) (rw (le-ltb 3 (get_or ss i 0) l) refl)
 
-pub judge_stop : (i : ℕ) (ss : List ℕ) → i < length ss → 3 < get_or ss i 0 → Refused (BadSample i) ≡ judge_from i (drop i ss)
+pub judge_stop : (i : ℕ) (ss : List ℕ) → i < length ss → 3 < get_or ss i 0 → Err (BadSample i) ≡ judge_from i (drop i ss)
 judge_stop i ss h l = rw (drop-cons ss i 0 h) (rw (lt-ltb 3 (get_or ss i 0) l) refl)
 
-pub judge_end : (i : ℕ) (ss : List ℕ) → length ss ≤ i → Fine ≡ judge_from i (drop i ss)
+pub judge_end : (i : ℕ) (ss : List ℕ) → length ss ≤ i → Ok tt ≡ judge_from i (drop i ss)
 judge_end i ss h = rw (drop_of_length-le ss h) refl
 
 -- a capture that is not refused has no sample above 3, and the other way round
 
-fine_from : (k : ℕ) (ss : List ℕ) → judge_from k ss ≡ Fine → AllBelow 4 ss
+fine_from : (k : ℕ) (ss : List ℕ) → judge_from k ss ≡ Ok tt → AllBelow 4 ss
 fine_from k [] h = tt
 fine_from k (s ∷ ss) h =
     let w = passed (ltb 3 s) (BadSample k) (judge_from (suc k) ss) h in
     (omega (arith, ltb-false 3 s w.0), fine_from (suc k) ss w.1)
 
-pub judge_fine : (ss : List ℕ) → judge_of ss ≡ Fine → AllBelow 4 ss
+pub judge_fine : (ss : List ℕ) → judge_of ss ≡ Ok tt → AllBelow 4 ss
 unfolding judge_of
 judge_fine ss h = fine_from 0 ss h
 
-from_fine : (k : ℕ) (ss : List ℕ) → AllBelow 4 ss → judge_from k ss ≡ Fine
+from_fine : (k : ℕ) (ss : List ℕ) → AllBelow 4 ss → judge_from k ss ≡ Ok tt
 from_fine k [] h = refl
 from_fine k (s ∷ ss) h = rw (le-ltb 3 s (omega (arith, h.0))) (from_fine (suc k) ss h.1)
 
-pub fine_judge : (ss : List ℕ) → AllBelow 4 ss → judge_of ss ≡ Fine
+pub fine_judge : (ss : List ℕ) → AllBelow 4 ss → judge_of ss ≡ Ok tt
 unfolding judge_of
 fine_judge ss h = from_fine 0 ss h
 
@@ -80,8 +80,8 @@ judge_later n ss h = later_from n 0 ss h
 
 -- a refusal of the samples goes before any of a rank that is not lower
 abbrev pub Sooner : Verdict → Type 0
-Sooner Fine = Unit {0}
-Sooner (Refused r) = rank_of r ≤ rank_of (BadSample 0)
+Sooner (Ok _) = Unit {0}
+Sooner (Err r) = rank_of r ≤ rank_of (BadSample 0)
 
 sooner_from : (k : ℕ) (ss : List ℕ) → Sooner (judge_from k ss)
 sooner_from k [] = tt
@@ -91,22 +91,22 @@ pub judge_sooner : (ss : List ℕ) → Sooner (judge_of ss)
 unfolding judge_of
 judge_sooner ss = sooner_from 0 ss
 
-pub judge_first : (ss : List ℕ) (r : Refusal) (v : Verdict) → judge_of ss ≡ Refused r → Later (rank_of (BadSample 0)) v → sooner_of (Refused r) v ≡ Refused r
+pub judge_first : (ss : List ℕ) (r : Refusal) (v : Verdict) → judge_of ss ≡ Err r → Later (rank_of (BadSample 0)) v → sooner_of (Err r) v ≡ Err r
 judge_first ss r v e h = given_first r v (lower v h)
   where
     low : rank_of r ≤ rank_of (BadSample 0)
     low = rw e at (judge_sooner ss)
 
     lower : (v : Verdict) → Later (rank_of (BadSample 0)) v → Later (rank_of r) v
-    lower Fine h = tt
-    lower (Refused s) h = omega (arith, low, h)
+    lower (Ok _) h = tt
+    lower (Err s) h = omega (arith, low, h)
 
-pub judge_short : (ss : List ℕ) (r : Refusal) (b : Bool) → judge_of ss ≡ Refused r → sooner_of (Refused r) (claim_of b ShortBuffer) ≡ Refused r
+pub judge_short : (ss : List ℕ) (r : Refusal) (b : Bool) → judge_of ss ≡ Err r → sooner_of (Err r) (claim_of b ShortBuffer) ≡ Err r
 judge_short ss r b e = judge_first ss r (claim_of b ShortBuffer) e (later_claim (rank_of (BadSample 0)) b ShortBuffer (omega arith))
 
 -- ---- a run of equal samples
 
-below_in : (n : ℕ) (l : List ℕ) → AllBelow n l → (i : ℕ) → i < length l → get_or l i 0 < n
+pub below_in : (n : ℕ) (l : List ℕ) → AllBelow n l → (i : ℕ) → i < length l → get_or l i 0 < n
 below_in n [] h i g = absurd (omega arith)
 below_in n (x ∷ l) h zero g = h.0
 below_in n (x ∷ l) h (suc i) g = below_in n l h.1 i (omega arith)
@@ -209,9 +209,6 @@ unfolding rises_of
 rises_start bus [] = refl
 rises_start bus (s ∷ ss) = refl
 
-pub left_end : (bus : Bool) (ss : List ℕ) (i : ℕ) → length ss ≤ i → left_of bus ss i ≡ []
-left_end bus ss i h = rw (drop_of_length-le ss h) refl
-
 -- a sample and the run that it begins
 module _ (bus : Bool) (ss : List ℕ) (i end : ℕ) (low : AllBelow 4 ss) (h : i < length ss) (w : SameTo ss (get_or ss i 0) (i + 1) end) where
   run_same : (k : ℕ) → suc i ≤ k → k < end → get_or ss k 0 ≡ get_or ss i 0
@@ -268,12 +265,6 @@ acked_more (suc k) code es h g =
     let back : suc k - 1 ≡ k = omega arith in
     rw (one_made code es (omega arith), back) (rw (ne_eqb k 0 (λ e. omega arith), lt-ltb code 2 (omega arith)) refl)
 
-pub acked_none : (k code : ℕ) (es : List ℕ) → 1 < k → 1 < code → (4 ≤ code → es ≡ []) → acked_of k (one_of code ++ es) ≡ false
-acked_none zero code es h g f = absurd (omega arith)
-acked_none (suc k) code es h g f =
-    either (ltb code 4) (λ t. rw (one_made code es (ltb-true code 4 t)) (rw (ne_eqb k 0 (λ e. omega arith), le-ltb code 2 (omega arith)) refl)) (λ t.
-    rw (none_made code es (ltb-false code 4 t), f (ltb-false code 4 t)) refl)
-
 pub acked_last : (code : ℕ) (es : List ℕ) → (4 ≤ code → es ≡ []) → acked_of 1 (one_of code ++ es) ≡ eqb code 0
 acked_last code es f =
     either (ltb code 4) (λ t. rw (one_made code es (ltb-true code 4 t)) refl) (λ t.
@@ -282,7 +273,7 @@ acked_last code es f =
 
 -- ---- the events alone
 
-pub list_bad : (bus : Bool) (ss : List ℕ) (room : ℕ) (r : Refusal) → judge_of ss ≡ Refused r → list_verdict_of bus ss room ≡ Refused r
+pub list_bad : (bus : Bool) (ss : List ℕ) (room : ℕ) (r : Refusal) → judge_of ss ≡ Err r → list_verdict_of bus ss room ≡ Err r
 unfolding list_verdict_of
 list_bad bus ss room r e = rw e (judge_short ss r (ltb room (length (events_of bus ss))) e)
 
@@ -290,10 +281,10 @@ list_judged : (bus : Bool) (ss : List ℕ) (room : ℕ) → AllBelow 4 ss → li
 unfolding list_verdict_of sooner_of
 list_judged bus ss room h = rw (fine_judge ss h) refl
 
-pub list_short : (bus : Bool) (ss : List ℕ) (room : ℕ) → AllBelow 4 ss → room < length (events_of bus ss) → list_verdict_of bus ss room ≡ Refused ShortBuffer
+pub list_short : (bus : Bool) (ss : List ℕ) (room : ℕ) → AllBelow 4 ss → room < length (events_of bus ss) → list_verdict_of bus ss room ≡ Err ShortBuffer
 list_short bus ss room h g = list_judged bus ss room h ∙ rw (lt-ltb room (length (events_of bus ss)) g) refl
 
-pub list_fits : (bus : Bool) (ss : List ℕ) (room : ℕ) → AllBelow 4 ss → length (events_of bus ss) ≤ room → list_verdict_of bus ss room ≡ Fine
+pub list_fits : (bus : Bool) (ss : List ℕ) (room : ℕ) → AllBelow 4 ss → length (events_of bus ss) ≤ room → list_verdict_of bus ss room ≡ Ok tt
 list_fits bus ss room h g = list_judged bus ss room h ∙ rw (le-ltb room (length (events_of bus ss)) g) refl
 
 -- one event more in a buffer: what stands before it and what behind

@@ -1,8 +1,7 @@
 -- What the calls answer and leave, refused ones too (document 02, §3).
 -- Assumes nothing.
-use Rattle.std.specs.Prelude.{ℕ, Bool, List, ◌++◌, length, drop, ltb}
-use Rattle.parts.specs.declared.Verdict.{Verdict}
-use Rattle.parts.specs.declared.Verdict.TheVariants.{Fine, Refused}
+use Rattle.std.specs.Prelude.{ℕ, Bool, List, ◌++◌, length, drop, ltb, Ok, Err}
+use Rattle.parts.specs.Verdict.{Verdict}
 use Rattle.parts.specs.declared.Refusal.TheVariants.{ShortBuffer}
 use Rattle.parts.specs.Refusals.{claim_of, sooner_of}
 use Rattle.parts.specs.Table.{facts_of}
@@ -27,7 +26,7 @@ seen_verdict_of part enable c n d ss = sooner_of (held_verdict_of part enable c 
 abbrev pub seen_over : Model → Chip → Mem → List ℕ → List ℕ → List ℕ → Seen
 seen_over M c m rises es xs =
     record {
-      verdict = Fine;
+      verdict = Ok tt;
       events = length es;
       clocks = clocks_in es;
       ends = ends_in xs;
@@ -37,12 +36,12 @@ seen_over M c m rises es xs =
     }
 
 abbrev pub seen_by : Model → Chip → Mem → Bool → List ℕ → Verdict → Seen
-seen_by M c m bus ss Fine = seen_over M c m (rises_of bus ss) (events_of bus ss) (with_ends_of M c (events_of bus ss))
-seen_by M c m bus ss (Refused r) = record { verdict = Refused r; events = 0; clocks = 0; ends = 0; cycles = 0; mark = Same; chip = c }
+seen_by M c m bus ss (Ok _) = seen_over M c m (rises_of bus ss) (events_of bus ss) (with_ends_of M c (events_of bus ss))
+seen_by M c m bus ss (Err r) = record { verdict = Err r; events = 0; clocks = 0; ends = 0; cycles = 0; mark = Same; chip = c }
 
 abbrev pub seen_mem : Model → Chip → Mem → Bool → List ℕ → Verdict → Mem
-seen_mem M c m bus ss Fine = memory_of M c m (with_ends_of M c (events_of bus ss))
-seen_mem M c m bus ss (Refused r) = m
+seen_mem M c m bus ss (Ok _) = memory_of M c m (with_ends_of M c (events_of bus ss))
+seen_mem M c m bus ss (Err r) = m
 
 pub record SeenLeft : Type 0 where
   pub answer : Seen
@@ -62,12 +61,12 @@ unfoldable pub list_verdict_of : Bool → List ℕ → ℕ → Verdict
 list_verdict_of bus ss room = sooner_of (judge_of ss) (claim_of (ltb room (length (events_of bus ss))) ShortBuffer)
 
 abbrev pub listed_by : List ℕ → Verdict → Listed
-listed_by es Fine = record { verdict = Fine; length = length es }
-listed_by es (Refused r) = record { verdict = Refused r; length = 0 }
+listed_by es (Ok _) = record { verdict = Ok tt; length = length es }
+listed_by es (Err r) = record { verdict = Err r; length = 0 }
 
 abbrev pub listed_out : List ℕ → List ℕ → Verdict → List ℕ
-listed_out es out Fine = es ++ drop (length es) out
-listed_out es out (Refused r) = out
+listed_out es out (Ok _) = es ++ drop (length es) out
+listed_out es out (Err r) = out
 
 pub record ListLeft : Type 0 where
   pub answer : Listed

@@ -1,14 +1,12 @@
 -- One event of a run over a capture, and what a run comes to from where it stands: for the contracts of the inner functions.
 -- Assumes nothing.
-use Rattle.std.specs.Prelude.{ℕ, ◌+◌, ◌≤◌, ◌<◌, ◌≡◌, Bool, cond, List, ◌++◌, length, get_or}
+use Rattle.std.specs.Prelude.{ℕ, ◌+◌, ◌≤◌, ◌<◌, ◌≡◌, Bool, cond, List, ◌++◌, length, get_or, Ok}
 use Rattle.parts.specs.Bytes.{flag_of}
-use Rattle.parts.specs.declared.Verdict.TheVariants.{Fine}
 use Rattle.line.specs.declared.Line.{Line}
 use Rattle.state.specs.declared.Chip.{Chip}
 use Rattle.chip.specs.Memory.{Mem}
 use Rattle.chip.specs.Model.{Model}
 use Rattle.chip.specs.Runs.{after_of, memory_of, cycles_of}
-use Rattle.capture.specs.declared.Mark.{Mark}
 use Rattle.capture.specs.declared.Mark.TheVariants.{Same, At}
 use Rattle.capture.specs.declared.engine.Step.{Step}
 use Rattle.capture.specs.declared.engine.Going.{Going}
@@ -70,7 +68,7 @@ start_of l = record { line = l; place = 0; events = 0; clocks = 0; ends = 0; cyc
 abbrev pub standing : Chip → Mem → Going → SeenLeft
 standing c m g =
     record {
-      answer = record { verdict = Fine; events = g.events; clocks = g.clocks; ends = g.ends; cycles = g.cycles; mark = g.mark; chip = c };
+      answer = record { verdict = Ok tt; events = g.events; clocks = g.clocks; ends = g.ends; cycles = g.cycles; mark = g.mark; chip = c };
       mem = m;
     }
 
@@ -80,7 +78,7 @@ over_of M rises c m g events clocks xs =
     record {
       answer =
           record {
-            verdict = Fine;
+            verdict = Ok tt;
             events = g.events + events;
             clocks = g.clocks + clocks;
             ends = g.ends + ends_in xs;

@@ -2,9 +2,8 @@
 -- high in both samples is a Start, rising a Stop, a rising clock a clock with the new data level, and the first sample makes none. Where both
 -- lines change at once the clock rule alone holds."
 -- Assumes nothing.
-use Rattle.std.specs.Prelude.{ℕ, suc, ◌/◌, ◌%◌, Bool, true, false, not, cond, ◌&&◌, List, [], ◌∷◌, ◌++◌, eqb, ltb}
-use Rattle.parts.specs.declared.Verdict.{Verdict}
-use Rattle.parts.specs.declared.Verdict.TheVariants.{Fine, Refused}
+use Rattle.std.specs.Prelude.{ℕ, suc, ◌/◌, ◌%◌, Bool, true, false, not, cond, ◌&&◌, List, [], ◌∷◌, ◌++◌, eqb, ltb, Ok, Err}
+use Rattle.parts.specs.Verdict.{Verdict}
 use Rattle.parts.specs.declared.Refusal.TheVariants.{BadSample}
 
 abbrev pub clock_in : ℕ → ℕ
@@ -55,8 +54,8 @@ rises_of bus (s ∷ ss) = rises_from bus s 1 ss
 -- ---- "Refusals: 20 a sample above 3, at its place": the first one, counted from 0
 
 abbrev pub judge_from : ℕ → List ℕ → Verdict
-judge_from k [] = Fine
-judge_from k (s ∷ ss) = cond (ltb 3 s) (Refused (BadSample k)) (judge_from (suc k) ss)
+judge_from k [] = Ok tt
+judge_from k (s ∷ ss) = cond (ltb 3 s) (Err (BadSample k)) (judge_from (suc k) ss)
 
 unfoldable pub judge_of : List ℕ → Verdict
 judge_of ss = judge_from 0 ss

@@ -41,9 +41,8 @@ code_of bus before s still =
 pub record NextIn (bus : Bool) (ss : List ℕ) (from code at next : ℕ) : Type 0 where
   pub onward : from ≤ at
   pub within : next ≤ length ss
-  pub moves : from < length ss → from < next
-  pub made : code < 4 → at < next
-  pub spent : 4 ≤ code → (code ≡ 9) × (next ≡ length ss)
+  pub moves : at < next
+  pub some : code < 4
   pub events : left_of bus ss from ≡ one_of code ++ left_of bus ss next
   pub rises : rises_left bus ss from ≡ rises_in at (one_of code) ++ rises_left bus ss next
 

@@ -1,10 +1,9 @@
 -- Document 02, §3: "The tally that the caller lends and each event updates counts Starts, Stops, bytes and unacknowledged bytes in 32 bits,
 -- staying at the top. A byte is nine clocks, unacknowledged if the ninth is 1."
 -- Assumes nothing.
-use Rattle.std.specs.Prelude.{ℕ, List, [], ◌∷◌, Bool, ◌&&◌, eqb, ltb}
+use Rattle.std.specs.Prelude.{ℕ, List, [], ◌∷◌, Bool, ◌&&◌, eqb, ltb, Ok, Err}
 use Rattle.parts.specs.Bytes.{up_of}
-use Rattle.parts.specs.declared.Verdict.{Verdict}
-use Rattle.parts.specs.declared.Verdict.TheVariants.{Fine, Refused}
+use Rattle.parts.specs.Verdict.{Verdict}
 use Rattle.capture.specs.declared.Tally.{Tally}
 use Rattle.capture.specs.Samples.{events_of, judge_of}
 use Rattle.capture.specs.Marks.{place_of}
@@ -27,8 +26,8 @@ tallies_of t place (e ∷ es) = tallies_of (tallied_of t place e) (place_of plac
 
 -- of a capture, which is refused before anything is counted
 abbrev pub counted_by : Tally → Bool → List ℕ → Verdict → Tally
-counted_by t bus ss Fine = tallies_of t 0 (events_of bus ss)
-counted_by t bus ss (Refused r) = t
+counted_by t bus ss (Ok _) = tallies_of t 0 (events_of bus ss)
+counted_by t bus ss (Err r) = t
 
 unfoldable pub counted_of : Tally → Bool → List ℕ → Tally
 counted_of t bus ss = counted_by t bus ss (judge_of ss)

@@ -1,8 +1,7 @@
 // The model over a capture, event by event: judged once, the latches lent.
-ghost use Rattle.std.specs.Prelude.{◌≡◌, ℕ, ◌+◌, ◌-◌, ◌*◌, ◌%◌, ◌≤◌, ◌<◌, length, true, not, cond, ◌&&◌, List, eqb, ltb};
+ghost use Rattle.std.specs.Prelude.{◌≡◌, ℕ, ◌+◌, ◌-◌, ◌*◌, ◌%◌, ◌≤◌, ◌<◌, length, true, not, cond, ◌&&◌, List, eqb, ltb, Ok};
 ghost use Rattle.parts.specs.Bytes.{AllBelow};
 ghost use Rattle.parts.specs.Table.{facts_of};
-ghost use Rattle.parts.specs.declared.Verdict.TheVariants.{Fine};
 ghost use Rattle.line.specs.Rules.{sent_of, send_level_of};
 ghost use Rattle.chip.specs.Model.{ours};
 ghost use Rattle.chip.specs.Memory.{mem, chip, seen_of};
@@ -33,20 +32,14 @@ struct Going {
 fn busy(phase: Phase) -> bool
     ensures { result ≡ busy_in phase }
 {
-    match phase {
-        Phase::Idle => false,
-        Phase::Receive(_) => false,
-        Phase::Send(_) => false,
-        Phase::Busy(_) => true,
-    }
+    matches!(phase, Phase::Busy(_))
 }
 
 // Whether the level is one of those that are compared.
 fn compared(line: Line, place: u8) -> bool
     ensures { result ≡ compared_of line place }
 {
-    let phase = line.phase;
-    match phase {
+    match line.phase {
         Phase::Idle => place == 8,
         Phase::Receive(_) => place == 8,
         Phase::Send(_) => 0 < line.left,
@@ -58,11 +51,10 @@ fn compared(line: Line, place: u8) -> bool
 fn quiet(line: Line, code: u8) -> bool
     ensures { result ≡ quiet_of line code }
 {
-    let phase = line.phase;
     if 1 < code {
         return false;
     }
-    match phase {
+    match line.phase {
         Phase::Idle => true,
         Phase::Receive(_) => 0 < line.left,
         Phase::Send(_) => true,
@@ -82,7 +74,7 @@ fn released(line: Line) -> Step
     ensures { result ≡ record { line = line; level = 1; cycles = 0 } }
 {
     Step {
-        line: line,
+        line,
         level: 1,
         cycles: 0,
     }
@@ -120,9 +112,8 @@ fn bit_out(part: u8, line: Line, target: Target, array: &[u8], id: &[u8], code: 
 {
     let byte = chip::seen(part, line, array, id);
     let m = line::send(part, line, target, byte, code == 1);
-    let next = m.line;
     Step {
-        line: next,
+        line: m.line,
         level: m.level,
         cycles: 0,
     }
@@ -134,8 +125,7 @@ fn clocked(part: u8, line: Line, array: &[u8], id: &[u8], code: u8) -> Step
     ensures { (en : ℕ) (k : List ℕ) → Moves (ours (facts_of part) en) (chip line k) (mem array.now id.now) code result
         (chip result.line k) (mem array.now id.now) }
 {
-    let phase = line.phase;
-    match phase {
+    match line.phase {
         Phase::Idle => released(line),
         Phase::Receive(_) => bit_in(line, code),
         Phase::Send(t) => bit_out(part, line, t, array, id, code),
@@ -158,16 +148,14 @@ fn stirred(
     ensures room { length latch.new ≡ 64 }
 {
     let held = Chip {
-        line: line,
+        line,
         latch: *latch,
     };
     let s = chip::take(part, enable, held, array, id, code);
-    let after = s.chip;
-    let next = after.line;
-    let kept = after.latch;
+    let kept = s.chip.latch;
     *latch = kept;
     Step {
-        line: next,
+        line: s.chip.line,
         level: s.level,
         cycles: s.cycles,
     }
@@ -188,9 +176,10 @@ fn moved(
     ensures room { length latch.new ≡ 64 }
 {
     if quiet(line, code) {
-        return clocked(part, line, array, id, code);
+        clocked(part, line, array, id, code)
+    } else {
+        stirred(part, enable, line, latch, array, id, code)
     }
-    stirred(part, enable, line, latch, array, id, code)
 }
 
 // At the Start of an acknowledged byte, in a cycle.
@@ -201,8 +190,7 @@ fn end_due(bus: bool, line: Line, samples: &[u8], next: Next) -> bool
     if next.code != 2 {
         return false;
     }
-    let phase = line.phase;
-    if !busy(phase) {
+    if !busy(line.phase) {
         return false;
     }
     crate::samples::acked(bus, samples, next.next)
@@ -226,11 +214,9 @@ fn ended(
     if !due {
         return g;
     }
-    let line = g.line;
-    let m = stirred(part, enable, line, latch, array, id, 4);
-    let next = m.line;
+    let m = stirred(part, enable, g.line, latch, array, id, 4);
     Going {
-        line: next,
+        line: m.line,
         ends: g.ends + 1,
         ..g
     }
@@ -269,19 +255,14 @@ fn noted(g: Going, m: Step, differs: bool, at: usize, code: u8) -> Going
     requires { (g.events < at) × (g.clocks < at) × (g.cycles < at) × (m.cycles ≤ 1) }
     ensures { result ≡ noted_of g m differs at code }
 {
-    let line = m.line;
-    let mark = g.mark;
-    let marked = marked(mark, differs, at, g.clocks, code);
-    let place = crate::place_after(g.place, code);
-    let clock = clock(code);
     Going {
-        line: line,
-        place: place,
+        line: m.line,
+        place: crate::place_after(g.place, code),
         events: g.events + 1,
-        clocks: g.clocks + clock,
+        clocks: g.clocks + clock(code),
         ends: g.ends,
         cycles: g.cycles + m.cycles as usize,
-        mark: marked,
+        mark: marked(g.mark, differs, at, g.clocks, code),
     }
 }
 
@@ -301,14 +282,13 @@ fn taken(
         (chip result.line latch.new) (mem array.new id.new) }
     ensures room { length latch.new ≡ 64 }
 {
-    let line = g.line;
-    let looked = compared(line, g.place);
-    let m = moved(part, enable, line, latch, array, id, code);
+    let looked = compared(g.line, g.place);
+    let m = moved(part, enable, g.line, latch, array, id, code);
     let differs = differs(looked, m.level, code);
     noted(g, m, differs, at, code)
 }
 
-// What is found of the capture next, if anything.
+// What is found of the capture next.
 fn turn(
     part: u8,
     enable: u8,
@@ -325,6 +305,7 @@ fn turn(
         × (g.clocks < next.at)
         × (g.ends < next.at)
         × (g.cycles < next.at)
+        × (next.code < 4)
         × (0 < next.next)
         × (next.next ≤ length samples.now)
         × AllBelow 4 samples.now }
@@ -333,11 +314,7 @@ fn turn(
         (chip result.line latch.new) (mem array.new id.new) }
     ensures room { length latch.new ≡ 64 }
 {
-    if 3 < next.code {
-        return g;
-    }
-    let line = g.line;
-    let due = end_due(bus, line, samples, next);
+    let due = end_due(bus, g.line, samples, next);
     let ready = ended(due, part, enable, g, latch, array, id);
     taken(part, enable, ready, latch, array, id, next.at, next.code)
 }
@@ -354,10 +331,10 @@ fn go_all(
 ) -> Going
     requires { (length latch.old ≡ 64) × AllBelow 4 samples.now }
     ensures { standing (chip result.line latch.new) (mem array.new id.new) result
-        ≡ seen_left_of (ours (facts_of part) enable) (chip line latch.old) (mem array.old id.old) bus samples.now Fine }
+        ≡ seen_left_of (ours (facts_of part) enable) (chip line latch.old) (mem array.old id.old) bus samples.now (Ok tt) }
 {
     let mut g = Going {
-        line: line,
+        line,
         place: 0,
         events: 0,
         clocks: 0,
@@ -366,8 +343,7 @@ fn go_all(
         mark: Mark::Same,
     };
     let mut i = 1;
-    while i < samples.len() {
-        let next = crate::samples::next_event(bus, samples, i);
+    while let Some(next) = crate::samples::next_event(bus, samples, i) {
         g = turn(part, enable, bus, g, latch, array, id, samples, next);
         i = next.next;
     }
@@ -384,25 +360,22 @@ pub(crate) fn go(
     samples: &[u8],
 ) -> Seen
     requires { AllBelow 4 samples.now }
-    ensures answer { result ≡ seen_by (ours (facts_of part) enable) chip (mem array.old id.old) bus samples.now Fine }
+    ensures answer { result ≡ seen_by (ours (facts_of part) enable) chip (mem array.old id.old) bus samples.now (Ok tt) }
     ensures stored { mem array.new id.new
-        ≡ seen_mem (ours (facts_of part) enable) chip (mem array.old id.old) bus samples.now Fine }
+        ≡ seen_mem (ours (facts_of part) enable) chip (mem array.old id.old) bus samples.now (Ok tt) }
 {
-    let line = chip.line;
     let mut latch = chip.latch;
-    let g = go_all(part, enable, line, &mut latch, array, id, bus, samples);
-    let next = g.line;
-    let mark = g.mark;
+    let g = go_all(part, enable, chip.line, &mut latch, array, id, bus, samples);
     Seen {
-        verdict: Verdict::Fine,
+        verdict: Ok(()),
         events: g.events,
         clocks: g.clocks,
         ends: g.ends,
         cycles: g.cycles,
-        mark: mark,
+        mark: g.mark,
         chip: Chip {
-            line: next,
-            latch: latch,
+            line: g.line,
+            latch,
         },
     }
 }

@@ -101,17 +101,16 @@ pub fn run(
     ensures stored { mem array.new id.new
         ≡ (seeing_of part enable chip (mem array.old id.old) bus samples.now).mem }
 {
-    let verdict = seen_verdict(part, enable, chip, array.len(), id.len(), samples);
-    match verdict {
-        Verdict::Fine => engine::go(part, enable, chip, array, id, bus, samples),
-        Verdict::Refused(r) => Seen {
-            verdict: Verdict::Refused(r),
+    match seen_verdict(part, enable, chip, array.len(), id.len(), samples) {
+        Ok(()) => engine::go(part, enable, chip, array, id, bus, samples),
+        Err(r) => Seen {
+            verdict: Err(r),
             events: 0,
             clocks: 0,
             ends: 0,
             cycles: 0,
             mark: Mark::Same,
-            chip: chip,
+            chip,
         },
     }
 }
@@ -124,11 +123,8 @@ fn count_events(bus: bool, samples: &[u8]) -> usize
 {
     let mut n = 0;
     let mut i = 1;
-    while i < samples.len() {
-        let next = samples::next_event(bus, samples, i);
-        if next.code < 4 {
-            n += 1;
-        }
+    while let Some(next) = samples::next_event(bus, samples, i) {
+        n += 1;
         i = next.next;
     }
     n
@@ -143,12 +139,9 @@ fn list(bus: bool, samples: &[u8], out: &mut [u8]) -> usize
 {
     let mut n = 0;
     let mut i = 1;
-    while i < samples.len() {
-        let next = samples::next_event(bus, samples, i);
-        if next.code < 4 {
-            out[n] = next.code;
-            n += 1;
-        }
+    while let Some(next) = samples::next_event(bus, samples, i) {
+        out[n] = next.code;
+        n += 1;
         i = next.next;
     }
     n
@@ -162,14 +155,13 @@ fn list_judged(bus: bool, samples: &[u8], out: &mut [u8]) -> Listed
     let n = count_events(bus, samples);
     if out.len() < n {
         return Listed {
-            verdict: Verdict::Refused(Refusal::ShortBuffer),
+            verdict: Err(Refusal::ShortBuffer),
             length: 0,
         };
     }
-    let n = list(bus, samples, out);
     Listed {
-        verdict: Verdict::Fine,
-        length: n,
+        verdict: Ok(()),
+        length: list(bus, samples, out),
     }
 }
 
@@ -178,11 +170,10 @@ pub fn events(bus: bool, samples: &[u8], out: &mut [u8]) -> Listed
     ensures answer { result ≡ (listing_of bus samples.now out.old).answer }
     ensures bytes { out.new ≡ (listing_of bus samples.now out.old).out }
 {
-    let verdict = judge(samples);
-    match verdict {
-        Verdict::Fine => list_judged(bus, samples, out),
-        Verdict::Refused(r) => Listed {
-            verdict: Verdict::Refused(r),
+    match judge(samples) {
+        Ok(()) => list_judged(bus, samples, out),
+        Err(r) => Listed {
+            verdict: Err(r),
             length: 0,
         },
     }
@@ -226,12 +217,9 @@ fn tally_all(first: Tally, bus: bool, samples: &[u8]) -> Tally
     let mut t = first;
     let mut place = 0;
     let mut i = 1;
-    while i < samples.len() {
-        let next = samples::next_event(bus, samples, i);
-        if next.code < 4 {
-            t = tallied(t, place, next.code);
-            place = place_after(place, next.code);
-        }
+    while let Some(next) = samples::next_event(bus, samples, i) {
+        t = tallied(t, place, next.code);
+        place = place_after(place, next.code);
         i = next.next;
     }
     t
@@ -249,15 +237,14 @@ pub fn tallied_by(
     ensures { result ≡ counted_of (tally starts stops bytes unacknowledged) bus samples.now }
 {
     let t = Tally {
-        starts: starts,
-        stops: stops,
-        bytes: bytes,
-        unacknowledged: unacknowledged,
+        starts,
+        stops,
+        bytes,
+        unacknowledged,
     };
-    let verdict = judge(samples);
-    match verdict {
-        Verdict::Fine => tally_all(t, bus, samples),
-        Verdict::Refused(_) => t,
+    match judge(samples) {
+        Ok(()) => tally_all(t, bus, samples),
+        Err(_) => t,
     }
 }
 
@@ -294,9 +281,8 @@ fn fallen(wires: Wires) -> u8
     ensures { result ≡ fallen wires }
 {
     match wires {
-        Wires::Rest => 2,
+        Wires::Rest | Wires::High => 2,
         Wires::Low => 0,
-        Wires::High => 2,
     }
 }
 
@@ -347,7 +333,7 @@ pub fn draw(wires: Wires, code: u8) -> Stroke
         _ => Stroke {
             samples: [0, 0, 0, 0],
             count: 0,
-            wires: wires,
+            wires,
         },
     }
 }

@@ -1,5 +1,5 @@
 // Samples become events: the only reader of samples.
-ghost use Rattle.std.specs.Prelude.{◌≡◌, true, ◌≤◌, ◌<◌, length};
+ghost use Rattle.std.specs.Prelude.{◌≡◌, true, ◌≤◌, ◌<◌, [], length, MatchOption};
 ghost use Rattle.parts.specs.Bytes.{AllBelow};
 ghost use Rattle.capture.specs.Samples.{judge_of};
 ghost use Rattle.capture.specs.Ends.{acked_of};
@@ -14,16 +14,14 @@ pub(crate) fn judge(samples: &[u8]) -> Verdict
     // The usual case, without a way out in each turn.
     let low = parts::all_below(4, samples);
     if low {
-        return Verdict::Fine;
+        return Ok(());
     }
-    let mut i = 0;
-    while i < samples.len() {
-        if 3 < samples[i] {
-            return Verdict::Refused(Refusal::BadSample(i));
+    for (i, s) in samples.iter().enumerate() {
+        if 3 < *s {
+            return Err(Refusal::BadSample(i));
         }
-        i += 1;
     }
-    Verdict::Fine
+    Ok(())
 }
 
 // From a sample on, where those that are `s` end.
@@ -31,36 +29,35 @@ fn same_end(samples: &[u8], s: u8, from: usize) -> usize
     requires { from ≤ length samples.now }
     ensures { SameTo samples.now s from result }
 {
-    let mut i = from;
-    while i < samples.len() {
+    for i in from..samples.len() {
         if samples[i] != s {
             return i;
         }
-        i += 1;
     }
-    i
+    samples.len()
 }
 
-// What a sample makes with the one before it: the code, or 9 for none.
-fn pair(bus: bool, before: u8, s: u8, still: bool) -> u8
-    ensures { result ≡ code_of bus before s still }
+// What a sample makes with the one before it.
+fn pair(bus: bool, before: u8, s: u8, still: bool) -> Option<u8>
+    requires { s < 4 }
+    ensures { MatchOption result (code_of bus before s still ≡ 9) (λ code. (code ≡ code_of bus before s still) × (code < 4)) }
 {
     if s % 2 == 0 {
-        return 9;
+        return None;
     }
     if before % 2 == 0 {
         if bus & !still {
-            return 9;
+            return None;
         }
-        return s / 2;
+        return Some(s / 2);
     }
     if before == s {
-        return 9;
+        return None;
     }
-    if s == 1 { 2 } else { 3 }
+    if s == 1 { Some(2) } else { Some(3) }
 }
 
-// An event: its code, or 9 for none; the sample that makes it, and the next sample that may make one.
+// An event: its code; the sample that makes it, and the next sample that may make one.
 #[derive(Clone, Copy)]
 pub(crate) struct Next {
     pub code: u8,
@@ -69,30 +66,27 @@ pub(crate) struct Next {
 }
 
 // The first event from a sample on. Samples that are the same make none: each is looked at once.
-pub(crate) fn next_event(bus: bool, samples: &[u8], from: usize) -> Next
-    requires { (0 < from) × (from ≤ length samples.now) × AllBelow 4 samples.now }
-    ensures { NextIn bus samples.now from result.code result.at result.next }
+pub(crate) fn next_event(bus: bool, samples: &[u8], from: usize) -> Option<Next>
+    requires { (0 < from) × AllBelow 4 samples.now }
+    ensures { MatchOption result (left_of bus samples.now from ≡ []) (λ n. NextIn bus samples.now from n.code n.at n.next) }
 {
     let mut i = from;
     while i < samples.len() {
         let s = samples[i];
         let end = same_end(samples, s, i + 1);
         let still = falls(samples, end);
-        let code = pair(bus, samples[i - 1], s, still);
-        if code < 4 {
-            return Next {
-                code: code,
-                at: i,
-                next: end,
-            };
+        match pair(bus, samples[i - 1], s, still) {
+            Some(code) => {
+                return Some(Next {
+                    code,
+                    at: i,
+                    next: end,
+                });
+            }
+            None => i = end,
         }
-        i = end;
     }
-    Next {
-        code: 9,
-        at: i,
-        next: i,
-    }
+    None
 }
 
 // Whether the clock is low at a sample, or there is none.
@@ -107,19 +101,21 @@ fn falls(samples: &[u8], at: usize) -> bool
 
 // Whether the next nine events are a byte that is acknowledged.
 pub(crate) fn acked(bus: bool, samples: &[u8], from: usize) -> bool
-    requires { (0 < from) × (from ≤ length samples.now) × AllBelow 4 samples.now }
+    requires { (0 < from) × AllBelow 4 samples.now }
     ensures { result ≡ acked_of 9 (left_of bus samples.now from) }
 {
     let mut at = from;
-    let mut k: u8 = 9;
-    while 1 < k {
-        let next = next_event(bus, samples, at);
+    for k in 0..8usize {
+        let Some(next) = next_event(bus, samples, at) else {
+            return false;
+        };
         if 1 < next.code {
             return false;
         }
         at = next.next;
-        k -= 1;
     }
-    let ninth = next_event(bus, samples, at);
-    ninth.code == 0
+    match next_event(bus, samples, at) {
+        Some(ninth) => ninth.code == 0,
+        None => false,
+    }
 }

@@ -1,5 +1,6 @@
 -- What the list call answers, in one equation for each verdict.
 -- Assumes nothing.
+use Rattle.std.specs.Prelude.{Ok, Err}
 use Prim.Native.Nat.{ℕ, ◌<◌, ◌≤◌}
 use mathlib.Core.Path.{◌≡◌, refl, ap, ◌∙◌}
 use mathlib.Core.Bool.{Bool, not, ◌&&◌}
@@ -9,8 +10,7 @@ use lib.ListN.{length, get_or, take, drop, length-append}
 use lib.Seq.{take-append_seam}
 use lib.Dec.{eqb, ltb}
 use borrow.Author.Tests.{lt-ltb, le-ltb}
-use Rattle.parts.specs.declared.Verdict.{Verdict}
-use Rattle.parts.specs.declared.Verdict.TheVariants.{Fine, Refused}
+use Rattle.parts.specs.Verdict.{Verdict}
 use Rattle.parts.specs.declared.Refusal.TheVariants.{ShortBuffer, BadSample}
 use Rattle.parts.specs.Bytes.{AllBelow}
 use Rattle.parts.specs.Refusals.{rank_of, claim_of, sooner_of}
@@ -52,21 +52,21 @@ by_verdict bus ss out v e = ap (λ (w : Verdict). record { answer = listed_by (e
 
 pub answered : (bus : Bool) (ss out : List ℕ) → AllBelow 4 ss → length (events_of bus ss) ≤ length out → listing_of bus ss out ≡ listed (events_of bus ss) out
 unfolding list_verdict_of sooner_of
-answered bus ss out h g = by_verdict bus ss out Fine (rw (fine_judge ss h, le-ltb (length out) (length (events_of bus ss)) g) refl)
+answered bus ss out h g = by_verdict bus ss out (Ok tt) (rw (fine_judge ss h, le-ltb (length out) (length (events_of bus ss)) g) refl)
 
 pub no_room : (bus : Bool) (ss out : List ℕ) → AllBelow 4 ss → length out < length (events_of bus ss) → listing_of bus ss out ≡ unlisted ShortBuffer out
 unfolding list_verdict_of sooner_of
-no_room bus ss out h g = by_verdict bus ss out (Refused ShortBuffer) (rw (fine_judge ss h, lt-ltb (length out) (length (events_of bus ss)) g) refl)
+no_room bus ss out h g = by_verdict bus ss out (Err ShortBuffer) (rw (fine_judge ss h, lt-ltb (length out) (length (events_of bus ss)) g) refl)
 
 pub not_judged : (bus : Bool) (ss out : List ℕ) (k : ℕ) → k < length ss → AllBelow 4 (take k ss) → 3 < get_or ss k 0
     → listing_of bus ss out ≡ unlisted (BadSample k) out
 unfolding list_verdict_of
-not_judged bus ss out k l h g = by_verdict bus ss out (Refused (BadSample k)) (rw (bad_judge ss k l h g) first)
+not_judged bus ss out k l h g = by_verdict bus ss out (Err (BadSample k)) (rw (bad_judge ss k l h g) first)
   where
     short : Bool
     short = ltb (length out) (length (events_of bus ss))
 
-    first : sooner_of (Refused (BadSample k)) (claim_of short ShortBuffer) ≡ Refused (BadSample k)
+    first : sooner_of (Err (BadSample k)) (claim_of short ShortBuffer) ≡ Err (BadSample k)
     first = given_first (BadSample k) (claim_of short ShortBuffer) (later_claim (rank_of (BadSample k)) short ShortBuffer (omega arith))
 
 -- the events that were answered are the events

@@ -1,5 +1,6 @@
 -- A capture of a board that is as the model says is run as the board's own run, and not marked.
 -- Assumes nothing.
+use Rattle.std.specs.Prelude.{Ok}
 use Prim.Native.Nat.{ℕ, zero, suc, ◌+◌, ◌<◌}
 use mathlib.Core.Path.{◌≡◌, ◌∙◌, refl, sym, ap}
 use mathlib.Core.Bool.{Bool, true, false, cond, ◌&&◌}
@@ -10,7 +11,6 @@ use lib.Dec.{eqb, ltb}
 use borrow.Author.Tests.{lt-ltb, eq-eqb, ne_eqb, eqb-true, eqb-false, ltb-true}
 use Rattle.parts.specs.declared.Facts.{Facts}
 use Rattle.parts.specs.declared.Event.TheVariants.{Clock}
-use Rattle.parts.specs.declared.Verdict.TheVariants.{Fine}
 use Rattle.parts.specs.Bytes.{AllBelow}
 use Rattle.parts.specs.Events.{event_with, event_of}
 use Rattle.parts.specs.Table.{facts_of}
@@ -254,7 +254,7 @@ good M c m es =
     record {
       answer =
           record {
-            verdict = Fine;
+            verdict = Ok tt;
             events = length (stripped_of es);
             clocks = clocks_in es;
             ends = ends_in es;
@@ -292,7 +292,7 @@ module _ (part en : ℕ) (c : Chip) (m : Mem) (es : List ℕ) (a : Mastered (our
       let ends : ends_in line ≡ ends_in es = k.ends in
       let mark : mark_from run c m 0 0 rises line ≡ Same = unmarked (facts_of part) en c m 0 0 rises es a.releases in
       λ i. record {
-        answer = record { verdict = Fine; events = count i; clocks = clocks i; ends = ends i; cycles = l.3 i; mark = mark i; chip = l.0 i };
+        answer = record { verdict = Ok tt; events = count i; clocks = clocks i; ends = ends i; cycles = l.3 i; mark = mark i; chip = l.0 i };
         mem = l.1 i;
       }
 

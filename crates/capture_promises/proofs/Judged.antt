@@ -1,5 +1,6 @@
 -- Which captures are refused: the first sample above 3 decides.
 -- Assumes nothing.
+use Rattle.std.specs.Prelude.{Err}
 use Prim.Native.Nat.{ℕ, zero, suc, ◌+◌, ◌<◌}
 use mathlib.Core.Path.{◌≡◌, refl, ap, ◌∙◌}
 use mathlib.Core.Bool.{Bool, true, false}
@@ -9,22 +10,21 @@ use native.Mathlib.Omega.{arith}
 use lib.ListN.{length, get_or, take}
 use lib.Dec.{ltb}
 use borrow.Author.Tests.{lt-ltb, le-ltb, ltb-true, ltb-false}
-use Rattle.parts.specs.declared.Verdict.TheVariants.{Refused}
 use Rattle.parts.specs.declared.Refusal.TheVariants.{BadSample}
 use Rattle.parts.specs.Bytes.{AllBelow}
 use Rattle.capture.specs.Samples.{judge_from, judge_of}
 
 -- ---- a capture is refused at its first sample above 3; which are not refused stands in capture/proofs/Sampled.antt
 
-bad_from : (j k : ℕ) (ss : List ℕ) → k < length ss → AllBelow 4 (take k ss) → 3 < get_or ss k 0 → judge_from j ss ≡ Refused (BadSample (j + k))
+bad_from : (j k : ℕ) (ss : List ℕ) → k < length ss → AllBelow 4 (take k ss) → 3 < get_or ss k 0 → judge_from j ss ≡ Err (BadSample (j + k))
 bad_from j k [] l h g = absurd (omega arith)
-bad_from j zero (s ∷ ss) l h g = rw (lt-ltb 3 s g) (ap (λ (n : ℕ). Refused (BadSample n)) (omega arith))
+bad_from j zero (s ∷ ss) l h g = rw (lt-ltb 3 s g) (ap (λ (n : ℕ). Err (BadSample n)) (omega arith))
 bad_from j (suc k) (s ∷ ss) l h g =
-    rw (le-ltb 3 s (omega (arith, h.0))) (bad_from (suc j) k ss (omega arith) h.1 g ∙ ap (λ (n : ℕ). Refused (BadSample n)) (omega arith))
+    rw (le-ltb 3 s (omega (arith, h.0))) (bad_from (suc j) k ss (omega arith) h.1 g ∙ ap (λ (n : ℕ). Err (BadSample n)) (omega arith))
 
-pub bad_judge : (ss : List ℕ) (k : ℕ) → k < length ss → AllBelow 4 (take k ss) → 3 < get_or ss k 0 → judge_of ss ≡ Refused (BadSample k)
+pub bad_judge : (ss : List ℕ) (k : ℕ) → k < length ss → AllBelow 4 (take k ss) → 3 < get_or ss k 0 → judge_of ss ≡ Err (BadSample k)
 unfolding judge_of
-bad_judge ss k l h g = bad_from 0 k ss l h g ∙ ap (λ (n : ℕ). Refused (BadSample n)) (omega arith)
+bad_judge ss k l h g = bad_from 0 k ss l h g ∙ ap (λ (n : ℕ). Err (BadSample n)) (omega arith)
 
 -- of two ways one
 pub record FirstBad (ss : List ℕ) : Type 0 where

@@ -1,5 +1,6 @@
 -- Captures in pieces, and captures with a sample repeated.
 -- Assumes nothing.
+use Rattle.std.specs.Prelude.{Ok, Err}
 use Prim.Native.Nat.{ℕ, ◌+◌, ◌<◌}
 use mathlib.Core.Path.{◌≡◌, ◌∙◌, refl, sym, ap}
 use mathlib.Core.Bool.{Bool}
@@ -8,8 +9,7 @@ use native.Mathlib.Nat.{zero-add}
 use native.Mathlib.Omega.{arith}
 use lib.ListN.{length, get_or, length-append, get_or-append}
 use lib.Seq.{get_or-append-add}
-use Rattle.parts.specs.declared.Verdict.{Verdict}
-use Rattle.parts.specs.declared.Verdict.TheVariants.{Fine, Refused}
+use Rattle.parts.specs.Verdict.{Verdict}
 use Rattle.parts.specs.Bytes.{AllBelow}
 use Rattle.parts.specs.Table.{facts_of}
 use Rattle.parts.specs.Refusals.{sooner_of}
@@ -44,18 +44,18 @@ use Rattle.capture_promises.proofs.Joined.{ends_cut, ends_append, place_stripped
 abbrev verdict : ℕ → ℕ → Chip → Mem → List ℕ → Verdict
 verdict part en c m ss = seen_verdict_of part en c (length m.cells) (length m.ident) ss
 
-verdict_fine : (M : Model) (c : Chip) (m : Mem) (bus : Bool) (ss : List ℕ) (v : Verdict) → (seen_by M c m bus ss v).verdict ≡ Fine → v ≡ Fine
-verdict_fine M c m bus ss Fine h = refl
-verdict_fine M c m bus ss (Refused r) h = refused_not h
+verdict_fine : (M : Model) (c : Chip) (m : Mem) (bus : Bool) (ss : List ℕ) (v : Verdict) → (seen_by M c m bus ss v).verdict ≡ Ok tt → v ≡ Ok tt
+verdict_fine M c m bus ss (Ok _) h = refl
+verdict_fine M c m bus ss (Err r) h = refused_not h
 
-fine_parts : (part en : ℕ) (c : Chip) (m : Mem) (ss : List ℕ) → verdict part en c m ss ≡ Fine
+fine_parts : (part en : ℕ) (c : Chip) (m : Mem) (ss : List ℕ) → verdict part en c m ss ≡ Ok tt
     → Usable part en c (length m.cells) (length m.ident) × AllBelow 4 ss
 unfolding seen_verdict_of
 fine_parts part en c m ss h =
     let w = sooner_fine (held_verdict_of part en c (length m.cells) (length m.ident)) (judge_of ss) h in
     (held_fine part en c (length m.cells) (length m.ident) w.0, judge_fine ss w.1)
 
-parts_fine : (part en : ℕ) (c : Chip) (m : Mem) (ss : List ℕ) → Usable part en c (length m.cells) (length m.ident) → AllBelow 4 ss → verdict part en c m ss ≡ Fine
+parts_fine : (part en : ℕ) (c : Chip) (m : Mem) (ss : List ℕ) → Usable part en c (length m.cells) (length m.ident) → AllBelow 4 ss → verdict part en c m ss ≡ Ok tt
 unfolding seen_verdict_of sooner_of
 parts_fine part en c m ss u h =
     ap (λ (v : Verdict). sooner_of v (judge_of ss)) (fine_held part en c (length m.cells) (length m.ident) u) ∙ fine_judge ss h
@@ -147,7 +147,7 @@ module _ (part en : ℕ) (c : Chip) (m : Mem) (bus : Bool) (ws ys : List ℕ) wh
       ∙ ap (λ (k : Mark). sooner_mark k (mark_from M c1 m1 0 (0 + clocks_in X1) R X2)) mark_1
       ∙ ap (sooner_mark (mark_from M c m 0 0 R1 X1)) mark_2
 
-  both_run : seen_left_of M c m bus whole Fine ≡ joined (length ws + 1) (seen_by M c m bus front Fine) (seen_left_of M c1 m1 bus (3 ∷ ys) Fine)
+  both_run : seen_left_of M c m bus whole (Ok tt) ≡ joined (length ws + 1) (seen_by M c m bus front (Ok tt)) (seen_left_of M c1 m1 bus (3 ∷ ys) (Ok tt))
   both_run =
       let X = with_ends_of M c (events_of bus whole) in
       let e = ends_cut_here in
@@ -161,7 +161,7 @@ module _ (part en : ℕ) (c : Chip) (m : Mem) (bus : Bool) (ws ys : List ℕ) wh
       let mark : mark_from M c m 0 0 (rises_of bus whole) X ≡ sooner_mark (mark_from M c m 0 0 R1 X1) (later_mark (length ws + 1) (clocks_in E1) (mark_from M c1 m1 0 0 R2 X2)) =
       ap (mark_from M c m 0 0 (rises_of bus whole)) e ∙ mark_cut in
       λ i. record {
-        answer = record { verdict = Fine; events = events i; clocks = clocks i; ends = ends i; cycles = cycles i; mark = mark i; chip = chip i };
+        answer = record { verdict = Ok tt; events = events i; clocks = clocks i; ends = ends i; cycles = cycles i; mark = mark i; chip = chip i };
         mem = stored i;
       }
 
@@ -176,8 +176,8 @@ module _ (part en : ℕ) (c : Chip) (m : Mem) (bus : Bool) (ws ys : List ℕ) wh
         ranged = (range_kept_by_runs part en old c X1 (all_taken (facts_of part) X1 (with_below M c E1 (events_below bus front))) t u.ranged).0;
       }
 
-  pub pieces : Typed c → verdict part en c m whole ≡ Fine
-      → (verdict part en c m front ≡ Fine) × (verdict part en c1 m1 (3 ∷ ys) ≡ Fine)
+  pub pieces : Typed c → verdict part en c m whole ≡ Ok tt
+      → (verdict part en c m front ≡ Ok tt) × (verdict part en c1 m1 (3 ∷ ys) ≡ Ok tt)
   pieces t h =
       let w = fine_parts part en c m whole h in
       let a = below_left 4 ws (1 ∷ 3 ∷ ys) w.1 in
@@ -187,11 +187,11 @@ module _ (part en : ℕ) (c : Chip) (m : Mem) (bus : Bool) (ws ys : List ℕ) wh
       )
 
   -- the first piece, as it was answered
-  rest : (a : SeenLeft) → a ≡ seen_left_of M c m bus front Fine → verdict part en c1 m1 (3 ∷ ys) ≡ Fine
-      → seen_left_of M c m bus whole Fine ≡ joined (length ws + 1) a.answer (seeing_of part en a.answer.chip a.mem bus (3 ∷ ys))
+  rest : (a : SeenLeft) → a ≡ seen_left_of M c m bus front (Ok tt) → verdict part en c1 m1 (3 ∷ ys) ≡ Ok tt
+      → seen_left_of M c m bus whole (Ok tt) ≡ joined (length ws + 1) a.answer (seeing_of part en a.answer.chip a.mem bus (3 ∷ ys))
   rest a e v =
       both_run
-      ∙ ap (λ (x : Verdict). joined (length ws + 1) (seen_by M c m bus front Fine) (seen_left_of M c1 m1 bus (3 ∷ ys) x)) (sym v)
+      ∙ ap (λ (x : Verdict). joined (length ws + 1) (seen_by M c m bus front (Ok tt)) (seen_left_of M c1 m1 bus (3 ∷ ys) x)) (sym v)
       ∙ ap (λ (x : SeenLeft). joined (length ws + 1) x.answer (seeing_of part en x.answer.chip x.mem bus (3 ∷ ys))) (sym e)
 
 pub pieces_join : PiecesJoin seeing_of
@@ -213,7 +213,7 @@ module _ (part en : ℕ) (c : Chip) (m : Mem) (bus : Bool) (ws ys : List ℕ) (s
   abbrev twice : List ℕ
   twice = ws ++ s ∷ s ∷ ys
 
-  fine_twice : verdict part en c m once ≡ Fine → verdict part en c m twice ≡ Fine
+  fine_twice : verdict part en c m once ≡ Ok tt → verdict part en c m twice ≡ Ok tt
   fine_twice h =
       let w = fine_parts part en c m once h in
       let a = below_left 4 ws (s ∷ ys) w.1 in
@@ -237,8 +237,8 @@ module _ (part en : ℕ) (c : Chip) (m : Mem) (bus : Bool) (ws ys : List ℕ) (s
       same Same = refl
       same (At x n v) = ap (λ (j : ℕ). At (moved_past (length ws + 1) x) j v) (zero-add n)
 
-  run_repeat : seen_left_of (ours (facts_of part) en) c m bus twice Fine
-      ≡ with_mark (seen_left_of (ours (facts_of part) en) c m bus once Fine) (moved_mark (length ws + 1) (seen_by (ours (facts_of part) en) c m bus once Fine).mark)
+  run_repeat : seen_left_of (ours (facts_of part) en) c m bus twice (Ok tt)
+      ≡ with_mark (seen_left_of (ours (facts_of part) en) c m bus once (Ok tt)) (moved_mark (length ws + 1) (seen_by (ours (facts_of part) en) c m bus once (Ok tt)).mark)
   run_repeat =
       ap (λ (es : List ℕ). over es (mark_from (ours (facts_of part) en) c m 0 0 (rises_of bus twice) (with_ends_of (ours (facts_of part) en) c es))) (events_repeat bus s ws ys)
       ∙ ap (over (events_of bus once)) mark_repeat
@@ -252,7 +252,7 @@ module _ (part en : ℕ) (c : Chip) (m : Mem) (bus : Bool) (ws ys : List ℕ) (s
           }
           k
 
-  twice_run : (v w : Verdict) → v ≡ Fine → w ≡ Fine
+  twice_run : (v w : Verdict) → v ≡ Ok tt → w ≡ Ok tt
       → seen_left_of (ours (facts_of part) en) c m bus twice v
       ≡ with_mark (seen_left_of (ours (facts_of part) en) c m bus once w) (moved_mark (length ws + 1) (seen_by (ours (facts_of part) en) c m bus once w).mark)
   twice_run v w e h = rw (e, h) run_repeat

@@ -1,5 +1,6 @@
 -- Running the model over a capture: what is promised of it, and that this leaves nothing open.
 -- Assumes nothing.
+use Rattle.std.specs.Prelude.{Ok, Err}
 use Prim.Native.Nat.{ℕ, ◌<◌, ◌≤◌}
 use mathlib.Core.Path.{◌≡◌, ◌∙◌, refl, sym, ap}
 use mathlib.Core.Bool.{Bool}
@@ -10,8 +11,7 @@ use native.Mathlib.Omega.{arith}
 use lib.ListN.{length}
 use Rattle.parts.specs.declared.Refusal.{Refusal}
 use Rattle.parts.specs.declared.Refusal.TheVariants.{NoPart, WrongEnable, WrongBuffer, BadState}
-use Rattle.parts.specs.declared.Verdict.{Verdict}
-use Rattle.parts.specs.declared.Verdict.TheVariants.{Fine, Refused}
+use Rattle.parts.specs.Verdict.{Verdict}
 use Rattle.parts.specs.Bytes.{AllBelow}
 use Rattle.parts.specs.Table.{facts_of, id_size_of}
 use Rattle.parts.specs.Refusals.{rank_of, sooner_of}
@@ -46,9 +46,9 @@ module _ (part en : ℕ) (c : Chip) (m : Mem) (bus : Bool) (ss : List ℕ) where
   abbrev ended : List ℕ
   ended = with_ends_of M c (events_of bus ss)
 
-  runs_over : (v : Verdict) → (seen_by M c m bus ss v).verdict ≡ Fine → RunsOver M c m bus ss (seen_left_of M c m bus ss v)
-  runs_over (Refused r) h = refused_not h
-  runs_over Fine h =
+  runs_over : (v : Verdict) → (seen_by M c m bus ss v).verdict ≡ Ok tt → RunsOver M c m bus ss (seen_left_of M c m bus ss v)
+  runs_over (Err r) h = refused_not h
+  runs_over (Ok _) h =
       record {
         with_ends = ended;
         captured = stripped_with M c (events_of bus ss) (events_below bus ss);
@@ -61,10 +61,10 @@ module _ (part en : ℕ) (c : Chip) (m : Mem) (bus : Bool) (ss : List ℕ) where
         clocks = refl;
       }
 
-  marks_first : (xs : List ℕ) (v : Verdict) → (seen_by M c m bus ss v).verdict ≡ Fine → stripped_of xs ≡ events_of bus ss → EndsPlaced M c xs
+  marks_first : (xs : List ℕ) (v : Verdict) → (seen_by M c m bus ss v).verdict ≡ Ok tt → stripped_of xs ≡ events_of bus ss → EndsPlaced M c xs
       → MarkRight M c m bus ss xs (seen_by M c m bus ss v).mark
-  marks_first xs (Refused r) h e p = refused_not h
-  marks_first xs Fine h e p =
+  marks_first xs (Err r) h e p = refused_not h
+  marks_first xs (Ok _) h e p =
       let s = stripped_with M c (events_of bus ss) (events_below bus ss) in
       let one : xs ≡ ended = ends_one_way M c xs ended p (with_placed (facts_of part) en c (events_of bus ss) (events_below bus ss)) (e ∙ sym s) in
       rw one (mark_right M c m bus ss ended s)
@@ -85,7 +85,7 @@ module _ (part en : ℕ) (c : Chip) (m : Mem) (bus : Bool) (ss : List ℕ) where
   by v = seen_left_of (ours (facts_of part) en) c m bus ss v
 
   -- 1 to 4 go before 20
-  refused_held : (r : Refusal) → rank_of r ≤ rank_of BadState → held ≡ Refused r → seeing_of part en c m bus ss ≡ unseen r c m
+  refused_held : (r : Refusal) → rank_of r ≤ rank_of BadState → held ≡ Err r → seeing_of part en c m bus ss ≡ unseen r c m
   unfolding seen_verdict_of
   refused_held r low h =
       ap (λ (v : Verdict). by (sooner_of v (judge_of ss))) h ∙ ap by (given_first r (judge_of ss) (judge_later (rank_of r) ss (omega arith)))
@@ -94,7 +94,7 @@ module _ (part en : ℕ) (c : Chip) (m : Mem) (bus : Bool) (ss : List ℕ) where
   unfolding seen_verdict_of sooner_of
   seen_ready r = ap (λ (v : Verdict). sooner_of v (judge_of ss)) (held_0 part en c m r)
 
-  pub seen_fine : Ready part en c m → AllBelow 4 ss → seen_verdict_of part en c (length m.cells) (length m.ident) ss ≡ Fine
+  pub seen_fine : Ready part en c m → AllBelow 4 ss → seen_verdict_of part en c (length m.cells) (length m.ident) ss ≡ Ok tt
   seen_fine r h = seen_ready r ∙ fine_judge ss h
 
 pub see_numbers : SeeNumbers seeing_of
@@ -116,7 +116,7 @@ viewer = record { ends = ends_right; marks = mark_first; numbers = see_numbers }
 -- ---- nothing is left open
 
 module _ (see other : Seeing) (x : Viewer see) (y : Viewer other) (part en : ℕ) (c : Chip) (m : Mem) (bus : Bool) (ss : List ℕ) where
-  same_left : (a b : SeenLeft) → a.answer.verdict ≡ Fine → b.answer.verdict ≡ Fine → RunsOver (ours (facts_of part) en) c m bus ss a → RunsOver (ours (facts_of part) en) c m bus ss b
+  same_left : (a b : SeenLeft) → a.answer.verdict ≡ Ok tt → b.answer.verdict ≡ Ok tt → RunsOver (ours (facts_of part) en) c m bus ss a → RunsOver (ours (facts_of part) en) c m bus ss b
       → a.answer.mark ≡ b.answer.mark → a ≡ b
   same_left a b f g r s k =
       let one : r.with_ends ≡ s.with_ends = ends_one_way (ours (facts_of part) en) c r.with_ends s.with_ends r.placed s.placed (r.captured ∙ sym s.captured) in

@@ -1,5 +1,6 @@
 -- The promises of the tally, kept by ours; and they leave nothing open.
 -- Assumes nothing.
+use Rattle.std.specs.Prelude.{Ok}
 use Prim.Native.Nat.{ℕ, ◌+◌, ◌<◌, ◌≤◌}
 use mathlib.Core.Path.{◌≡◌, refl, sym, ap, ◌∙◌}
 use mathlib.Core.Bool.{Bool, true, false, ◌&&◌}
@@ -12,8 +13,7 @@ use lib.ListN.{length}
 use lib.Dec.{eqb, ltb}
 use borrow.Author.Tests.{lt-ltb, le-ltb, ne_eqb, ltb-true, ltb-false, eqb-true, eqb-false}
 use Rattle.parts.specs.Bytes.{AllBelow, flag_of, topped}
-use Rattle.parts.specs.declared.Verdict.{Verdict}
-use Rattle.parts.specs.declared.Verdict.TheVariants.{Fine}
+use Rattle.parts.specs.Verdict.{Verdict}
 use Rattle.parts.proofs.Laws.{branch}
 use Rattle.parts.proofs.Bytes.{below_append, below_left, below_right, top_low, up_wide, up_step}
 use Rattle.capture.specs.declared.Tally.{Tally}
@@ -104,13 +104,13 @@ run t place (e ∷ es) w h g =
 
 -- ---- the call
 
-counting_fine : (t : Tally) (bus : Bool) (ss : List ℕ) → AllBelow 4 ss → counting_of t bus ss ≡ record { verdict = Fine; tally = tallies_of t 0 (events_of bus ss) }
+counting_fine : (t : Tally) (bus : Bool) (ss : List ℕ) → AllBelow 4 ss → counting_of t bus ss ≡ record { verdict = Ok tt; tally = tallies_of t 0 (events_of bus ss) }
 unfolding counted_of
 counting_fine t bus ss h = ap (λ (v : Verdict). record { verdict = v; tally = counted_by t bus ss v }) (fine_judge ss h)
 
 pub tally_counts : TallyCounts counting_of
 tally_counts t bus ss w h =
-    counting_fine t bus ss h ∙ ap (λ (u : Tally). record { verdict = Fine; tally = u }) (run t 0 (events_of bus ss) w (omega arith) (events_below bus ss))
+    counting_fine t bus ss h ∙ ap (λ (u : Tally). record { verdict = Ok tt; tally = u }) (run t 0 (events_of bus ss) w (omega arith) (events_below bus ss))
 
 pub count_numbers : CountNumbers counting_of
 unfolding counted_of
@@ -146,5 +146,5 @@ tally_joins t bus ws ys fine =
     let left = below_append 4 ws (1 ∷ 3 ∷ []) (below_left 4 ws (1 ∷ 3 ∷ ys) whole) (omega arith) in
     let first = ap (λ (a : CountLeft). a.tally) (counting_fine t bus (ws ++ 1 ∷ 3 ∷ []) left) in
     counting_fine t bus (ws ++ 1 ∷ 3 ∷ ys) whole
-    ∙ ap (λ (u : Tally). record { verdict = Fine; tally = u }) (joins t bus ws ys)
+    ∙ ap (λ (u : Tally). record { verdict = Ok tt; tally = u }) (joins t bus ws ys)
     ∙ sym (ap (λ (u : Tally). counting_of u bus (3 ∷ ys)) first ∙ counting_fine (tallies_of t 0 (events_of bus (ws ++ 1 ∷ 3 ∷ []))) bus (3 ∷ ys) right.1)

@@ -1,5 +1,6 @@
 -- The wrong runs of specs/WrongRuns.antt break the promises, on captures of specs/Worked.antt.
 -- Assumes nothing.
+use Rattle.std.specs.Prelude.{Ok, Err}
 use Prim.Native.Nat.{ℕ, ◌<◌}
 use mathlib.Core.Path.{◌≡◌, ◌∙◌, refl, sym, ap}
 use mathlib.Core.Bool.{Bool, true, false, cond, ◌&&◌}
@@ -8,8 +9,7 @@ use native.Mathlib.Omega.{arith}
 use lib.ListN.{length, get_or}
 use lib.Dec.{eqb, ltb}
 use borrow.Author.Tests.{lt-ltb, eqb-true}
-use Rattle.parts.specs.declared.Verdict.{Verdict}
-use Rattle.parts.specs.declared.Verdict.TheVariants.{Fine, Refused}
+use Rattle.parts.specs.Verdict.{Verdict}
 use Rattle.parts.specs.Bytes.{AllBelow}
 use Rattle.parts.specs.Table.{facts_of, id_size_of, enable_right_of, buffers_right_of}
 use Rattle.parts.specs.Events.{event_with}
@@ -57,7 +57,7 @@ ready = record { named = record { known = omega arith; enabled = omega arith; le
 
 -- ---- a run that keeps a promise answers as ours
 
-our_fine : (bus : Bool) (es : List ℕ) → (over bus es).answer.verdict ≡ Fine
+our_fine : (bus : Bool) (es : List ℕ) → (over bus es).answer.verdict ≡ Ok tt
 unfolding over
 our_fine bus es =
     ap (λ (v : Verdict). (seen_left_of (ours (facts_of 2) 0) chip₀ mem₀ bus (drawn_of es) v).answer.verdict) (seen_fine 2 0 chip₀ mem₀ bus (drawn_of es) ready (drawn_low es))
@@ -66,7 +66,7 @@ module _ (see : Seeing) (accepts : Accepts see) (bus : Bool) (es : List ℕ) whe
   abbrev answered : SeenLeft
   answered = see 2 0 chip₀ mem₀ bus (drawn_of es)
 
-  fine : answered.answer.verdict ≡ Fine
+  fine : answered.answer.verdict ≡ Ok tt
   fine = accepts 2 0 chip₀ mem₀ bus (drawn_of es) ready (drawn_low es)
 
   same_run : EndsRight see → (answered.answer.ends ≡ (over bus es).answer.ends) × (answered.answer.chip ≡ (over bus es).answer.chip)
@@ -186,8 +186,8 @@ like_ours : ViewedIsOurs
 like_ours part en c m bus ss = go (seen_verdict_of part en c (length m.cells) (length m.ident) ss)
   where
     go : (v : Verdict) → viewed_by (record { with_ends = with_ends_of; mark_of = first_mark }) (ours (facts_of part) en) c m bus ss v ≡ seen_left_of (ours (facts_of part) en) c m bus ss v
-    go Fine = refl
-    go (Refused r) = refl
+    go (Ok _) = refl
+    go (Err r) = refl
 
 refuse_as_ours : ViewedAccepts
 refuse_as_ours v part en c m bus ss r h = ap (λ (w : Verdict). (viewed_by v (ours (facts_of part) en) c m bus ss w).answer.verdict) (seen_fine part en c m bus ss r h)

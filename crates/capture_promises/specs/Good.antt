@@ -1,10 +1,9 @@
 -- A capture of a board that is as the model says is not marked: the wires of a run of the model itself, drawn, are run as that run (document 02,
 -- §3): proofs/Good.antt.
 -- Assumes nothing.
-use Rattle.std.specs.Prelude.{ℕ, ◌<◌, ◌≡◌, true, List, [], ◌∷◌, length}
+use Rattle.std.specs.Prelude.{ℕ, ◌<◌, ◌≡◌, true, List, [], ◌∷◌, length, Ok}
 use Rattle.parts.specs.Bytes.{AllBelow}
 use Rattle.parts.specs.Table.{facts_of}
-use Rattle.parts.specs.declared.Verdict.TheVariants.{Fine}
 use Rattle.state.specs.declared.Chip.{Chip}
 use Rattle.chip.specs.Memory.{Mem}
 use Rattle.chip.specs.Model.{Model, ours}
@@ -55,7 +54,7 @@ GoodUnmarked see =
     ≡ record {
       answer =
           record {
-            verdict = Fine;
+            verdict = Ok tt;
             events = length (stripped_of es);
             clocks = clocks_in es;
             ends = ends_in es;

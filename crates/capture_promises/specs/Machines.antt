@@ -1,8 +1,7 @@
 -- Any reader of captures, any run over one, any tally: what the promises speak of. Ours are `listing_of`, `seeing_of` and `counting_of`.
 -- Assumes nothing.
-use Rattle.std.specs.Prelude.{ℕ, Bool, List, ◌++◌, length, take, drop}
-use Rattle.parts.specs.declared.Verdict.{Verdict}
-use Rattle.parts.specs.declared.Verdict.TheVariants.{Fine, Refused}
+use Rattle.std.specs.Prelude.{ℕ, Bool, List, ◌++◌, length, take, drop, Ok, Err}
+use Rattle.parts.specs.Verdict.{Verdict}
 use Rattle.parts.specs.declared.Refusal.{Refusal}
 use Rattle.capture.specs.declared.Mark.TheVariants.{Same}
 use Rattle.state.specs.declared.Chip.{Chip}
@@ -36,12 +35,12 @@ abbrev pub events_in : ListLeft → List ℕ
 events_in a = take a.answer.length a.out
 
 abbrev pub listed : List ℕ → List ℕ → ListLeft
-listed es out = record { answer = record { verdict = Fine; length = length es }; out = es ++ drop (length es) out }
+listed es out = record { answer = record { verdict = Ok tt; length = length es }; out = es ++ drop (length es) out }
 
 -- a refused call changes nothing
 abbrev pub unlisted : Refusal → List ℕ → ListLeft
-unlisted r out = record { answer = record { verdict = Refused r; length = 0 }; out = out }
+unlisted r out = record { answer = record { verdict = Err r; length = 0 }; out = out }
 
 abbrev pub unseen : Refusal → Chip → Mem → SeenLeft
 unseen r c m =
-    record { answer = record { verdict = Refused r; events = 0; clocks = 0; ends = 0; cycles = 0; mark = Same; chip = c }; mem = m }
+    record { answer = record { verdict = Err r; events = 0; clocks = 0; ends = 0; cycles = 0; mark = Same; chip = c }; mem = m }

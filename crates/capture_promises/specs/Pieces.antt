@@ -1,8 +1,7 @@
 -- Long captures in pieces: a capture may be cut directly behind a Stop, and the pieces, one after another on the same chip, are the whole: proofs/Pieces.antt.
 -- The second piece begins with the sample that the first ended with, which makes no event there.
 -- Assumes nothing.
-use Rattle.std.specs.Prelude.{ℕ, ◌+◌, ◌≡◌, Bool, cond, List, [], ◌∷◌, ◌++◌, length, ltb}
-use Rattle.parts.specs.declared.Verdict.TheVariants.{Fine}
+use Rattle.std.specs.Prelude.{ℕ, ◌+◌, ◌≡◌, Bool, cond, List, [], ◌∷◌, ◌++◌, length, ltb, Ok}
 use Rattle.state.specs.declared.Chip.{Chip}
 use Rattle.chip.specs.Memory.{Mem}
 use Rattle.chip_laws.specs.Range.{Typed}
@@ -40,15 +39,15 @@ joined samples a b =
 abbrev pub PiecesJoin : Seeing → Type 0
 PiecesJoin see =
     (part enable : ℕ) (c : Chip) (m : Mem) (bus : Bool) (ws ys : List ℕ) → Typed c
-    → (see part enable c m bus (ws ++ 1 ∷ 3 ∷ ys)).answer.verdict ≡ Fine
-    → ((see part enable c m bus (ws ++ 1 ∷ 3 ∷ [])).answer.verdict ≡ Fine)
+    → (see part enable c m bus (ws ++ 1 ∷ 3 ∷ ys)).answer.verdict ≡ Ok tt
+    → ((see part enable c m bus (ws ++ 1 ∷ 3 ∷ [])).answer.verdict ≡ Ok tt)
     × (see part enable c m bus (ws ++ 1 ∷ 3 ∷ ys)
     ≡ joined (length ws + 1) (see part enable c m bus (ws ++ 1 ∷ 3 ∷ [])).answer
     (see part enable (see part enable c m bus (ws ++ 1 ∷ 3 ∷ [])).answer.chip (see part enable c m bus (ws ++ 1 ∷ 3 ∷ [])).mem bus (3 ∷ ys)))
 
 abbrev pub TallyJoins : Counting → Type 0
 TallyJoins count =
-    (t : Tally) (bus : Bool) (ws ys : List ℕ) → (count t bus (ws ++ 1 ∷ 3 ∷ ys)).verdict ≡ Fine
+    (t : Tally) (bus : Bool) (ws ys : List ℕ) → (count t bus (ws ++ 1 ∷ 3 ∷ ys)).verdict ≡ Ok tt
     → count t bus (ws ++ 1 ∷ 3 ∷ ys) ≡ count (count t bus (ws ++ 1 ∷ 3 ∷ [])).tally bus (3 ∷ ys)
 
 -- a sample equal to the one before it can be left out: the samples behind it come one later
@@ -75,6 +74,6 @@ with_mark a k =
 abbrev pub RepeatsLeftOut : Seeing → Type 0
 RepeatsLeftOut see =
     (part enable : ℕ) (c : Chip) (m : Mem) (bus : Bool) (ws ys : List ℕ) (s : ℕ)
-    → (see part enable c m bus (ws ++ s ∷ ys)).answer.verdict ≡ Fine
+    → (see part enable c m bus (ws ++ s ∷ ys)).answer.verdict ≡ Ok tt
     → see part enable c m bus (ws ++ s ∷ s ∷ ys)
     ≡ with_mark (see part enable c m bus (ws ++ s ∷ ys)) (moved_mark (length ws + 1) (see part enable c m bus (ws ++ s ∷ ys)).answer.mark)

@@ -1,10 +1,9 @@
 -- What is promised of running the model over a capture (document 02, §3), over any such run: proofs/Running.antt. `Model` and the run over one
 -- are the chip's own (crates/chip/specs): there is no second model.
 -- Assumes nothing.
-use Rattle.std.specs.Prelude.{ℕ, suc, ◌<◌, ◌≤◌, ◌≡◌, Bool, true, false, cond, List, [], ◌∷◌, ◌++◌, length, get_or, take, drop, eqb}
+use Rattle.std.specs.Prelude.{ℕ, suc, ◌<◌, ◌≤◌, ◌≡◌, Bool, true, false, cond, List, [], ◌∷◌, ◌++◌, length, get_or, take, drop, eqb, Ok}
 use Rattle.parts.specs.Bytes.{AllBelow}
 use Rattle.parts.specs.declared.Refusal.TheVariants.{NoPart, WrongEnable, WrongBuffer, BadState, BadSample}
-use Rattle.parts.specs.declared.Verdict.TheVariants.{Fine}
 use Rattle.parts.specs.Table.{facts_of}
 use Rattle.state.specs.declared.Chip.{Chip}
 use Rattle.state.specs.Range.{in_range_of}
@@ -94,13 +93,13 @@ pub record RunsOver (M : Model) (c : Chip) (m : Mem) (bus : Bool) (ss : List ℕ
 -- what is run is the capture's events with their ends
 abbrev pub EndsRight : Seeing → Type 0
 EndsRight see =
-    (part enable : ℕ) (c : Chip) (m : Mem) (bus : Bool) (ss : List ℕ) → (see part enable c m bus ss).answer.verdict ≡ Fine
+    (part enable : ℕ) (c : Chip) (m : Mem) (bus : Bool) (ss : List ℕ) → (see part enable c m bus ss).answer.verdict ≡ Ok tt
     → RunsOver (ours (facts_of part) enable) c m bus ss (see part enable c m bus ss)
 
 -- and of these the first that differs is marked
 abbrev pub MarkFirst : Seeing → Type 0
 MarkFirst see =
-    (part enable : ℕ) (c : Chip) (m : Mem) (bus : Bool) (ss xs : List ℕ) → (see part enable c m bus ss).answer.verdict ≡ Fine
+    (part enable : ℕ) (c : Chip) (m : Mem) (bus : Bool) (ss xs : List ℕ) → (see part enable c m bus ss).answer.verdict ≡ Ok tt
     → stripped_of xs ≡ events_of bus ss → EndsPlaced (ours (facts_of part) enable) c xs
     → MarkRight (ours (facts_of part) enable) c m bus ss xs (see part enable c m bus ss).answer.mark
 
@@ -120,7 +119,7 @@ module _ (see : Seeing) (part enable : ℕ) (c : Chip) (m : Mem) (bus : Bool) (s
     pub wrong_buffer : part ≤ 5 → enable < (facts_of part).enables → (Lent part m → ⊥) → left ≡ unseen WrongBuffer c m
     pub bad_state : Named part enable m → in_range_of (facts_of part) c ≡ false → left ≡ unseen BadState c m
     pub bad_sample : (k : ℕ) → Ready part enable c m → k < length ss → AllBelow 4 (take k ss) → 3 < get_or ss k 0 → left ≡ unseen (BadSample k) c m
-    pub none : Ready part enable c m → AllBelow 4 ss → left.answer.verdict ≡ Fine
+    pub none : Ready part enable c m → AllBelow 4 ss → left.answer.verdict ≡ Ok tt
 
 abbrev pub SeeNumbers : Seeing → Type 0
 SeeNumbers see = (part enable : ℕ) (c : Chip) (m : Mem) (bus : Bool) (ss : List ℕ) → SeeNumber see part enable c m bus ss

@@ -1,9 +1,8 @@
 -- What is promised of the tally (document 02, §3), over any: proofs/Tallied.antt.
 -- Assumes nothing.
-use Rattle.std.specs.Prelude.{ℕ, suc, ◌+◌, ◌<◌, ◌≡◌, Bool, cond, List, [], ◌∷◌, length, get_or, take, eqb, ltb}
+use Rattle.std.specs.Prelude.{ℕ, suc, ◌+◌, ◌<◌, ◌≡◌, Bool, cond, List, [], ◌∷◌, length, get_or, take, eqb, ltb, Ok, Err}
 use Rattle.parts.specs.Bytes.{AllBelow, flag_of, topped}
 use Rattle.parts.specs.declared.Refusal.TheVariants.{BadSample}
-use Rattle.parts.specs.declared.Verdict.TheVariants.{Fine, Refused}
 use Rattle.capture.specs.declared.Tally.{Tally}
 use Rattle.capture.specs.Samples.{events_of}
 use Rattle.capture.specs.Tallies.{tally}
@@ -33,7 +32,7 @@ TallyCounts count =
     (t : Tally) (bus : Bool) (ss : List ℕ) → Wide t → AllBelow 4 ss
     → count t bus ss
     ≡ record {
-      verdict = Fine;
+      verdict = Ok tt;
       tally =
           tally
           (topped (t.starts + count_of 2 (events_of bus ss)))
@@ -46,7 +45,7 @@ TallyCounts count =
 abbrev pub CountNumbers : Counting → Type 0
 CountNumbers count =
     (t : Tally) (bus : Bool) (ss : List ℕ) (k : ℕ) → k < length ss → AllBelow 4 (take k ss) → 3 < get_or ss k 0
-    → count t bus ss ≡ record { verdict = Refused (BadSample k); tally = t }
+    → count t bus ss ≡ record { verdict = Err (BadSample k); tally = t }
 
 -- ---- these leave nothing open, for tallies that code can lend
 

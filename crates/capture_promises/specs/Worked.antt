@@ -1,7 +1,6 @@
 -- Captures worked by hand (document 02, §3): on part 2 as delivered, enable 0, what a run over each answers: proofs/Worked.antt.
 -- Assumes nothing.
-use Rattle.std.specs.Prelude.{ℕ, ◌≡◌, Bool, true, false, List, [], ◌∷◌, ◌++◌, get_or}
-use Rattle.parts.specs.declared.Verdict.TheVariants.{Fine}
+use Rattle.std.specs.Prelude.{ℕ, ◌≡◌, Bool, true, false, List, [], ◌∷◌, ◌++◌, get_or, Ok}
 use Rattle.parts.specs.Table.{facts_of}
 use Rattle.chip.specs.Delivery.{standby_of, delivered_of}
 use Rattle.chip_laws.specs.Bytes.{byte_of}
@@ -26,7 +25,7 @@ over bus es = seeing_of 2 0 (standby_of (facts_of 2) false) (delivered_of 2) bus
 
 pub record WorkedCaptures : Type 0 where
   -- 38 events, of which 36 are clocks; the Stop stands directly behind the acknowledge and begins a cycle
-  pub fine : (over true byte_written).answer.verdict ≡ Fine
+  pub fine : (over true byte_written).answer.verdict ≡ Ok tt
   pub events : (over true byte_written).answer.events ≡ 38
   pub clocks : (over true byte_written).answer.clocks ≡ 36
   pub cycles : (over true byte_written).answer.cycles ≡ 1

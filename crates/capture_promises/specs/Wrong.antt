@@ -4,7 +4,7 @@ use Rattle.std.specs.Prelude.{ℕ, ◌+◌, ◌/◌, ◌%◌, ◌≡◌, Bool, t
 use Rattle.parts.specs.Bytes.{AllBelow, topped}
 use Rattle.parts.specs.Refusals.{claim_of, sooner_of}
 use Rattle.parts.specs.declared.Refusal.TheVariants.{ShortBuffer}
-use Rattle.parts.specs.declared.Verdict.{Verdict}
+use Rattle.parts.specs.Verdict.{Verdict}
 use Rattle.capture.specs.declared.Tally.{Tally}
 use Rattle.capture.specs.Samples.{clock_in, data_in, events_from, events_of, judge_of}
 use Rattle.capture.specs.Marks.{clocks_in}

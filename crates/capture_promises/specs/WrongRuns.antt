@@ -1,8 +1,7 @@
 -- Wrong runs over captures, and the promise that each breaks: proofs/WrongRuns.antt.
 -- Assumes nothing.
-use Rattle.std.specs.Prelude.{ℕ, suc, ◌+◌, ◌<◌, ◌≡◌, Bool, true, false, not, cond, ◌&&◌, List, [], ◌∷◌, length, get_or, eqb, ltb}
-use Rattle.parts.specs.declared.Verdict.{Verdict}
-use Rattle.parts.specs.declared.Verdict.TheVariants.{Fine, Refused}
+use Rattle.std.specs.Prelude.{ℕ, suc, ◌+◌, ◌<◌, ◌≡◌, Bool, true, false, not, cond, ◌&&◌, List, [], ◌∷◌, length, get_or, eqb, ltb, Ok, Err}
+use Rattle.parts.specs.Verdict.{Verdict}
 use Rattle.parts.specs.Bytes.{AllBelow}
 use Rattle.parts.specs.Table.{facts_of}
 use Rattle.state.specs.declared.Chip.{Chip}
@@ -25,7 +24,7 @@ use Rattle.capture_promises.specs.Good.{GoodUnmarked}
 abbrev pub Accepts : Seeing → Type 0
 Accepts see =
     (part enable : ℕ) (c : Chip) (m : Mem) (bus : Bool) (ss : List ℕ) → Ready part enable c m → AllBelow 4 ss
-    → (see part enable c m bus ss).answer.verdict ≡ Fine
+    → (see part enable c m bus ss).answer.verdict ≡ Ok tt
 
 -- marks nothing
 abbrev pub NeverMarks : Seeing → Type 0
@@ -37,7 +36,7 @@ NeverMarksBreaks = (see : Seeing) → Accepts see → NeverMarks see → MarkFir
 -- marks something wherever there is a clock
 abbrev pub AlwaysMarks : Seeing → Type 0
 AlwaysMarks see =
-    (part enable : ℕ) (c : Chip) (m : Mem) (bus : Bool) (ss : List ℕ) → (see part enable c m bus ss).answer.verdict ≡ Fine
+    (part enable : ℕ) (c : Chip) (m : Mem) (bus : Bool) (ss : List ℕ) → (see part enable c m bus ss).answer.verdict ≡ Ok tt
     → 0 < clocks_in (events_of bus ss) → (see part enable c m bus ss).answer.mark ≡ Same → ⊥
 
 abbrev pub AlwaysMarksBreaks : Type 0
@@ -83,7 +82,7 @@ viewed_over v M c m bus ss xs =
     record {
       answer =
           record {
-            verdict = Fine;
+            verdict = Ok tt;
             events = length (events_of bus ss);
             clocks = clocks_in (events_of bus ss);
             ends = ends_in xs;
@@ -95,8 +94,8 @@ viewed_over v M c m bus ss xs =
     }
 
 abbrev pub viewed_by : View → Model → Chip → Mem → Bool → List ℕ → Verdict → SeenLeft
-viewed_by v M c m bus ss Fine = viewed_over v M c m bus ss (v.with_ends M c (events_of bus ss))
-viewed_by v M c m bus ss (Refused r) = unseen r c m
+viewed_by v M c m bus ss (Ok _) = viewed_over v M c m bus ss (v.with_ends M c (events_of bus ss))
+viewed_by v M c m bus ss (Err r) = unseen r c m
 
 abbrev pub viewed : View → Seeing
 viewed v part enable c m bus ss =

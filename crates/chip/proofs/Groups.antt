@@ -4,7 +4,7 @@ use Prim.Native.Nat.{ℕ, zero, suc, ◌+◌, ◌-◌, ◌*◌, ◌/◌, ◌≤�
 use mathlib.Core.Path.{◌≡◌, ◌∙◌, refl, sym, ap, subst}
 use mathlib.Core.Bool.{Bool, true, false, cond, ◌||◌}
 use mathlib.Core.List.{List, [], ◌∷◌}
-use native.Mathlib.Nat.{add-zero, lt_of_mul-lt-mul_right, mul-le-mul_right, div-eq_of_lt-le}
+use native.Mathlib.Nat.{add-zero, mul-le-mul_right, div-eq_of_lt-le}
 use native.Mathlib.Decide.{dec_lt, ℕ_discrete}
 use native.Mathlib.Numerals.{add-one}
 use native.Mathlib.Omega.{arith}
@@ -65,10 +65,12 @@ latched_four k i h =
     four false false false false = refl
 
 -- a group that begins in the page ends in it
-pub group_room : (i j p g : ℕ) → i ≡ j * g → i < p → p ≡ p / g * g → i + g ≤ p
-group_room i j p g first h whole =
-    let q : j < p / g = lt_of_mul-lt-mul_right g (omega (arith, first, h, whole)) in
-    omega (arith, first, mul-le-mul_right g q, whole)
+pub group_room : (j p g : ℕ) → j < p / g → p ≡ p / g * g → j * g + g ≤ p
+group_room j p g h whole = omega (arith, mul-le-mul_right g h, whole)
+
+-- and behind the last one the page ends
+pub groups_end : (j p g : ℕ) → p / g ≤ j → p ≡ p / g * g → p ≤ j * g
+groups_end j p g h whole = omega (arith, mul-le-mul_right g h, whole)
 
 -- ---- the lent bytes at some places
 

@@ -1,5 +1,6 @@
 -- No event leaves the range (document 01, refusal 4). The facts of `InRange` are kept once over any sound part; the test follows.
 -- Assumes nothing.
+use Rattle.std.specs.Prelude.{Option, None, Some}
 use Prim.Native.Nat.{ℕ, zero, suc, ◌+◌, ◌-◌, ◌*◌, ◌/◌, ◌%◌, ◌<◌, ◌≤◌}
 use native.Mathlib.Nat.{mod-lt, div-eq_of_lt, mod-add-mod, add-mod_right, mul-add-mod_self_right, add_assoc}
 use native.Mathlib.Omega.{arith}
@@ -33,10 +34,6 @@ use Rattle.line.specs.declared.Phase.TheVariants.{Idle, Receive, Send, Busy}
 use Rattle.line.specs.declared.Core.{Core}
 use Rattle.line.specs.declared.Line.{Line}
 use Rattle.line.specs.declared.After.{After}
-use Rattle.line.specs.declared.Selected.{Selected}
-use Rattle.line.specs.declared.Selected.TheVariants.{Miss, Hit}
-use Rattle.line.specs.declared.CycleAsked.{CycleAsked}
-use Rattle.line.specs.declared.CycleAsked.TheVariants.{NoCycle, For}
 use Rattle.line.specs.Rules.{is_high, at, counting, marking, bit_on, roll_of, onward_of, enabled_of, named_of, decode_of, address_start_of, selected_of, load_array_of, load_id_of, loaded_of, refuses_of, latched_of, filled_of, locked_by_of, taken_of, landed, received_of, receive_act_of, moved_of, sent_of, clocked_of, clock_act_of, opened, started_of, start_act_of, asks_of, placed_of, due_of, stopped_by_lem, stop_act_by, stopped_of, stop_act_of, locked_now, ended_by_of, ended_of, end_act_of, pinned_of, lock_at_reset, reset_of, next_of, act_of}
 use Rattle.line.proofs.Laws.{page_room}
 use Rattle.state.specs.declared.Chip.{Chip}
@@ -144,9 +141,9 @@ module _ (f : Facts) (s : Sound f) where
   idle_at : (c : Core) → CoreOk c → InRange f (chip (at c Idle) no_latch)
   idle_at c h = kept_at c no_latch Idle h none_marks tt
 
-  abbrev HeardOk : Selected → Type 0
-  HeardOk Miss = Unit {0}
-  HeardOk (Hit t r) = TargetOk f t
+  abbrev HeardOk : Option (Target × Bool) → Type 0
+  HeardOk None = Unit {0}
+  HeardOk (Some (t, r)) = TargetOk f t
 
   decode_ok : (en b : ℕ) → HeardOk (decode_of f en b)
   unfolding decode_of named_of
@@ -161,11 +158,11 @@ module _ (f : Facts) (s : Sound f) where
   first_ok c k Ident b o = branch (RecvOk f c k 8) f.wide (λ _. o) (λ _. o)
 
   module _ (k : List ℕ) (m : empty_of (drop f.page k) ≡ true) (c : Core) (h : CoreOk c) (i : MarkOk c) where
-    selected_ok : (b : ℕ) (w : Selected) → HeardOk w → Landed k (selected_of f c b w)
+    selected_ok : (b : ℕ) (w : Option (Target × Bool)) → HeardOk w → Landed k (selected_of f c b w)
     unfolding selected_of
-    selected_ok b Miss o = kept_at c k Idle h m tt
-    selected_ok b (Hit t true) o = kept_at c k (Send t) h m (i, o)
-    selected_ok b (Hit t false) o = kept_at c k (Receive (address_start_of f t b)) h m (i, first_ok c k t b o)
+    selected_ok b None o = kept_at c k Idle h m tt
+    selected_ok b (Some (t, true)) o = kept_at c k (Send t) h m (i, o)
+    selected_ok b (Some (t, false)) o = kept_at c k (Receive (address_start_of f t b)) h m (i, first_ok c k t b o)
 
     loaded_ok : (t : Target) (a : ℕ) → TargetOk f t → Landed k (loaded_of f c t a)
     unfolding loaded_of load_array_of load_id_of
@@ -273,9 +270,9 @@ module _ (f : Facts) (s : Sound f) where
     started_ok (Send t) = opened_ok
     started_ok (Busy y) = h
 
-    abbrev AskedOk : CycleAsked → Type 0
-    AskedOk NoCycle = Unit {0}
-    AskedOk (For y) = CycleOk f l.core k y
+    abbrev AskedOk : Option Cycle → Type 0
+    AskedOk None = Unit {0}
+    AskedOk (Some y) = CycleOk f l.core k y
 
     asks_ok : (r : Recv) → l.left ≡ 8 → RecvOk f l.core k l.left r → AskedOk (asks_of r)
     unfolding asks_of
@@ -289,11 +286,11 @@ module _ (f : Facts) (s : Sound f) where
     asks_ok (LockTaken true) e o = o
     asks_ok (LockTaken false) e o = tt
 
-    stopped_by : (a : CycleAsked) → AskedOk a → InRange f (chip (stopped_by_lem l.core a) (latch_of k (stop_act_by a)))
-    stopped_by NoCycle o = idle_at l.core core_ok
-    stopped_by (For y) o = kept_at l.core k (Busy y) core_ok h.marks o
+    stopped_by : (a : Option Cycle) → AskedOk a → InRange f (chip (stopped_by_lem l.core a) (latch_of k (stop_act_by a)))
+    stopped_by None o = idle_at l.core core_ok
+    stopped_by (Some y) o = kept_at l.core k (Busy y) core_ok h.marks o
 
-    due_ok : (w : Bool) (a : CycleAsked) → (w ≡ true → AskedOk a) → AskedOk (due_of w a)
+    due_ok : (w : Bool) (a : Option Cycle) → (w ≡ true → AskedOk a) → AskedOk (due_of w a)
     due_ok true a o = o refl
     due_ok false a o = tt
 
@@ -581,9 +578,9 @@ module _ (f : Facts) (en : ℕ) (l : Line) (byte : l.shift < 256) where
   started_byte (Send t) = omega arith
   started_byte (Busy y) = byte
 
-  by_byte : (a : CycleAsked) → (stopped_by_lem l.core a).shift < 256
-  by_byte NoCycle = omega arith
-  by_byte (For y) = omega arith
+  by_byte : (a : Option Cycle) → (stopped_by_lem l.core a).shift < 256
+  by_byte None = omega arith
+  by_byte (Some y) = omega arith
 
   stopped_byte : (ph : Phase) → (stopped_of l ph).shift < 256
   unfolding stopped_of
@@ -634,12 +631,12 @@ module _ (f : Facts) (en : ℕ) (l : Line) (k : List ℕ) where
   abbrev OpenAfter : After → Type 0
   OpenAfter a = OpenIn a.core (latch_of k a.act) a.phase
 
-  selected_open : (c : Core) (b : ℕ) (w : Selected) → OpenAfter (selected_of f c b w)
+  selected_open : (c : Core) (b : ℕ) (w : Option (Target × Bool)) → OpenAfter (selected_of f c b w)
   unfolding selected_of address_start_of
-  selected_open c b Miss = tt
-  selected_open c b (Hit t true) = tt
-  selected_open c b (Hit Array false) = branch (λ (r : Recv). OpenIn c k (Receive r)) f.wide (λ _. tt) (λ _. tt)
-  selected_open c b (Hit Ident false) = branch (λ (r : Recv). OpenIn c k (Receive r)) f.wide (λ _. tt) (λ _. tt)
+  selected_open c b None = tt
+  selected_open c b (Some (t, true)) = tt
+  selected_open c b (Some (Array, false)) = branch (λ (r : Recv). OpenIn c k (Receive r)) f.wide (λ _. tt) (λ _. tt)
+  selected_open c b (Some (Ident, false)) = branch (λ (r : Recv). OpenIn c k (Receive r)) f.wide (λ _. tt) (λ _. tt)
 
   loaded_open : (c : Core) (t : Target) (a : ℕ) → OpenAfter (loaded_of f c t a)
   unfolding loaded_of load_array_of load_id_of
@@ -686,9 +683,9 @@ module _ (f : Facts) (en : ℕ) (l : Line) (k : List ℕ) where
   started_open (Send t) h = tt
   started_open (Busy y) h = h
 
-  by_open : (a : CycleAsked) → OpenLine (stopped_by_lem l.core a) (latch_of k (stop_act_by a))
-  by_open NoCycle = tt
-  by_open (For y) = tt
+  by_open : (a : Option Cycle) → OpenLine (stopped_by_lem l.core a) (latch_of k (stop_act_by a))
+  by_open None = tt
+  by_open (Some y) = tt
 
   stopped_open : (ph : Phase) → OpenLine l k → OpenLine (stopped_of l ph) (latch_of k (stop_act_of l ph))
   unfolding stopped_of stop_act_of

@@ -1,5 +1,6 @@
 -- A run is its steps: what the first verdict found right stays right, so every later step's verdict is fine too.
 -- Assumes nothing.
+use Rattle.std.specs.Prelude.{Ok, Err}
 use Prim.Native.Nat.{ℕ, suc, ◌+◌, ◌≤◌}
 use native.Mathlib.Omega.{arith}
 use mathlib.Core.Path.{◌≡◌, refl, sym, ap}
@@ -10,8 +11,7 @@ use lib.Dec.{ltb}
 use borrow.Author.Tests.{le-ltb, ltb-false}
 use Rattle.parts.specs.declared.Facts.{Facts}
 use Rattle.parts.specs.declared.Refusal.TheVariants.{BadEvent, ShortBuffer, TooMany}
-use Rattle.parts.specs.declared.Verdict.{Verdict}
-use Rattle.parts.specs.declared.Verdict.TheVariants.{Fine, Refused}
+use Rattle.parts.specs.Verdict.{Verdict}
 use Rattle.parts.specs.declared.Loss.{Loss}
 use Rattle.parts.specs.declared.Loss.TheVariants.{Old, Lent}
 use Rattle.parts.specs.declared.Event.{Event}
@@ -48,31 +48,31 @@ pub record Accepted (part enable : ℕ) (w : PowerCut) (c : Chip) (m : Mem) : Ty
   pub range : in_range_of (facts_of part) c ≡ true
   pub page : length w.page ≡ loss_size_of (facts_of part) w.loss
 
-cut_accepted : (part en : ℕ) (w : PowerCut) (c : Chip) (m : Mem) → cut_verdict_of part en w c (length m.cells) (length m.ident) ≡ Fine → Accepted part en w c m
+cut_accepted : (part en : ℕ) (w : PowerCut) (c : Chip) (m : Mem) → cut_verdict_of part en w c (length m.cells) (length m.ident) ≡ Ok tt → Accepted part en w c m
 cut_accepted part en w c m h =
     let (p, a) = cut_fine part en w c (length m.cells) (length m.ident) h in
     record { known = a.known; enabled = a.enabled; buffers = a.lent; range = a.ranged; page = p }
 
-accepted_cut : (part en : ℕ) (w : PowerCut) (c : Chip) (m : Mem) → Accepted part en w c m → cut_verdict_of part en w c (length m.cells) (length m.ident) ≡ Fine
+accepted_cut : (part en : ℕ) (w : PowerCut) (c : Chip) (m : Mem) → Accepted part en w c m → cut_verdict_of part en w c (length m.cells) (length m.ident) ≡ Ok tt
 accepted_cut part en w c m a =
     fine_cut part en w c (length m.cells) (length m.ident) a.page record { known = a.known; enabled = a.enabled; lent = a.buffers; ranged = a.range }
 
-pub step_fine_lem : (part en : ℕ) (w : PowerCut) (c : Chip) (m : Mem) (e : ℕ) → Accepted part en w c m → event_right_of (facts_of part).pin e ≡ true → step_verdict part en w c m e ≡ Fine
+pub step_fine_lem : (part en : ℕ) (w : PowerCut) (c : Chip) (m : Mem) (e : ℕ) → Accepted part en w c m → event_right_of (facts_of part).pin e ≡ true → step_verdict part en w c m e ≡ Ok tt
 unfolding step_verdict_of sooner_of
 step_fine_lem part en w c m e a h = rw (accepted_cut part en w c m a, h) refl
 
 -- ---- the scan for refusal 5
 
-scan-taken : (f : Facts) (k : ℕ) (es : List ℕ) → scan_of f.pin k es ≡ Fine → AllTaken f es
+scan-taken : (f : Facts) (k : ℕ) (es : List ℕ) → scan_of f.pin k es ≡ Ok tt → AllTaken f es
 scan-taken f k [] h = tt
 scan-taken f k (e ∷ es) h = go (event_right_of f.pin e) refl h (λ g. scan-taken f (suc k) es g)
   where
-    go : (b : Bool) → event_right_of f.pin e ≡ b → cond b (scan_of f.pin (suc k) es) (Refused (BadEvent k)) ≡ Fine
-        → (scan_of f.pin (suc k) es ≡ Fine → AllTaken f es) → (event_right_of f.pin e ≡ true) × AllTaken f es
+    go : (b : Bool) → event_right_of f.pin e ≡ b → cond b (scan_of f.pin (suc k) es) (Err (BadEvent k)) ≡ Ok tt
+        → (scan_of f.pin (suc k) es ≡ Ok tt → AllTaken f es) → (event_right_of f.pin e ≡ true) × AllTaken f es
     go true d h r = (d, r h)
     go false d h r = refused_not h
 
-taken_scan : (f : Facts) (k : ℕ) (es : List ℕ) → AllTaken f es → scan_of f.pin k es ≡ Fine
+taken_scan : (f : Facts) (k : ℕ) (es : List ℕ) → AllTaken f es → scan_of f.pin k es ≡ Ok tt
 taken_scan f k [] h = refl
 taken_scan f k (e ∷ es) h = rw h.0 (taken_scan f (suc k) es h.1)
 
@@ -84,7 +84,7 @@ pub record Begun (part enable : ℕ) (w : PowerCut) (c : Chip) (m : Mem) (es : L
   pub fits : length es ≤ room
 
 pub run_begun : (part en : ℕ) (w : PowerCut) (c : Chip) (m : Mem) (es : List ℕ) (room : ℕ)
-    → run_verdict_of part en w c (length m.cells) (length m.ident) es room ≡ Fine → Begun part en w c m es room
+    → run_verdict_of part en w c (length m.cells) (length m.ident) es room ≡ Ok tt → Begun part en w c m es room
 unfolding run_verdict_of
 run_begun part en w c m es room h =
     let (held, r) = sooner_fine (cut_verdict_of part en w c (length m.cells) (length m.ident)) _ h in
@@ -98,7 +98,7 @@ run_begun part en w c m es room h =
     }
 
 pub begun_run : (part en : ℕ) (w : PowerCut) (c : Chip) (m : Mem) (es : List ℕ) (room : ℕ) → Begun part en w c m es room
-    → run_verdict_of part en w c (length m.cells) (length m.ident) es room ≡ Fine
+    → run_verdict_of part en w c (length m.cells) (length m.ident) es room ≡ Ok tt
 unfolding run_verdict_of sooner_of
 begun_run part en w c m es room b =
     rw (accepted_cut part en w c m b.accepted, le-ltb 32768 (length es) b.few, taken_scan (facts_of part) 0 es b.taken, le-ltb room (length es) b.fits) refl
@@ -160,11 +160,11 @@ pub record Same (part en : ℕ) (w : PowerCut) (c : Chip) (m : Mem) (es : List �
 -- one step before the rest
 same_join : (part en : ℕ) (w : PowerCut) (c : Chip) (m : Mem) (e : ℕ) (es : List ℕ)
     → Same part en w (next_chip part en w c e) (next_mem part w c m e) es (steps_of part en w (next_chip part en w c e) (next_mem part w c m e) es)
-    → (v : Verdict) → v ≡ Fine
+    → (v : Verdict) → v ≡ Ok tt
     → Same part en w c m (e ∷ es) (joined (step_by (ours_with w (facts_of part) en) c m e v) (steps_of part en w (step_by (ours_with w (facts_of part) en) c m e v).chip (step_mem (ours_with w (facts_of part) en) c m e v) es))
 unfolding after_of memory_of levels_of cycles_of
-same_join part en w c m e es r (Refused x) h = refused_not h
-same_join part en w c m e es r Fine h =
+same_join part en w c m e es r (Err x) h = refused_not h
+same_join part en w c m e es r (Ok _) h =
     record {
       fine = r.fine;
       chip = r.chip;
@@ -184,11 +184,11 @@ same_steps part en w c m (e ∷ es) a h t =
 
 -- ---- the statements
 
-run_same : (part en : ℕ) (w : PowerCut) (c : Chip) (m : Mem) (es answers : List ℕ) (s : Steps) → Same part en w c m es s → (v : Verdict) → v ≡ Fine
+run_same : (part en : ℕ) (w : PowerCut) (c : Chip) (m : Mem) (es answers : List ℕ) (s : Steps) → Same part en w c m es s → (v : Verdict) → v ≡ Ok tt
     → ((run_by (ours_with w (facts_of part) en) c es v).chip ≡ s.chip) × ((run_by (ours_with w (facts_of part) en) c es v).cycles ≡ s.cycles) × (run_mem (ours_with w (facts_of part) en) c m es v ≡ s.mem)
     × (run_answers (ours_with w (facts_of part) en) c m es answers v ≡ s.levels ++ drop (length es) answers)
-run_same part en w c m es answers s r (Refused x) h = refused_not h
-run_same part en w c m es answers s r Fine h =
+run_same part en w c m es answers s r (Err x) h = refused_not h
+run_same part en w c m es answers s r (Ok _) h =
     (sym r.chip, sym r.cycles, sym r.mem, ap (λ (l : List ℕ). l ++ drop (length es) answers) (sym r.levels))
 
 pub run_is_steps : RunIsSteps
@@ -199,10 +199,10 @@ run_is_steps part en w c m es answers t h =
     record { fine = r.fine; chip = q.0; cycles = q.1; mem = q.2; levels = q.3 }
 
 goes_on : (part en : ℕ) (w : PowerCut) (c : Chip) (m : Mem) (e : ℕ) (es : List ℕ) (room : ℕ) → Begun part en w (next_chip part en w c e) (next_mem part w c m e) es room
-    → (v : Verdict) → v ≡ Fine
-    → run_verdict_of part en w (step_by (ours_with w (facts_of part) en) c m e v).chip (length (step_mem (ours_with w (facts_of part) en) c m e v).cells) (length (step_mem (ours_with w (facts_of part) en) c m e v).ident) es room ≡ Fine
-goes_on part en w c m e es room b (Refused x) h = refused_not h
-goes_on part en w c m e es room b Fine h = begun_run part en w (next_chip part en w c e) (next_mem part w c m e) es room b
+    → (v : Verdict) → v ≡ Ok tt
+    → run_verdict_of part en w (step_by (ours_with w (facts_of part) en) c m e v).chip (length (step_mem (ours_with w (facts_of part) en) c m e v).cells) (length (step_mem (ours_with w (facts_of part) en) c m e v).ident) es room ≡ Ok tt
+goes_on part en w c m e es room b (Err x) h = refused_not h
+goes_on part en w c m e es room b (Ok _) h = begun_run part en w (next_chip part en w c e) (next_mem part w c m e) es room b
 
 -- the answers of the three calls, by their verdicts
 module _ (part en : ℕ) (w : PowerCut) (c : Chip) (m : Mem) (e : ℕ) (es : List ℕ) (a : ℕ) (answers : List ℕ) where
@@ -214,12 +214,12 @@ module _ (part en : ℕ) (w : PowerCut) (c : Chip) (m : Mem) (e : ℕ) (es : Lis
       × (run_answers (ours_with w (facts_of part) en) c m (e ∷ es) (a ∷ answers) u
       ≡ (step_by (ours_with w (facts_of part) en) c m e v).level ∷ run_answers (ours_with w (facts_of part) en) (step_by (ours_with w (facts_of part) en) c m e v).chip (step_mem (ours_with w (facts_of part) en) c m e v) es answers x)
 
-  whole : (u v x : Verdict) → u ≡ Fine → v ≡ Fine → x ≡ Fine → Whole u v x
+  whole : (u v x : Verdict) → u ≡ Ok tt → v ≡ Ok tt → x ≡ Ok tt → Whole u v x
   unfolding after_of memory_of levels_of cycles_of
-  whole Fine Fine Fine p q r = (refl, refl, refl, refl)
-  whole (Refused y) v x p q r = refused_not p
-  whole Fine (Refused y) x p q r = refused_not q
-  whole Fine Fine (Refused y) p q r = refused_not r
+  whole (Ok _) (Ok _) (Ok _) p q r = (refl, refl, refl, refl)
+  whole (Err y) v x p q r = refused_not p
+  whole (Ok _) (Err y) x p q r = refused_not q
+  whole (Ok _) (Ok _) (Err y) p q r = refused_not r
 
 pub run_goes_on : RunGoesOn
 run_goes_on part en w c m e es a answers t h =

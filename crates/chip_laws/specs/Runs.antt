@@ -1,7 +1,6 @@
 -- Document 01, 'Bus events' and 'Refusal numbers': a run of a list of events is the step call, repeated.
 -- Assumes nothing.
-use Rattle.std.specs.Prelude.{ℕ, ◌+◌, ◌≡◌, Bool, true, ◌&&◌, List, [], ◌∷◌, ◌++◌, length, drop}
-use Rattle.parts.specs.declared.Verdict.TheVariants.{Fine}
+use Rattle.std.specs.Prelude.{ℕ, ◌+◌, ◌≡◌, Bool, true, ◌&&◌, List, [], ◌∷◌, ◌++◌, length, drop, Ok}
 use Rattle.parts.specs.Refusals.{is_fine}
 use Rattle.state.specs.declared.Chip.{Chip}
 use Rattle.chip.specs.declared.Stepped.{Stepped}
@@ -44,13 +43,13 @@ pub record SameAsSteps (part enable : ℕ) (w : PowerCut) (c : Chip) (m : Mem) (
 -- a run that is not refused is its steps
 abbrev pub RunIsSteps : Type 0
 RunIsSteps = (part enable : ℕ) (w : PowerCut) (c : Chip) (m : Mem) (es answers : List ℕ) → Typed c
-    → run_verdict part enable w c m es answers ≡ Fine
+    → run_verdict part enable w c m es answers ≡ Ok tt
     → SameAsSteps part enable w c m es answers
 
 -- a step by the first event, and then a run of the rest from what the step left: neither is refused, and together they are the run
 pub record StepThenRun (part enable : ℕ) (w : PowerCut) (c : Chip) (m : Mem) (e : ℕ) (es : List ℕ) (a : ℕ) (answers : List ℕ) : Type 0 where
-  pub step_fine : step_verdict part enable w c m e ≡ Fine
-  pub run_fine : run_verdict part enable w (step_of part enable w c m e).answer.chip (step_of part enable w c m e).mem es answers ≡ Fine
+  pub step_fine : step_verdict part enable w c m e ≡ Ok tt
+  pub run_fine : run_verdict part enable w (step_of part enable w c m e).answer.chip (step_of part enable w c m e).mem es answers ≡ Ok tt
   pub chip : (run_of part enable w c m (e ∷ es) (a ∷ answers)).answer.chip
       ≡ (run_of part enable w (step_of part enable w c m e).answer.chip (step_of part enable w c m e).mem es answers).answer.chip
   pub cycles : (run_of part enable w c m (e ∷ es) (a ∷ answers)).answer.cycles
@@ -62,5 +61,5 @@ pub record StepThenRun (part enable : ℕ) (w : PowerCut) (c : Chip) (m : Mem) (
 
 abbrev pub RunGoesOn : Type 0
 RunGoesOn = (part enable : ℕ) (w : PowerCut) (c : Chip) (m : Mem) (e : ℕ) (es : List ℕ) (a : ℕ) (answers : List ℕ) → Typed c
-    → run_verdict part enable w c m (e ∷ es) (a ∷ answers) ≡ Fine
+    → run_verdict part enable w c m (e ∷ es) (a ∷ answers) ≡ Ok tt
     → StepThenRun part enable w c m e es a answers

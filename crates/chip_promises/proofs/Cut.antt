@@ -1,5 +1,6 @@
 -- A page write cut by a Stop, byte after byte: a Stop inside a byte begins nothing, and one between bytes what the byte before it asks.
 -- Assumes nothing.
+use Rattle.std.specs.Prelude.{Some}
 use Prim.Native.Nat.{ℕ, zero, suc, ◌+◌, ◌-◌, ◌*◌, ◌/◌, ◌%◌, ◌<◌, ◌≤◌}
 use native.Mathlib.Omega.{arith}
 use mathlib.Core.Path.{◌≡◌, refl, sym, ap, subst, ◌∙◌}
@@ -25,7 +26,6 @@ use Rattle.line.specs.declared.Line.{Line}
 use Rattle.line.specs.declared.Act.{Act}
 use Rattle.line.specs.declared.Act.TheVariants.{Keep, Drop, Put}
 use Rattle.line.specs.declared.After.{After}
-use Rattle.line.specs.declared.Selected.TheVariants.{Hit}
 use Rattle.line.specs.Rules.{is_high, at, goes, marking, roll_of, counting, decode_of, address_start_of, selected_of, load_array_of, load_id_of, loaded_of, refuses_of, latched_of, filled_of, taken_of, landed, received_of, receive_act_of, clocked_of, clock_act_of, opened, started_of, start_act_of, asks_of, placed_of, due_of, begun_by, stop_begun_of, next_of, act_of, begun_of}
 use Rattle.state.specs.declared.Chip.{Chip}
 use Rattle.chip.specs.Model.{ours}
@@ -236,13 +236,13 @@ high_cut f en c t high low bs o p h =
     byte_cut f en c c (AddressHigh t) (AddressLow t high) Keep high h.0 (high_taken f en c t high) 3 (low ∷ bs) o.0 (asks_high t)
     (low_cut f en c t high low bs o p h.1)
 
-select_wide : (f : Facts) (en : ℕ) (c : Core) (t : Target) (select : ℕ) → f.wide ≡ true → decode_of f en select ≡ Hit t false
+select_wide : (f : Facts) (en : ℕ) (c : Core) (t : Target) (select : ℕ) → f.wide ≡ true → decode_of f en select ≡ Some (t, false)
     → taken_of f en c Select select ≡ goes c (Receive (AddressHigh t)) Keep
 unfolding taken_of selected_of address_start_of
 select_wide f en c Array select w h = rw (h, w) refl
 select_wide f en c Ident select w h = rw (h, w) refl
 
-select_narrow : (f : Facts) (en : ℕ) (c : Core) (t : Target) (select high : ℕ) → f.wide ≡ false → decode_of f en select ≡ Hit t false
+select_narrow : (f : Facts) (en : ℕ) (c : Core) (t : Target) (select high : ℕ) → f.wide ≡ false → decode_of f en select ≡ Some (t, false)
     → taken_of f en c Select select ≡ goes c (Receive (AddressLow t (above_of false t select high))) Keep
 unfolding taken_of selected_of address_start_of
 select_narrow f en c Array select high w h = rw (h, w) refl
@@ -253,7 +253,7 @@ unfolding asks_of
 asks_select g h = (λ e. absurd (omega (arith, e)), λ e. refl)
 
 -- by the number of address bytes
-select_cut : (f : Facts) (en : ℕ) (c : Core) (t : Target) (select high low : ℕ) (bs : List ℕ) (v : Bool) → f.wide ≡ v → decode_of f en select ≡ Hit t false
+select_cut : (f : Facts) (en : ℕ) (c : Core) (t : Target) (select high low : ℕ) (bs : List ℕ) (v : Bool) → f.wide ≡ v → decode_of f en select ≡ Some (t, false)
     → Open c t → Permitted f c t (above_of v t select high * 256 + low) → AllBelow 256 (select ∷ high ∷ low ∷ bs)
     → Cut f en c Select (2 + cond v 2 1) (write_bytes v select high low bs)
 select_cut f en c t select high low bs true w names o p h =

@@ -1,13 +1,13 @@
 -- Ours keeps the refusal table and the select trials; the chips that only seem to work do not.
 -- Assumes nothing.
+use Rattle.std.specs.Prelude.{Ok, Err}
 use Prim.Native.Nat.{ℕ}
 use native.Mathlib.Omega.{arith}
 use mathlib.Core.Path.{◌≡◌, refl, ap, ◌∙◌}
 use mathlib.Core.Bool.{Bool, true, false, false≢true}
 use mathlib.Core.List.{List, []}
 use lib.ListN.{length, replicate}
-use Rattle.parts.specs.declared.Verdict.{Verdict}
-use Rattle.parts.specs.declared.Verdict.TheVariants.{Fine, Refused}
+use Rattle.parts.specs.Verdict.{Verdict}
 use Rattle.parts.specs.Table.{facts_of, id_size_of, enable_right_of, buffers_right_of}
 use Rattle.parts.specs.Events.{event_with, event_right_of}
 use Rattle.parts.specs.Refusals.{sooner_of, lent_verdict_of, loss_verdict_of}
@@ -25,13 +25,13 @@ use Rattle.chip_promises.specs.Idle.{RefusesByTable, RefusingBreaks, SelectTrial
 
 step_verdict_lem : (M : Model) (c : Chip) (m : Mem) (code : ℕ) (v : Verdict)
     → (step_left_of M c m code v).answer.verdict ≡ v
-step_verdict_lem M c m code Fine = refl
-step_verdict_lem M c m code (Refused r) = refl
+step_verdict_lem M c m code (Ok _) = refl
+step_verdict_lem M c m code (Err r) = refl
 
 run_verdict_lem : (M : Model) (c : Chip) (m : Mem) (es a : List ℕ) (v : Verdict)
     → (run_left_of M c m es a v).answer.verdict ≡ v
-run_verdict_lem M c m es a Fine = refl
-run_verdict_lem M c m es a (Refused r) = refl
+run_verdict_lem M c m es a (Ok _) = refl
+run_verdict_lem M c m es a (Err r) = refl
 
 pub refuses_by_table : RefusesByTable deliver_of step_of run_of
 refuses_by_table =
@@ -42,8 +42,8 @@ refuses_by_table =
     }
 
 abbrev fine : Verdict → Bool
-fine Fine = true
-fine (Refused r) = false
+fine (Ok _) = true
+fine (Err r) = false
 
 -- part 0 as delivered, a Start: nothing refuses it
 abbrev mem₀ : Mem
@@ -52,15 +52,15 @@ mem₀ = mem (replicate 2048 255) (replicate 16 255)
 abbrev chip₀ : Chip
 chip₀ = standby_of (facts_of 0) false
 
-delivers : deliver_verdict_of 0 (length mem₀.cells) (length mem₀.ident) ≡ Fine
+delivers : deliver_verdict_of 0 (length mem₀.cells) (length mem₀.ident) ≡ Ok tt
 unfolding deliver_verdict_of sooner_of lent_verdict_of facts_of id_size_of buffers_right_of
 delivers = refl
 
-steps : step_verdict 0 0 old chip₀ mem₀ 2 ≡ Fine
+steps : step_verdict 0 0 old chip₀ mem₀ 2 ≡ Ok tt
 unfolding step_verdict_of sooner_of lent_verdict_of loss_verdict_of held_verdict_of cut_verdict_of facts_of id_size_of enable_right_of event_right_of buffers_right_of marks_right_of pin_right_of lock_right_of phase_right_of rest_right_of in_range_of standby_of pin_at_first_of no_latch
 steps = refl
 
-runs : run_verdict 0 0 old chip₀ mem₀ [] [] ≡ Fine
+runs : run_verdict 0 0 old chip₀ mem₀ [] [] ≡ Ok tt
 unfolding run_verdict_of sooner_of lent_verdict_of loss_verdict_of held_verdict_of cut_verdict_of facts_of id_size_of enable_right_of buffers_right_of marks_right_of pin_right_of lock_right_of phase_right_of rest_right_of in_range_of standby_of pin_at_first_of no_latch
 runs = refl
 

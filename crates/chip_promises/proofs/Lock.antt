@@ -1,6 +1,7 @@
 -- Promise 2 is kept. In a locked chip no byte of the identification page is latched, so a cycle on that page, if one runs at all, has
 -- nothing to enter.
 -- Assumes nothing.
+use Rattle.std.specs.Prelude.{Option, None, Some}
 use mathlib.Core.Path.{◌≡◌, refl, sym, ap, ◌∙◌, subst}
 use Prim.Native.Nat.{ℕ, zero, suc, ◌+◌, ◌*◌, ◌/◌, ◌%◌}
 use mathlib.Core.Bool.{Bool, true, false, not, cond, ◌||◌}
@@ -28,8 +29,6 @@ use Rattle.line.specs.declared.Phase.TheVariants.{Idle, Receive, Send, Busy}
 use Rattle.line.specs.declared.Core.{Core}
 use Rattle.line.specs.declared.Line.{Line}
 use Rattle.line.specs.declared.After.{After}
-use Rattle.line.specs.declared.Selected.{Selected}
-use Rattle.line.specs.declared.Selected.TheVariants.{Miss, Hit}
 use Rattle.line.specs.Rules.{bit_on, decode_of, address_start_of, selected_of, load_array_of, load_id_of, loaded_of, refuses_of, latched_of, filled_of, locked_by_of, taken_of, received_of, receive_act_of, sent_of, clocked_of, clock_act_of, started_of, start_act_of, stopped_by_lem, stop_act_by, due_of, placed_of, asks_of, stopped_of, stop_act_of, ended_by_of, ended_of, end_act_of, pinned_of, reset_of, next_of, act_of}
 use Rattle.state.specs.declared.Chip.{Chip}
 use Rattle.state.specs.Range.{empty_of, mark_right_of, location_right_of, last_right_of, acked_right_of, open_right_of, fill_right_of, unlocked_right_of, recv_right_of, writing_right_of, cycle_right_of, phase_right_of, in_range_of}
@@ -159,12 +158,12 @@ store_ident page f c m Unknown o = refl
 abbrev Lands : List ℕ → After → Type 0
 Lands k a = Sealed (latch_of k a.act) a.phase
 
-selected_sealed : (f : Facts) (k : List ℕ) (c : Core) (b : ℕ) (h : Selected) → Lands k (selected_of f c b h)
+selected_sealed : (f : Facts) (k : List ℕ) (c : Core) (b : ℕ) (h : Option (Target × Bool)) → Lands k (selected_of f c b h)
 unfolding selected_of address_start_of
-selected_sealed f k c b Miss = tt
-selected_sealed f k c b (Hit t true) = tt
-selected_sealed f k c b (Hit Array false) = branch (λ (r : Recv). Sealed k (Receive r)) f.wide (λ _. tt) (λ _. tt)
-selected_sealed f k c b (Hit Ident false) = branch (λ (r : Recv). Sealed k (Receive r)) f.wide (λ _. tt) (λ _. tt)
+selected_sealed f k c b None = tt
+selected_sealed f k c b (Some (t, true)) = tt
+selected_sealed f k c b (Some (Array, false)) = branch (λ (r : Recv). Sealed k (Receive r)) f.wide (λ _. tt) (λ _. tt)
+selected_sealed f k c b (Some (Ident, false)) = branch (λ (r : Recv). Sealed k (Receive r)) f.wide (λ _. tt) (λ _. tt)
 
 loaded_sealed : (f : Facts) (k : List ℕ) (c : Core) (t : Target) (a : ℕ) → Lands k (loaded_of f c t a)
 unfolding loaded_of load_array_of load_id_of

@@ -1,5 +1,6 @@
 -- The numbers are given in document 01's order.
 -- Assumes nothing.
+use Rattle.std.specs.Prelude.{Ok, Err}
 use Prim.Native.Nat.{ℕ, zero, suc, ◌+◌, ◌<◌, ◌≤◌}
 use mathlib.Core.Path.{◌≡◌, refl, sym, ap, ◌∙◌}
 use mathlib.Core.Bool.{Bool, true, false, not}
@@ -12,8 +13,7 @@ use native.Mathlib.Omega.{arith}
 use borrow.Author.Tests.{lt-ltb, le-ltb, eq-eqb, ne_eqb}
 use Rattle.parts.specs.declared.Refusal.{Refusal}
 use Rattle.parts.specs.declared.Refusal.TheVariants.{NoPart, WrongEnable, WrongBuffer, BadState, BadEvent, ShortBuffer, TooMany}
-use Rattle.parts.specs.declared.Verdict.{Verdict}
-use Rattle.parts.specs.declared.Verdict.TheVariants.{Fine, Refused}
+use Rattle.parts.specs.Verdict.{Verdict}
 use Rattle.parts.specs.Table.{facts_of, id_size_of, buffers_right_of, enable_right_of}
 use Rattle.parts.specs.Events.{event_right_of, loss_size_of}
 use Rattle.parts.specs.Refusals.{rank_of, verdict_number_of, verdict_place_of, claim_of, sooner_of, lent_verdict_of, loss_verdict_of}
@@ -55,41 +55,41 @@ module _ (part en : ℕ) (c : Chip) (n d : ℕ) where
       later_sooner (rank_of r) enable state (later_claim (rank_of r) (not (enable_right_of (facts_of part) en)) WrongEnable h)
       (later_claim (rank_of r) (not (in_range_of (facts_of part) c)) BadState (omega arith))
 
-  pub held_1 : 5 < part → held_verdict_of part en c n d ≡ Refused NoPart
+  pub held_1 : 5 < part → held_verdict_of part en c n d ≡ Err NoPart
   unfolding held_verdict_of
   held_1 h =
       ap (λ (v : Verdict). sooner_of v (sooner_of enable state)) (lent_unknown (facts_of part) n d (unknown part h))
       ∙ given_first NoPart (sooner_of enable state) (behind NoPart (omega arith))
 
   -- 2 goes before 3
-  before_3 : (b : Bool) → sooner_of (sooner_of (claim_of false NoPart) (claim_of (not b) WrongBuffer)) (Refused WrongEnable) ≡ Refused WrongEnable
+  before_3 : (b : Bool) → sooner_of (sooner_of (claim_of false NoPart) (claim_of (not b) WrongBuffer)) (Err WrongEnable) ≡ Err WrongEnable
   unfolding sooner_of
   before_3 true = refl
   before_3 false = refl
 
-  pub held_2 : part ≤ 5 → (facts_of part).enables ≤ en → held_verdict_of part en c n d ≡ Refused WrongEnable
+  pub held_2 : part ≤ 5 → (facts_of part).enables ≤ en → held_verdict_of part en c n d ≡ Err WrongEnable
   unfolding held_verdict_of lent_verdict_of enable_right_of
   held_2 k h =
       let e : ltb en (facts_of part).enables ≡ false = le-ltb en (facts_of part).enables h in
-      let s : sooner_of enable state ≡ Refused WrongEnable =
+      let s : sooner_of enable state ≡ Err WrongEnable =
       ap (λ (b : Bool). sooner_of (claim_of (not b) WrongEnable) state) e
       ∙ given_first WrongEnable state (later_claim (rank_of WrongEnable) (not (in_range_of (facts_of part) c)) BadState (omega arith)) in
       ap (λ (v : Verdict). sooner_of (sooner_of (claim_of (not (facts_of part).known) NoPart) (claim_of (not (buffers_right_of (facts_of part) n d)) WrongBuffer)) v) s
-      ∙ ap (λ (b : Bool). sooner_of (sooner_of (claim_of (not b) NoPart) (claim_of (not (buffers_right_of (facts_of part) n d)) WrongBuffer)) (Refused WrongEnable)) (known part k)
+      ∙ ap (λ (b : Bool). sooner_of (sooner_of (claim_of (not b) NoPart) (claim_of (not (buffers_right_of (facts_of part) n d)) WrongBuffer)) (Err WrongEnable)) (known part k)
       ∙ before_3 (buffers_right_of (facts_of part) n d)
 
   pub enabled : en < (facts_of part).enables → enable_right_of (facts_of part) en ≡ true
   unfolding enable_right_of
   enabled h = lt-ltb en (facts_of part).enables h
 
-  pub held_3 : part ≤ 5 → en < (facts_of part).enables → ((n ≡ (facts_of part).size) × (d ≡ id_size_of (facts_of part)) → ⊥) → held_verdict_of part en c n d ≡ Refused WrongBuffer
+  pub held_3 : part ≤ 5 → en < (facts_of part).enables → ((n ≡ (facts_of part).size) × (d ≡ id_size_of (facts_of part)) → ⊥) → held_verdict_of part en c n d ≡ Err WrongBuffer
   unfolding held_verdict_of
   held_3 k e w =
       ap (λ (v : Verdict). sooner_of v (sooner_of enable state)) (lent_wrong (facts_of part) n d (known part k) (buffers_wrong (facts_of part) n d w))
-      ∙ ap (λ (b : Bool). sooner_of (Refused WrongBuffer) (sooner_of (claim_of (not b) WrongEnable) state)) (enabled e)
+      ∙ ap (λ (b : Bool). sooner_of (Err WrongBuffer) (sooner_of (claim_of (not b) WrongEnable) state)) (enabled e)
       ∙ last
     where
-      last : sooner_of (Refused WrongBuffer) (sooner_of (claim_of false WrongEnable) state) ≡ Refused WrongBuffer
+      last : sooner_of (Err WrongBuffer) (sooner_of (claim_of false WrongEnable) state) ≡ Err WrongBuffer
       last =
           given_first WrongBuffer (sooner_of (claim_of false WrongEnable) state)
           (later_sooner (rank_of WrongBuffer) (claim_of false WrongEnable) state tt (later_claim (rank_of WrongBuffer) (not (in_range_of (facts_of part) c)) BadState (omega arith)))
@@ -98,12 +98,12 @@ module _ (part en : ℕ) (c : Chip) (m : Mem) where
   abbrev held : Verdict
   held = held_verdict_of part en c (length m.cells) (length m.ident)
 
-  pub held_4 : Named part en m → in_range_of (facts_of part) c ≡ false → held ≡ Refused BadState
+  pub held_4 : Named part en m → in_range_of (facts_of part) c ≡ false → held ≡ Err BadState
   held_4 a o =
       held_out part en c (length m.cells) (length m.ident) (known part a.known) (enabled part en c (length m.cells) (length m.ident) a.enabled)
       (buffers_right_lem (facts_of part) (length m.cells) (length m.ident) a.lent.0 a.lent.1) o
 
-  pub held_0 : Ready part en c m → held ≡ Fine
+  pub held_0 : Ready part en c m → held ≡ Ok tt
   held_0 r =
       let a = r.named in
       fine_held part en c (length m.cells) (length m.ident)
@@ -121,11 +121,11 @@ module _ (part en : ℕ) (w : PowerCut) (c : Chip) (n d : ℕ) where
   lost = loss_verdict_of (facts_of part) w.loss (length w.page)
 
   -- 1 and 2 go before it
-  cut_before : (r : Refusal) → rank_of r < rank_of WrongBuffer → held_verdict_of part en c n d ≡ Refused r → cut_verdict_of part en w c n d ≡ Refused r
+  cut_before : (r : Refusal) → rank_of r < rank_of WrongBuffer → held_verdict_of part en c n d ≡ Err r → cut_verdict_of part en w c n d ≡ Err r
   unfolding cut_verdict_of loss_verdict_of sooner_of
   cut_before r h e = ap (sooner_of lost) e ∙ go (eqb (length w.page) (loss_size_of (facts_of part) w.loss))
     where
-      go : (b : Bool) → sooner_of (claim_of (not b) WrongBuffer) (Refused r) ≡ Refused r
+      go : (b : Bool) → sooner_of (claim_of (not b) WrongBuffer) (Err r) ≡ Err r
       go true = refl
       go false = rw (lt-ltb (rank_of r) (rank_of WrongBuffer) h) refl
 
@@ -144,22 +144,22 @@ module _ (part en : ℕ) (w : PowerCut) (c : Chip) (n d : ℕ) where
       (later_sooner r (enable part en c n d) (state part en c n d) (unclaimed r (not (enable_right_of (facts_of part) en)) WrongEnable (ap not (enabled part en c n d e)))
       (later_claim r (not (in_range_of (facts_of part) c)) BadState (omega arith)))
 
-  cut_lost : part ≤ 5 → en < (facts_of part).enables → (PageLent part w → ⊥) → cut_verdict_of part en w c n d ≡ Refused WrongBuffer
+  cut_lost : part ≤ 5 → en < (facts_of part).enables → (PageLent part w → ⊥) → cut_verdict_of part en w c n d ≡ Err WrongBuffer
   unfolding cut_verdict_of loss_verdict_of
   cut_lost k e h =
       ap (λ (b : Bool). sooner_of (claim_of (not b) WrongBuffer) (held_verdict_of part en c n d)) (ne_eqb (length w.page) (loss_size_of (facts_of part) w.loss) h)
       ∙ given_first WrongBuffer (held_verdict_of part en c n d) (held_later k e)
 
-  cut_1 : 5 < part → cut_verdict_of part en w c n d ≡ Refused NoPart
+  cut_1 : 5 < part → cut_verdict_of part en w c n d ≡ Err NoPart
   cut_1 h = cut_before NoPart (omega arith) (held_1 part en c n d h)
 
-  cut_2 : part ≤ 5 → (facts_of part).enables ≤ en → cut_verdict_of part en w c n d ≡ Refused WrongEnable
+  cut_2 : part ≤ 5 → (facts_of part).enables ≤ en → cut_verdict_of part en w c n d ≡ Err WrongEnable
   cut_2 k h = cut_before WrongEnable (omega arith) (held_2 part en c n d k h)
 
-  cut_3 : part ≤ 5 → en < (facts_of part).enables → ((n ≡ (facts_of part).size) × (d ≡ id_size_of (facts_of part)) × PageLent part w → ⊥) → cut_verdict_of part en w c n d ≡ Refused WrongBuffer
+  cut_3 : part ≤ 5 → en < (facts_of part).enables → ((n ≡ (facts_of part).size) × (d ≡ id_size_of (facts_of part)) × PageLent part w → ⊥) → cut_verdict_of part en w c n d ≡ Err WrongBuffer
   cut_3 k e h = go (ℕ_discrete (length w.page) (loss_size_of (facts_of part) w.loss))
     where
-      go : Dec (PageLent part w) → cut_verdict_of part en w c n d ≡ Refused WrongBuffer
+      go : Dec (PageLent part w) → cut_verdict_of part en w c n d ≡ Err WrongBuffer
       go (no l) = cut_lost k e l
       go (yes l) = cut_held l ∙ held_3 part en c n d k e (λ b. h (b.0, b.1, l))
 
@@ -167,10 +167,10 @@ module _ (part en : ℕ) (w : PowerCut) (c : Chip) (m : Mem) where
   abbrev cut : Verdict
   cut = cut_verdict_of part en w c (length m.cells) (length m.ident)
 
-  cut_4 : Named part en m → PageLent part w → in_range_of (facts_of part) c ≡ false → cut ≡ Refused BadState
+  cut_4 : Named part en m → PageLent part w → in_range_of (facts_of part) c ≡ false → cut ≡ Err BadState
   cut_4 a l o = cut_held part en w c (length m.cells) (length m.ident) l ∙ held_4 part en c m a o
 
-  cut_0 : ReadyWith part en w c m → cut ≡ Fine
+  cut_0 : ReadyWith part en w c m → cut ≡ Ok tt
   cut_0 r = cut_held part en w c (length m.cells) (length m.ident) r.1 ∙ held_0 part en c m r.0
 
 -- ---- one event
@@ -180,14 +180,14 @@ step_number_lem : (part en : ℕ) (w : PowerCut) (c : Chip) (m : Mem) (e : ℕ) 
 step_number_lem part en w c m e v h = ap (λ (x : Verdict). verdict_number_of (step_by (ours_with w (facts_of part) en) c m e x).verdict) h ∙ by v
   where
     by : (x : Verdict) → verdict_number_of (step_by (ours_with w (facts_of part) en) c m e x).verdict ≡ verdict_number_of x
-    by Fine = refl
-    by (Refused r) = refl
+    by (Ok _) = refl
+    by (Err r) = refl
 
 module _ (part en : ℕ) (w : PowerCut) (c : Chip) (m : Mem) (e : ℕ) where
-  step_cut : (r : Refusal) → rank_of r ≤ rank_of BadState → cut part en w c m ≡ Refused r → verdict_number_of (step_of part en w c m e).answer.verdict ≡ verdict_number_of (Refused r)
+  step_cut : (r : Refusal) → rank_of r ≤ rank_of BadState → cut part en w c m ≡ Err r → verdict_number_of (step_of part en w c m e).answer.verdict ≡ verdict_number_of (Err r)
   unfolding step_verdict_of
   step_cut r low h =
-      step_number_lem part en w c m e (Refused r)
+      step_number_lem part en w c m e (Err r)
       (ap (λ (v : Verdict). sooner_of v (claim_of (not (event_right_of (facts_of part).pin e)) (BadEvent 0))) h ∙ step_behind r part e low)
 
   step_ready : (b : Bool) → ReadyWith part en w c m → event_right_of (facts_of part).pin e ≡ b → verdict_number_of (step_of part en w c m e).answer.verdict ≡ verdict_number_of (claim_of (not b) (BadEvent 0))
@@ -213,13 +213,13 @@ step_numbers part en w c m e =
 -- ---- a list of events
 
 scan_at : (pin : Bool) (s k : ℕ) (es : List ℕ) → k < length es → ((j : ℕ) → j < k → event_right_of pin (get_or es j 0) ≡ true) → event_right_of pin (get_or es k 0) ≡ false
-    → scan_of pin s es ≡ Refused (BadEvent (s + k))
+    → scan_of pin s es ≡ Err (BadEvent (s + k))
 scan_at pin s k [] h t b = absurd (omega arith)
-scan_at pin s zero (e ∷ es) h t b = rw b (ap (λ (n : ℕ). Refused (BadEvent n)) (omega arith))
+scan_at pin s zero (e ∷ es) h t b = rw b (ap (λ (n : ℕ). Err (BadEvent n)) (omega arith))
 scan_at pin s (suc k) (e ∷ es) h t b =
-    rw (t 0 (omega arith)) (scan_at pin (suc s) k es (omega arith) (λ j i. t (suc j) (omega arith)) b ∙ ap (λ (n : ℕ). Refused (BadEvent n)) (omega arith))
+    rw (t 0 (omega arith)) (scan_at pin (suc s) k es (omega arith) (λ j i. t (suc j) (omega arith)) b ∙ ap (λ (n : ℕ). Err (BadEvent n)) (omega arith))
 
-scan_clean : (pin : Bool) (s : ℕ) (es : List ℕ) → ((j : ℕ) → j < length es → event_right_of pin (get_or es j 0) ≡ true) → scan_of pin s es ≡ Fine
+scan_clean : (pin : Bool) (s : ℕ) (es : List ℕ) → ((j : ℕ) → j < length es → event_right_of pin (get_or es j 0) ≡ true) → scan_of pin s es ≡ Ok tt
 scan_clean pin s [] t = refl
 scan_clean pin s (e ∷ es) t = rw (t 0 (omega arith)) (scan_clean pin (suc s) es (λ j i. t (suc j) (omega arith)))
 
@@ -227,8 +227,8 @@ run_verdict_lem : (part en : ℕ) (w : PowerCut) (c : Chip) (m : Mem) (es a : Li
 run_verdict_lem part en w c m es a = by (run_verdict_of part en w c (length m.cells) (length m.ident) es (length a))
   where
     by : (x : Verdict) → (run_by (ours_with w (facts_of part) en) c es x).verdict ≡ x
-    by Fine = refl
-    by (Refused r) = refl
+    by (Ok _) = refl
+    by (Err r) = refl
 
 module _ (part en : ℕ) (w : PowerCut) (c : Chip) (m : Mem) (es a : List ℕ) where
   abbrev scan : Verdict
@@ -237,7 +237,7 @@ module _ (part en : ℕ) (w : PowerCut) (c : Chip) (m : Mem) (es a : List ℕ) w
   abbrev short : Verdict
   short = claim_of (ltb (length a) (length es)) ShortBuffer
 
-  run_cut : (r : Refusal) → rank_of r ≤ rank_of BadState → cut part en w c m ≡ Refused r → verdict_number_of (run_of part en w c m es a).answer.verdict ≡ verdict_number_of (Refused r)
+  run_cut : (r : Refusal) → rank_of r ≤ rank_of BadState → cut part en w c m ≡ Err r → verdict_number_of (run_of part en w c m es a).answer.verdict ≡ verdict_number_of (Err r)
   unfolding run_verdict_of
   run_cut r low h =
       ap verdict_number_of
@@ -251,7 +251,7 @@ module _ (part en : ℕ) (w : PowerCut) (c : Chip) (m : Mem) (es a : List ℕ) w
       run_verdict_lem part en w c m es a
       ∙ ap (λ (v : Verdict). sooner_of v (sooner_of (claim_of (ltb 32768 (length es)) TooMany) (sooner_of scan short))) (cut_0 part en w c m r)
 
-  many : ReadyWith part en w c m → 32768 < length es → (run_of part en w c m es a).answer.verdict ≡ Refused TooMany
+  many : ReadyWith part en w c m → 32768 < length es → (run_of part en w c m es a).answer.verdict ≡ Err TooMany
   many r h =
       ready r
       ∙ ap (λ (b : Bool). sooner_of (claim_of b TooMany) (sooner_of scan short)) (lt-ltb 32768 (length es) h)
@@ -264,10 +264,10 @@ module _ (part en : ℕ) (w : PowerCut) (c : Chip) (m : Mem) (es a : List ℕ) w
   few r h = ready r ∙ ap (λ (b : Bool). sooner_of (claim_of b TooMany) (sooner_of scan short)) (le-ltb 32768 (length es) h)
 
   bad : (k : ℕ) → ReadyWith part en w c m → length es ≤ 32768 → k < length es → TakenTo part k es → event_right_of (facts_of part).pin (get_or es k 0) ≡ false
-      → (run_of part en w c m es a).answer.verdict ≡ Refused (BadEvent k)
+      → (run_of part en w c m es a).answer.verdict ≡ Err (BadEvent k)
   bad k r h i t b =
       few r h
-      ∙ ap (λ (v : Verdict). sooner_of v short) (scan_at (facts_of part).pin 0 k es i t b ∙ ap (λ (n : ℕ). Refused (BadEvent n)) (omega arith))
+      ∙ ap (λ (v : Verdict). sooner_of v short) (scan_at (facts_of part).pin 0 k es i t b ∙ ap (λ (n : ℕ). Err (BadEvent n)) (omega arith))
       ∙ given_first (BadEvent k) short (later_claim (rank_of (BadEvent k)) (ltb (length a) (length es)) ShortBuffer (omega arith))
 
   room : (b : Bool) → ReadyWith part en w c m → length es ≤ 32768 → TakenTo part (length es) es → ltb (length a) (length es) ≡ b

@@ -1,6 +1,7 @@
 -- Promise 1 is kept: a cycle's end changes one page at most, and the pages that differ, with the cycle that is running, are never more
 -- than the cycles begun.
 -- Assumes nothing.
+use Rattle.std.specs.Prelude.{Option, None, Some}
 use mathlib.Core.Path.{◌≡◌, refl, sym, ap, ◌∙◌}
 use Prim.Native.Nat.{ℕ, zero, suc, ◌+◌, ◌*◌, ◌/◌, ◌%◌, ◌≤◌, ◌<◌}
 use native.Mathlib.Nat.{mul-le-mul_right, zero-add, div-lt_iff_lt-mul, mod-lt, div-add-mod'}
@@ -34,8 +35,7 @@ use Rattle.line.specs.declared.Phase.{Phase}
 use Rattle.line.specs.declared.Phase.TheVariants.{Idle, Receive, Send, Busy}
 use Rattle.line.specs.declared.Core.{Core}
 use Rattle.line.specs.declared.Line.{Line}
-use Rattle.line.specs.declared.CycleAsked.{CycleAsked}
-use Rattle.line.specs.declared.CycleAsked.TheVariants.{NoCycle, For}
+use Rattle.line.specs.declared.Cycle.{Cycle}
 use Rattle.line.specs.Rules.{received_of, sent_of, clocked_of, started_of, stopped_by_lem, begun_by, due_of, placed_of, asks_of, stopped_of, stop_begun_of, ended_by_of, ended_of, pinned_of, reset_of, next_of, begun_of, taken_of}
 use Rattle.parts.specs.Sound.{Sound}
 use Rattle.state.specs.declared.Chip.{Chip}
@@ -178,9 +178,9 @@ started_running l Idle = omega arith
 started_running l (Receive r) = omega arith
 started_running l (Send t) = omega arith
 
-stopped_by : (c : Core) (a : CycleAsked) → running (stopped_by_lem c a).phase ≡ begun_by a
-stopped_by c NoCycle = refl
-stopped_by c (For y) = refl
+stopped_by : (c : Core) (a : Option Cycle) → running (stopped_by_lem c a).phase ≡ begun_by a
+stopped_by c None = refl
+stopped_by c (Some y) = refl
 
 stopped_running : (l : Line) (ph : Phase) → running (stopped_of l ph).phase ≤ running l.phase + stop_begun_of l ph
 unfolding stopped_of stop_begun_of

@@ -1,6 +1,7 @@
 -- Promise 3 is kept. A transfer under a high pin is marked as inhibited, so its Stop is not placed: no cycle begins, and without a
 -- cycle nothing is stored and nothing is locked.
 -- Assumes nothing.
+use Rattle.std.specs.Prelude.{Option}
 use mathlib.Core.Path.{◌≡◌, refl, sym, ap, ◌∙◌, subst}
 use Prim.Native.Nat.{ℕ, zero, suc, ◌+◌}
 use native.Mathlib.Nat.{zero-add}
@@ -26,7 +27,7 @@ use Rattle.line.specs.declared.Phase.TheVariants.{Idle, Receive, Send, Busy}
 use Rattle.line.specs.declared.Core.{Core}
 use Rattle.line.specs.declared.Line.{Line}
 use Rattle.line.specs.declared.After.{After}
-use Rattle.line.specs.declared.CycleAsked.{CycleAsked}
+use Rattle.line.specs.declared.Cycle.{Cycle}
 use Rattle.line.specs.Rules.{is_high, landed, taken_of, received_of, sent_of, clocked_of, started_of, stopped_by_lem, begun_by, due_of, placed_of, asks_of, stopped_of, stop_begun_of, ended_of, pinned_of, lock_at_reset, reset_of, next_of, begun_of}
 use Rattle.state.specs.declared.Chip.{Chip}
 use Rattle.state.specs.Range.{mark_right_of, recv_right_of, phase_right_of, in_range_of}
@@ -96,7 +97,7 @@ not_placed true false e = sym e
 not_placed false i e = refl
 
 -- a Stop that is not placed
-unplaced : (c : Core) (p : Bool) (a : CycleAsked) → p ≡ false → Kind (stopped_by_lem c (due_of p a)) × (begun_by (due_of p a) ≡ 0)
+unplaced : (c : Core) (p : Bool) (a : Option Cycle) → p ≡ false → Kind (stopped_by_lem c (due_of p a)) × (begun_by (due_of p a) ≡ 0)
 unplaced c true a e = let z : ◌≡◌ {A = ℕ} 0 1 = cc in absurd (omega arith)
 unplaced c false a e = (tt, refl)
 

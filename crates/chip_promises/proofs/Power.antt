@@ -1,5 +1,6 @@
 -- A cut spoils the groups with a latched byte of the one page, and no other byte.
 -- Assumes nothing.
+use Rattle.std.specs.Prelude.{Ok, Err}
 use Prim.Native.Nat.{ℕ, zero, suc, ◌+◌, ◌*◌, ◌/◌, ◌%◌, ◌<◌, ◌≤◌}
 use native.Mathlib.Nat.{zero-add, mod-lt, div-add-mod', div-eq_of_lt-le}
 use native.Mathlib.Decide.{ℕ_discrete, dec_lt}
@@ -16,8 +17,7 @@ use Rattle.parts.specs.declared.Loss.{Loss}
 use Rattle.parts.specs.declared.Loss.TheVariants.{Old, Lent}
 use Rattle.parts.specs.declared.Event.{Event}
 use Rattle.parts.specs.declared.Event.TheVariants.{Reset}
-use Rattle.parts.specs.declared.Verdict.{Verdict}
-use Rattle.parts.specs.declared.Verdict.TheVariants.{Fine, Refused}
+use Rattle.parts.specs.Verdict.{Verdict}
 use Rattle.parts.specs.Table.{facts_of}
 use Rattle.parts.specs.Events.{event_with}
 use Rattle.parts.specs.Sound.{Sound}
@@ -494,14 +494,14 @@ module _ (part en : ℕ) (lock : Bool) (page : List ℕ) (c : Chip) (m : Mem) wh
   abbrev N : Model
   N = ours_with (cut_by (Lent lock) page) (facts_of part) en
 
-  bytes_left : AllBelow 256 page → (v : Verdict) → (step_left_of N c m 8 v).answer.verdict ≡ Fine → Spoils (facts_of part) c m (step_left_of N c m 8 v).mem page
+  bytes_left : AllBelow 256 page → (v : Verdict) → (step_left_of N c m 8 v).answer.verdict ≡ Ok tt → Spoils (facts_of part) c m (step_left_of N c m 8 v).mem page
   unfolding event_with store_with lost_of
-  bytes_left b Fine h = spoils (facts_of part) (sound part) page c m b
-  bytes_left b (Refused r) h = refused_not h
+  bytes_left b (Ok _) h = spoils (facts_of part) (sound part) page c m b
+  bytes_left b (Err r) h = refused_not h
 
-  lock_left : c.line.phase ≡ Busy Locking → (v : Verdict) → (step_left_of N c m 8 v).answer.verdict ≡ Fine → (step_left_of N c m 8 v).answer.chip.line.core.locked ≡ lock
-  lock_left e Fine h = lock_as_flag.flag (facts_of part) en lock page c e
-  lock_left e (Refused r) h = refused_not h
+  lock_left : c.line.phase ≡ Busy Locking → (v : Verdict) → (step_left_of N c m 8 v).answer.verdict ≡ Ok tt → (step_left_of N c m 8 v).answer.chip.line.core.locked ≡ lock
+  lock_left e (Ok _) h = lock_as_flag.flag (facts_of part) en lock page c e
+  lock_left e (Err r) h = refused_not h
 
 pub step_spoils : StepSpoils step_of
 step_spoils =

@@ -1,5 +1,6 @@
 -- Promise 5 is kept, and a chip that refusal 4 refuses is refused by every call of a series.
 -- Assumes nothing.
+use Rattle.std.specs.Prelude.{Ok, Err}
 use mathlib.Core.Path.{◌≡◌, refl, sym, ap, ◌∙◌}
 use Prim.Native.Nat.{ℕ}
 use native.Mathlib.Nat.{add-zero}
@@ -9,8 +10,7 @@ use mathlib.Core.List.{List, [], ◌∷◌}
 use lib.ListN.{length}
 use lib.Dec.{ltb}
 use Rattle.parts.specs.declared.Refusal.{Refusal}
-use Rattle.parts.specs.declared.Verdict.{Verdict}
-use Rattle.parts.specs.declared.Verdict.TheVariants.{Fine, Refused}
+use Rattle.parts.specs.Verdict.{Verdict}
 use Rattle.parts.specs.declared.Refusal.TheVariants.{BadEvent, ShortBuffer, TooMany}
 use Rattle.parts.specs.Table.{facts_of}
 use Rattle.parts.specs.Events.{event_right_of}
@@ -25,25 +25,25 @@ use Rattle.chip.specs.Calls.{scan_of, cut_verdict_of, deliver_verdict_of, step_v
 use Rattle.chip_promises.specs.Calls.{Call, one, many, Ending, after_step, after_run, call_by, calls_by}
 use Rattle.chip_promises.specs.Refused.{DeliverRefusedChangesNothing, StepRefusedChangesNothing, RunRefusedChangesNothing, RefusedChangesNothing}
 
-deliver_left : (part : ℕ) (m : Mem) (v : Verdict) (r : Refusal) → (deliver_left_of part m v).answer.verdict ≡ Refused r → (deliver_left_of part m v).mem ≡ m
-deliver_left part m Fine r e = cc
-deliver_left part m (Refused q) r e = refl
+deliver_left : (part : ℕ) (m : Mem) (v : Verdict) (r : Refusal) → (deliver_left_of part m v).answer.verdict ≡ Err r → (deliver_left_of part m v).mem ≡ m
+deliver_left part m (Ok _) r e = cc
+deliver_left part m (Err q) r e = refl
 
-step_left : (M : Model) (c : Chip) (m : Mem) (code : ℕ) (v : Verdict) (r : Refusal) → (step_left_of M c m code v).answer.verdict ≡ Refused r
+step_left : (M : Model) (c : Chip) (m : Mem) (code : ℕ) (v : Verdict) (r : Refusal) → (step_left_of M c m code v).answer.verdict ≡ Err r
     → ((step_left_of M c m code v).mem ≡ m)
     × ((step_left_of M c m code v).answer.chip ≡ c)
     × ((step_left_of M c m code v).answer.cycles ≡ 0)
     × ((step_left_of M c m code v).answer.level ≡ 2)
-step_left M c m code Fine r e = (cc, cc, cc, cc)
-step_left M c m code (Refused q) r e = (refl, refl, refl, refl)
+step_left M c m code (Ok _) r e = (cc, cc, cc, cc)
+step_left M c m code (Err q) r e = (refl, refl, refl, refl)
 
-run_left : (M : Model) (c : Chip) (m : Mem) (es a : List ℕ) (v : Verdict) (r : Refusal) → (run_left_of M c m es a v).answer.verdict ≡ Refused r
+run_left : (M : Model) (c : Chip) (m : Mem) (es a : List ℕ) (v : Verdict) (r : Refusal) → (run_left_of M c m es a v).answer.verdict ≡ Err r
     → ((run_left_of M c m es a v).mem ≡ m)
     × ((run_left_of M c m es a v).answer.chip ≡ c)
     × ((run_left_of M c m es a v).answer.cycles ≡ 0)
     × ((run_left_of M c m es a v).answers ≡ a)
-run_left M c m es a Fine r e = (cc, cc, cc, cc)
-run_left M c m es a (Refused q) r e = (refl, refl, refl, refl)
+run_left M c m es a (Ok _) r e = (cc, cc, cc, cc)
+run_left M c m es a (Err q) r e = (refl, refl, refl, refl)
 
 deliver_refused : DeliverRefusedChangesNothing deliver_of
 deliver_refused part m r e = deliver_left part m (deliver_verdict_of part (length m.cells) (length m.ident)) r e
@@ -60,14 +60,14 @@ refused_changes_nothing = record { deliver = deliver_refused; step = step_refuse
 -- ---- a chip out of range: 1, 2 and 3 go before 4, and one of them is given
 
 abbrev IsRefused : Verdict → Type 0
-IsRefused Fine = ⊥
-IsRefused (Refused r) = Unit {0}
+IsRefused (Ok _) = ⊥
+IsRefused (Err r) = Unit {0}
 
-not_fine : (v : Verdict) → (v ≡ Fine → ⊥) → IsRefused v
-not_fine Fine h = h refl
-not_fine (Refused r) h = tt
+not_fine : (v : Verdict) → (v ≡ Ok tt → ⊥) → IsRefused v
+not_fine (Ok _) h = h refl
+not_fine (Err r) h = tt
 
-cut_out : (part en : ℕ) (w : PowerCut) (c : Chip) (n d : ℕ) → in_range_of (facts_of part) c ≡ false → cut_verdict_of part en w c n d ≡ Fine → ⊥
+cut_out : (part en : ℕ) (w : PowerCut) (c : Chip) (n d : ℕ) → in_range_of (facts_of part) c ≡ false → cut_verdict_of part en w c n d ≡ Ok tt → ⊥
 cut_out part en w c n d e h =
     let y : ◌≡◌ {A = Bool} true false = sym (cut_fine part en w c n d h).1.ranged ∙ e in
     let z : ◌≡◌ {A = ℕ} 0 1 = cc in
@@ -87,13 +87,13 @@ step_out part en w c n d code e =
 
 after_step_out : (M : Model) (code : ℕ) (e : Ending) (v : Verdict) → IsRefused v → after_step code (step_left_of M e.chip e.mem code v) e ≡ e
 unfolding after_step
-after_step_out M code e Fine o = absurd o
-after_step_out M code e (Refused r) o = rw add-zero
+after_step_out M code e (Ok _) o = absurd o
+after_step_out M code e (Err r) o = rw add-zero
 
 after_run_out : (M : Model) (es a : List ℕ) (e : Ending) (v : Verdict) → IsRefused v → after_run es (run_left_of M e.chip e.mem es a v) e ≡ e
 unfolding after_run
-after_run_out M es a e Fine o = absurd o
-after_run_out M es a e (Refused r) o = rw add-zero
+after_run_out M es a e (Ok _) o = absurd o
+after_run_out M es a e (Err r) o = rw add-zero
 
 -- a series of calls on it leaves everything as it was
 pub calls_out : (part en : ℕ) (e : Ending) (xs : List Call) → in_range_of (facts_of part) e.chip ≡ false → calls_by step_of run_of part en e xs ≡ e

@@ -1,13 +1,13 @@
 -- What each event keeps, a run keeps, and a series of calls of `step` and `run`.
 -- Assumes nothing.
+use Rattle.std.specs.Prelude.{Ok, Err}
 use mathlib.Core.Path.{◌≡◌, sym, ap, ◌∙◌, subst}
 use Prim.Native.Nat.{ℕ, ◌+◌}
 use native.Mathlib.Nat.{add_assoc, add-zero}
 use mathlib.Core.List.{List, [], ◌∷◌, ◌++◌, append_assoc, append-nil}
 use lib.ListN.{length, take, drop}
 use lib.Seq.{take-append_seam}
-use Rattle.parts.specs.declared.Verdict.{Verdict}
-use Rattle.parts.specs.declared.Verdict.TheVariants.{Fine, Refused}
+use Rattle.parts.specs.Verdict.{Verdict}
 use Rattle.parts.specs.Table.{facts_of}
 use Rattle.chip.proofs.Laws.{levels_length}
 use Rattle.state.specs.declared.Chip.{Chip}
@@ -52,19 +52,19 @@ module _ (M : Model) (Q : ℕ → Type 0) (I : Invariant) (step : Keeps M Q I) w
   -- a call of `step`, whatever its verdict
   step_keeps : (code : ℕ) (e : Ending) (v : Verdict) → Q code → Holds I e → Holds I (after_step code (step_left_of M e.chip e.mem code v) e)
   unfolding after_step
-  step_keeps code e Fine q i = step e.chip e.mem e.cycles e.events e.levels code q i
-  step_keeps code e (Refused r) q i = rw add-zero i
+  step_keeps code e (Ok _) q i = step e.chip e.mem e.cycles e.events e.levels code q i
+  step_keeps code e (Err r) q i = rw add-zero i
 
   -- and of `run`
   run_keeps : (es a : List ℕ) (e : Ending) (v : Verdict) → Every Q es → Holds I e → Holds I (after_run es (run_left_of M e.chip e.mem es a v) e)
   unfolding after_run
-  run_keeps es a e Fine q i =
+  run_keeps es a e (Ok _) q i =
       let c : Chip = e.chip in
       let m : Mem = e.mem in
       let answered : take (length es) (levels_of M c m es ++ drop (length es) a) ≡ levels_of M c m es =
       ap (λ (n : ℕ). take n (levels_of M c m es ++ drop (length es) a)) (sym (levels_length M c m es)) ∙ take-append_seam (levels_of M c m es) (drop (length es) a) in
       rw answered (keeps M Q I step es c m e.cycles e.events e.levels q i)
-  run_keeps es a e (Refused r) q i = rw add-zero i
+  run_keeps es a e (Err r) q i = rw add-zero i
 
 -- a series of calls, each with what it is given for a loss of power
 module _ (part en : ℕ) (Q : ℕ → Type 0) (I : Invariant) (step : (w : PowerCut) → Keeps (ours_with w (facts_of part) en) Q I) where

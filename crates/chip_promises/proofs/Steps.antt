@@ -1,5 +1,6 @@
 -- What an event leaves alone: facts of one step that several promises use.
 -- Assumes nothing.
+use Rattle.std.specs.Prelude.{Option, None, Some}
 use mathlib.Core.Path.{◌≡◌, refl, sym, ap, ◌∙◌, subst}
 use Prim.Native.Nat.{ℕ, zero, suc, ◌+◌, ◌*◌}
 use mathlib.Core.Bool.{Bool, true, false}
@@ -19,12 +20,9 @@ use Rattle.line.specs.declared.Cycle.TheVariants.{Writing, Locking}
 use Rattle.line.specs.declared.Phase.{Phase}
 use Rattle.line.specs.declared.Phase.TheVariants.{Idle, Receive, Send, Busy}
 use Rattle.line.specs.declared.Line.{Line}
-use Rattle.line.specs.declared.CycleAsked.{CycleAsked}
-use Rattle.line.specs.declared.CycleAsked.TheVariants.{NoCycle, For}
 use Rattle.line.specs.declared.Core.{Core}
 use Rattle.line.specs.declared.After.{After}
-use Rattle.line.specs.declared.Selected.{Selected}
-use Rattle.line.specs.declared.Selected.TheVariants.{Miss, Hit}
+use Rattle.line.specs.declared.Cycle.{Cycle}
 use Rattle.line.specs.declared.Pin.{Pin}
 use Rattle.line.specs.declared.Pin.TheVariants.{Low, High, Floating}
 use Rattle.line.specs.Rules.{decode_of, selected_of, load_array_of, load_id_of, loaded_of, refuses_of, latched_of, filled_of, locked_by_of, taken_of, moved_of, received_of, sent_of, clocked_of, started_of, stopped_by_lem, due_of, placed_of, asks_of, stopped_of, ended_by_of, ended_of, pinned_of, lock_at_reset, reset_of, next_of}
@@ -32,11 +30,11 @@ use Rattle.chip_promises.specs.States.{NotBusy}
 
 -- ---- no byte begins a cycle
 
-selected_free : (f : Facts) (c : Core) (b : ℕ) (h : Selected) → NotBusy (selected_of f c b h).phase
+selected_free : (f : Facts) (c : Core) (b : ℕ) (h : Option (Target × Bool)) → NotBusy (selected_of f c b h).phase
 unfolding selected_of
-selected_free f c b Miss = tt
-selected_free f c b (Hit t true) = tt
-selected_free f c b (Hit t false) = tt
+selected_free f c b None = tt
+selected_free f c b (Some (t, true)) = tt
+selected_free f c b (Some (t, false)) = tt
 
 loaded_free : (f : Facts) (c : Core) (t : Target) (a : ℕ) → NotBusy (loaded_of f c t a).phase
 unfolding loaded_of load_array_of load_id_of
@@ -62,11 +60,11 @@ pub record Kept (c d : Core) : Type 0 where
 abbrev same : {c d : Core} → d.locked ≡ c.locked → d.pin ≡ c.pin → d.inhibited ≡ c.inhibited → Kept c d
 same a b e = record { locked = a; pin = b; mark = e }
 
-selected_kept : (f : Facts) (c : Core) (b : ℕ) (h : Selected) → Kept c (selected_of f c b h).core
+selected_kept : (f : Facts) (c : Core) (b : ℕ) (h : Option (Target × Bool)) → Kept c (selected_of f c b h).core
 unfolding selected_of
-selected_kept f c b Miss = same refl refl refl
-selected_kept f c b (Hit t true) = same refl refl refl
-selected_kept f c b (Hit t false) = same refl refl refl
+selected_kept f c b None = same refl refl refl
+selected_kept f c b (Some (t, true)) = same refl refl refl
+selected_kept f c b (Some (t, false)) = same refl refl refl
 
 loaded_kept : (f : Facts) (c : Core) (t : Target) (a : ℕ) → Kept c (loaded_of f c t a).core
 unfolding loaded_of load_array_of load_id_of
@@ -118,9 +116,9 @@ started_still l (Receive r) = (refl, refl)
 started_still l (Send t) = (refl, refl)
 started_still l (Busy y) = (refl, refl)
 
-by_still : (c : Core) (a : CycleAsked) → Still c (stopped_by_lem c a).core
-by_still c NoCycle = (refl, refl)
-by_still c (For y) = (refl, refl)
+by_still : (c : Core) (a : Option Cycle) → Still c (stopped_by_lem c a).core
+by_still c None = (refl, refl)
+by_still c (Some y) = (refl, refl)
 
 stopped_still : (l : Line) (ph : Phase) → Still l.core (stopped_of l ph).core
 unfolding stopped_of

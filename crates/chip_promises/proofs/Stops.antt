@@ -2,6 +2,7 @@
 -- come would make a Stop well placed (`expects`), and the history's answer to the same question is `asks_cycle_of` of the bytes seen with
 -- those to come.
 -- Assumes nothing.
+use Rattle.std.specs.Prelude.{Ok, Err, Option, None, Some}
 use mathlib.Core.Path.{◌≡◌, refl, sym, ap, ◌∙◌, subst}
 use Prim.Native.Nat.{ℕ, zero, suc, ◌+◌, ◌*◌, ◌/◌, ◌%◌, ◌^◌, ◌≤◌, ◌<◌}
 use native.Mathlib.Nat.{mod-eq_of_lt, pow-le-pow_right, pow-suc}
@@ -17,8 +18,7 @@ use Rattle.parts.specs.declared.Loss.{Loss}
 use Rattle.parts.specs.declared.Loss.TheVariants.{Old}
 use Rattle.parts.specs.declared.Event.{Event}
 use Rattle.parts.specs.declared.Event.TheVariants.{Clock, Start, Stop, Ends, PinLow, PinHigh, PinFloat, Reset, Unknown}
-use Rattle.parts.specs.declared.Verdict.{Verdict}
-use Rattle.parts.specs.declared.Verdict.TheVariants.{Fine, Refused}
+use Rattle.parts.specs.Verdict.{Verdict}
 use Rattle.parts.specs.Table.{facts_of, address_bytes_of}
 use Rattle.parts.specs.Events.{event_with, event_of}
 use Rattle.parts.specs.Bytes.{flag_of}
@@ -37,10 +37,7 @@ use Rattle.line.specs.declared.Phase.TheVariants.{Idle, Receive, Send, Busy}
 use Rattle.line.specs.declared.Core.{Core}
 use Rattle.line.specs.declared.Line.{Line}
 use Rattle.line.specs.declared.After.{After}
-use Rattle.line.specs.declared.Selected.{Selected}
-use Rattle.line.specs.declared.Selected.TheVariants.{Miss, Hit}
-use Rattle.line.specs.declared.CycleAsked.{CycleAsked}
-use Rattle.line.specs.declared.CycleAsked.TheVariants.{NoCycle, For}
+use Rattle.line.specs.declared.Cycle.{Cycle}
 use Rattle.line.specs.Rules.{is_high, at, opened, marked, marked_in, bit_on, enabled_of, named_of, decode_of, address_start_of, selected_of, load_array_of, load_id_of, loaded_of, refuses_of, latched_of, filled_of, locked_by_of, taken_of, landed, released_in, received_of, receive_level_of, sent_of, send_level_of, clocked_of, clock_level_of, started_of, stopped_by_lem, begun_by, due_of, placed_of, asks_of, stopped_of, stop_begun_of, ended_by_of, ended_of, pinned_of, reset_of, next_of, level_of, begun_of, NoTransfer}
 use Rattle.state.specs.declared.Chip.{Chip}
 use Rattle.chip.specs.Memory.{Mem, state_of, chip_level_of, seen_of}
@@ -95,10 +92,10 @@ abbrev Goes : Facts → Recv → ℕ → After → Type 0
 Goes f r b a = (ds : List Byte) → (all_acked (heard_as b a.phase ∷ ds) && expects f r (heard_as b a.phase ∷ ds)) ≡ ahead f a.phase ds
 
 -- what a select byte names, read from its bits
-abbrev HeardIs : ℕ → Selected → Type 0
-HeardIs b Miss = Unit {0}
-HeardIs b (Hit Array r) = (eqb (b % 2) 1 ≡ r) × (eqb (b / 16) 11 ≡ false)
-HeardIs b (Hit Ident r) = (eqb (b % 2) 1 ≡ r) × (eqb (b / 16) 11 ≡ true)
+abbrev HeardIs : ℕ → Option (Target × Bool) → Type 0
+HeardIs b None = Unit {0}
+HeardIs b (Some (Array, r)) = (eqb (b % 2) 1 ≡ r) × (eqb (b / 16) 11 ≡ false)
+HeardIs b (Some (Ident, r)) = (eqb (b % 2) 1 ≡ r) × (eqb (b / 16) 11 ≡ true)
 
 decode_is : (f : Facts) (en b : ℕ) → HeardIs b (decode_of f en b)
 unfolding decode_of named_of
@@ -128,20 +125,20 @@ first_ident f true (b ∷ d ∷ ds) = refl
 first_ident f false [] = refl
 first_ident f false (b ∷ ds) = ap (λ (a : ℕ). data_of (bit_on a f.lock) ds) (omega arith)
 
-selected_goes : (f : Facts) (c : Core) (b : ℕ) (h : Selected) → HeardIs b h → Goes f Select b (selected_of f c b h)
+selected_goes : (f : Facts) (c : Core) (b : ℕ) (h : Option (Target × Bool)) → HeardIs b h → Goes f Select b (selected_of f c b h)
 unfolding selected_of address_start_of writes_of lock_chosen_of address_bytes_of
-selected_goes f c b Miss k ds = refl
-selected_goes f c b (Hit Array true) k ds =
+selected_goes f c b None k ds = refl
+selected_goes f c b (Some (Array, true)) k ds =
     ap (λ (r : Bool). all_acked ds && (not r && data_of (eqb (b / 16) 11 && bit_on (address_in f.wide ds) f.lock) (drop (cond f.wide 2 1) ds))) k.0
     ∙ and-false (all_acked ds)
-selected_goes f c b (Hit Ident true) k ds =
+selected_goes f c b (Some (Ident, true)) k ds =
     ap (λ (r : Bool). all_acked ds && (not r && data_of (eqb (b / 16) 11 && bit_on (address_in f.wide ds) f.lock) (drop (cond f.wide 2 1) ds))) k.0
     ∙ and-false (all_acked ds)
-selected_goes f c b (Hit Array false) k ds =
+selected_goes f c b (Some (Array, false)) k ds =
     ap (λ (r : Bool). all_acked ds && (not r && data_of (eqb (b / 16) 11 && bit_on (address_in f.wide ds) f.lock) (drop (cond f.wide 2 1) ds))) k.0
     ∙ ap (λ (x : Bool). all_acked ds && data_of (x && bit_on (address_in f.wide ds) f.lock) (drop (cond f.wide 2 1) ds)) k.1
     ∙ ap (λ (x : Bool). all_acked ds && x) (first_array f f.wide (b / 2 % 8) ds)
-selected_goes f c b (Hit Ident false) k ds =
+selected_goes f c b (Some (Ident, false)) k ds =
     ap (λ (r : Bool). all_acked ds && (not r && data_of (eqb (b / 16) 11 && bit_on (address_in f.wide ds) f.lock) (drop (cond f.wide 2 1) ds))) k.0
     ∙ ap (λ (x : Bool). all_acked ds && data_of (x && bit_on (address_in f.wide ds) f.lock) (drop (cond f.wide 2 1) ds)) k.1
     ∙ ap (λ (x : Bool). all_acked ds && x) (first_ident f f.wide ds)
@@ -313,9 +310,9 @@ started_side f l p (Busy y) (since h bs k n) i e o = absurd o
 
 -- ---- Stop
 
-abbrev is_for : CycleAsked → Bool
-is_for NoCycle = false
-is_for (For y) = true
+abbrev is_for : Option Cycle → Bool
+is_for None = false
+is_for (Some y) = true
 
 asks_now : (f : Facts) (r : Recv) → expects f r [] ≡ is_for (asks_of r)
 unfolding asks_of writes_of
@@ -331,11 +328,11 @@ asks_now f (LockTaken false) = refl
 abbrev Stops : Facts → Line → ℕ → Bool → Type 0
 Stops f l n u = Side f l l.phase (cond u cycling quiet) × (n ≡ flag_of u)
 
-by_stops : (f : Facts) (c : Core) (p : Bool) (a : CycleAsked) → Stops f (stopped_by_lem c (due_of p a)) (begun_by (due_of p a)) (p && is_for a)
-by_stops f c true NoCycle = (tt, refl)
-by_stops f c true (For y) = (tt, refl)
-by_stops f c false NoCycle = (tt, refl)
-by_stops f c false (For y) = (tt, refl)
+by_stops : (f : Facts) (c : Core) (p : Bool) (a : Option Cycle) → Stops f (stopped_by_lem c (due_of p a)) (begun_by (due_of p a)) (p && is_for a)
+by_stops f c true None = (tt, refl)
+by_stops f c true (Some y) = (tt, refl)
+by_stops f c false None = (tt, refl)
+by_stops f c false (Some y) = (tt, refl)
 
 eight : (left k : ℕ) → left + k ≡ 8 → eqb k 0 ≡ eqb left 8
 eight left zero e = sym (eq-eqb left 8 (omega arith))
@@ -554,12 +551,12 @@ calls_cycles_are_stops_from_delivery part en m xs e =
 -- ---- one call of `run`
 
 left_stops : (w : PowerCut) (f : Facts) (en : ℕ) (c : Chip) (m : Mem) (es a : List ℕ) (v : Verdict) → NoTransfer c.line.phase
-    → (run_left_of (ours_with w f en) c m es a v).answer.verdict ≡ Fine
+    → (run_left_of (ours_with w f en) c m es a v).answer.verdict ≡ Ok tt
     → (run_left_of (ours_with w f en) c m es a v).answer.cycles ≡ stops_of f (watch_at c) es (run_left_of (ours_with w f en) c m es a v).answers
-left_stops w f en c m es a Fine h e =
+left_stops w f en c m es a (Ok _) h e =
     cycles_are_stops w f en c m es h
     ∙ sym (stops_past f (watch_at c) es (levels_of (ours_with w f en) c m es) (drop (length es) a) (sym (levels_length (ours_with w f en) c m es)))
-left_stops w f en c m es a (Refused r) h e = cc
+left_stops w f en c m es a (Err r) h e = cc
 
 pub run_cycles_are_stops : RunCyclesAreStops run_of
 run_cycles_are_stops part en w c m es a h e = left_stops w (facts_of part) en c m es a (run_verdict part en w c m es a) h e

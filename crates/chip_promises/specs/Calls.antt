@@ -1,9 +1,8 @@
 -- Any functions that are called as `deliver`, `step` and `run` are, and a series of such calls. Ours are `deliver_of`, `step_of` and
 -- `run_of`, which the contracts cite.
 -- Assumes nothing.
-use Rattle.std.specs.Prelude.{ℕ, ◌+◌, List, [], ◌∷◌, ◌++◌, length, take}
-use Rattle.parts.specs.declared.Verdict.{Verdict}
-use Rattle.parts.specs.declared.Verdict.TheVariants.{Fine, Refused}
+use Rattle.std.specs.Prelude.{ℕ, ◌+◌, List, [], ◌∷◌, ◌++◌, length, take, Ok, Err}
+use Rattle.parts.specs.Verdict.{Verdict}
 use Rattle.state.specs.declared.Chip.{Chip}
 use Rattle.chip.specs.Memory.{Mem}
 use Rattle.chip.specs.Model.{PowerCut}
@@ -43,8 +42,8 @@ abbrev pub before_calls : Chip → Mem → Ending
 before_calls c m = record { chip = c; mem = m; cycles = 0; events = []; levels = [] }
 
 abbrev pub noted : Verdict → List ℕ → List ℕ → List ℕ
-noted Fine before new = before ++ new
-noted (Refused r) before new = before
+noted (Ok _) before new = before ++ new
+noted (Err r) before new = before
 
 unfoldable pub after_step : ℕ → StepLeft → Ending → Ending
 after_step code x e =

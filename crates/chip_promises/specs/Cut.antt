@@ -1,7 +1,7 @@
 -- "A Stop one clock late, at each bit of a page write" (document 00), by rule 6 of document 01: over a page write cut by a Stop after
 -- any number of clocks, a cycle begins exactly where that Stop directly follows a data byte's acknowledge.
 -- Assumes nothing.
-use Rattle.std.specs.Prelude.{ℕ, ◌+◌, ◌*◌, ◌/◌, ◌%◌, ◌<◌, ◌≤◌, ◌≡◌, Bool, true, false, List, [], ◌∷◌, ◌++◌, length, take}
+use Rattle.std.specs.Prelude.{ℕ, ◌+◌, ◌*◌, ◌/◌, ◌%◌, ◌<◌, ◌≤◌, ◌≡◌, Bool, true, false, List, [], ◌∷◌, ◌++◌, length, take, Some}
 use Rattle.parts.specs.declared.Facts.{Facts}
 use Rattle.parts.specs.Table.{address_bytes_of}
 use Rattle.parts.specs.Bytes.{AllBelow}
@@ -10,7 +10,6 @@ use Rattle.line.specs.declared.Target.TheVariants.{Array, Ident}
 use Rattle.line.specs.declared.Phase.TheVariants.{Idle}
 use Rattle.line.specs.declared.Core.{Core}
 use Rattle.line.specs.declared.Line.{Line}
-use Rattle.line.specs.declared.Selected.TheVariants.{Hit}
 use Rattle.line.specs.Rules.{is_high, bit_on, decode_of}
 use Rattle.chip.specs.Model.{ours}
 use Rattle.chip.specs.Memory.{chip}
@@ -45,7 +44,7 @@ cut_of n bytes = 2 ∷ (take n (bytes_of bytes) ++ (3 ∷ []))
 pub record Write (f : Facts) (enable : ℕ) (l : Line) (t : Target) (select high low : ℕ) (bs : List ℕ) : Type 0 where
   pub idle : l.phase ≡ Idle
   pub pin : is_high l.core.pin ≡ false
-  pub names : decode_of f enable select ≡ Hit t false
+  pub names : decode_of f enable select ≡ Some (t, false)
   pub bytes : AllBelow 256 (select ∷ high ∷ low ∷ bs)
   pub permitted : Permitted f l.core t (above_of f.wide t select high * 256 + low)
 

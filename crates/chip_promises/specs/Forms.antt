@@ -1,8 +1,7 @@
 -- Other forms of promises 1 to 4, which the promises themselves and their users are proved by: of a single call of `run`, and of the pages over
 -- any series of calls from any chip in which no cycle runs.
 -- Assumes nothing.
-use Rattle.std.specs.Prelude.{ℕ, ◌≤◌, ◌≡◌, List}
-use Rattle.parts.specs.declared.Verdict.TheVariants.{Fine}
+use Rattle.std.specs.Prelude.{ℕ, ◌≤◌, ◌≡◌, List, Ok}
 use Rattle.parts.specs.Table.{facts_of}
 use Rattle.line.specs.declared.Pin.TheVariants.{High}
 use Rattle.state.specs.declared.Chip.{Chip}
@@ -49,5 +48,5 @@ RunPinProtects R =
 abbrev pub RunCyclesAreStops : Run → Type 0
 RunCyclesAreStops R =
     (part enable : ℕ) (w : PowerCut) (c : Chip) (m : Mem) (es answers : List ℕ) → NoTransfer c.line.phase
-    → (R part enable w c m es answers).answer.verdict ≡ Fine
+    → (R part enable w c m es answers).answer.verdict ≡ Ok tt
     → (R part enable w c m es answers).answer.cycles ≡ stops_of (facts_of part) (watch_at c) es (R part enable w c m es answers).answers

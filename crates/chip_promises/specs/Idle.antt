@@ -1,12 +1,11 @@
 -- Chips that only seem to work (document 01, 'Strength of the promises'): one that refuses everything breaks the refusal table, one
 -- whose line keeps one level breaks the select trials.
 -- Assumes nothing.
-use Rattle.std.specs.Prelude.{ℕ, ◌≡◌, false, List, [], ◌∷◌, length, get_or}
+use Rattle.std.specs.Prelude.{ℕ, ◌≡◌, false, List, [], ◌∷◌, length, get_or, Err}
 use Rattle.parts.specs.declared.Facts.{Facts}
 use Rattle.parts.specs.declared.Event.{Event}
 use Rattle.parts.specs.declared.Event.TheVariants.{Clock, Start, Stop, Ends, PinLow, PinHigh, PinFloat, Reset, Unknown}
 use Rattle.parts.specs.declared.Refusal.{Refusal}
-use Rattle.parts.specs.declared.Verdict.TheVariants.{Refused}
 use Rattle.parts.specs.Events.{event_of}
 use Rattle.parts.specs.Table.{facts_of}
 use Rattle.state.specs.declared.Chip.{Chip}
@@ -28,13 +27,13 @@ pub record RefusesByTable (D : Deliver) (T : Step) (R : Run) : Type 0 where
 
 -- each answers one refusal to everything, and changes nothing
 abbrev pub refusing_deliver : Refusal → Deliver
-refusing_deliver r part m = record { answer = record { verdict = Refused r; chip = standby_of (facts_of part) false }; mem = m }
+refusing_deliver r part m = record { answer = record { verdict = Err r; chip = standby_of (facts_of part) false }; mem = m }
 
 abbrev pub refusing_step : Refusal → Step
-refusing_step r part enable w c m code = record { answer = record { verdict = Refused r; level = 2; cycles = 0; chip = c }; mem = m }
+refusing_step r part enable w c m code = record { answer = record { verdict = Err r; level = 2; cycles = 0; chip = c }; mem = m }
 
 abbrev pub refusing_run : Refusal → Run
-refusing_run r part enable w c m es a = record { answer = record { verdict = Refused r; cycles = 0; chip = c }; mem = m; answers = a }
+refusing_run r part enable w c m es a = record { answer = record { verdict = Err r; cycles = 0; chip = c }; mem = m; answers = a }
 
 -- whichever refusal it is, and whatever the two others do
 pub record RefusingBreaks : Type 0 where

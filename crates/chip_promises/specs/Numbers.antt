@@ -3,7 +3,7 @@
 -- Assumes nothing.
 use Rattle.std.specs.Prelude.{ℕ, ◌<◌, ◌≤◌, ◌≡◌, true, false, cond, List, length, get_or, ltb}
 use Rattle.parts.specs.declared.Refusal.TheVariants.{ShortBuffer, TooMany}
-use Rattle.parts.specs.declared.Verdict.{Verdict}
+use Rattle.parts.specs.Verdict.{Verdict}
 use Rattle.parts.specs.Table.{facts_of, id_size_of}
 use Rattle.parts.specs.Events.{event_right_of, loss_size_of}
 use Rattle.parts.specs.Refusals.{verdict_number_of, verdict_place_of, is_fine, claim_of}

@@ -1,9 +1,8 @@
 -- Promise 1. "Over any events from delivery, the pages whose contents differ from delivery, the identification page counted as
 -- one, are never more than the write cycles begun."
 -- Assumes nothing.
-use Rattle.std.specs.Prelude.{ℕ, zero, suc, ◌+◌, ◌*◌, ◌<◌, ◌≤◌, Bool, false, not, ◌&&◌, List, ◌≡◌, length, take, drop}
+use Rattle.std.specs.Prelude.{ℕ, zero, suc, ◌+◌, ◌*◌, ◌<◌, ◌≤◌, Bool, false, not, ◌&&◌, List, ◌≡◌, length, take, drop, Ok}
 use Rattle.parts.specs.declared.Facts.{Facts}
-use Rattle.parts.specs.declared.Verdict.TheVariants.{Fine}
 use Rattle.parts.specs.Table.{facts_of, pages_of}
 use Rattle.parts.specs.Sound.{Sound}
 use Rattle.parts.specs.Bytes.{flag_of, same_of}
@@ -54,7 +53,7 @@ PagesFromDelivery M =
 -- Any series of calls on what `deliver` answers and leaves, against the buffers as it leaves them.
 abbrev pub CallsPagesFromDelivery : Deliver → Step → Run → Type 0
 CallsPagesFromDelivery D S R =
-    (part enable : ℕ) (m : Mem) (calls : List Call) → (D part m).answer.verdict ≡ Fine
+    (part enable : ℕ) (m : Mem) (calls : List Call) → (D part m).answer.verdict ≡ Ok tt
     → differing_of (facts_of part) (calls_by S R part enable (before_calls (D part m).answer.chip (D part m).mem) calls).mem (D part m).mem
     ≤ (calls_by S R part enable (before_calls (D part m).answer.chip (D part m).mem) calls).cycles
 

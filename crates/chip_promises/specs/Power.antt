@@ -1,10 +1,9 @@
 -- Document 02, §5: "Prove that a cut at any event spoils at most the groups of the one page." Said of any chip that is given a page and a
 -- flag for a loss of power; event code 8 is the reset.
 -- Assumes nothing.
-use Rattle.std.specs.Prelude.{ℕ, ◌/◌, ◌%◌, ◌<◌, ◌≤◌, ◌≡◌, Bool, false, List, length, get_or}
+use Rattle.std.specs.Prelude.{ℕ, ◌/◌, ◌%◌, ◌<◌, ◌≤◌, ◌≡◌, Bool, false, List, length, get_or, Ok}
 use Rattle.parts.specs.declared.Facts.{Facts}
 use Rattle.parts.specs.declared.Loss.TheVariants.{Old, Lent}
-use Rattle.parts.specs.declared.Verdict.TheVariants.{Fine}
 use Rattle.parts.specs.Table.{facts_of}
 use Rattle.parts.specs.Sound.{Sound}
 use Rattle.parts.specs.Bytes.{AllBelow}
@@ -159,8 +158,8 @@ pub record OldIsOwnPage (M : PowerModel) : Type 0 where
 -- ---- of any function that is called as `step` is: a reset that is not refused, on whatever chip and memory a series of calls has come to
 pub record StepSpoils (S : Step) : Type 0 where
   pub bytes : (part enable : ℕ) (lock : Bool) (page : List ℕ) (c : Chip) (m : Mem) → AllBelow 256 page
-      → (S part enable (cut_by (Lent lock) page) c m 8).answer.verdict ≡ Fine
+      → (S part enable (cut_by (Lent lock) page) c m 8).answer.verdict ≡ Ok tt
       → Spoils (facts_of part) c m (S part enable (cut_by (Lent lock) page) c m 8).mem page
   pub lock : (part enable : ℕ) (lock : Bool) (page : List ℕ) (c : Chip) (m : Mem) → c.line.phase ≡ Busy Locking
-      → (S part enable (cut_by (Lent lock) page) c m 8).answer.verdict ≡ Fine
+      → (S part enable (cut_by (Lent lock) page) c m 8).answer.verdict ≡ Ok tt
       → (S part enable (cut_by (Lent lock) page) c m 8).answer.chip.line.core.locked ≡ lock

@@ -1,8 +1,7 @@
 -- Promise 5. "A call refused for bad input changes no byte and no chip state."
 -- Assumes nothing.
-use Rattle.std.specs.Prelude.{ℕ, ◌≡◌, List}
+use Rattle.std.specs.Prelude.{ℕ, ◌≡◌, List, Err}
 use Rattle.parts.specs.declared.Refusal.{Refusal}
-use Rattle.parts.specs.declared.Verdict.TheVariants.{Refused}
 use Rattle.state.specs.declared.Chip.{Chip}
 use Rattle.chip.specs.Memory.{Mem}
 use Rattle.chip.specs.Model.{PowerCut}
@@ -13,11 +12,11 @@ use Rattle.chip_promises.specs.Calls.{Deliver, Step, Run}
 
 abbrev pub DeliverRefusedChangesNothing : Deliver → Type 0
 DeliverRefusedChangesNothing D =
-    (part : ℕ) (m : Mem) (r : Refusal) → (D part m).answer.verdict ≡ Refused r → (D part m).mem ≡ m
+    (part : ℕ) (m : Mem) (r : Refusal) → (D part m).answer.verdict ≡ Err r → (D part m).mem ≡ m
 
 abbrev pub StepRefusedChangesNothing : Step → Type 0
 StepRefusedChangesNothing S =
-    (part enable : ℕ) (w : PowerCut) (c : Chip) (m : Mem) (code : ℕ) (r : Refusal) → (S part enable w c m code).answer.verdict ≡ Refused r
+    (part enable : ℕ) (w : PowerCut) (c : Chip) (m : Mem) (code : ℕ) (r : Refusal) → (S part enable w c m code).answer.verdict ≡ Err r
     → ((S part enable w c m code).mem ≡ m)
     × ((S part enable w c m code).answer.chip ≡ c)
     × ((S part enable w c m code).answer.cycles ≡ 0)
@@ -25,7 +24,7 @@ StepRefusedChangesNothing S =
 
 abbrev pub RunRefusedChangesNothing : Run → Type 0
 RunRefusedChangesNothing R =
-    (part enable : ℕ) (w : PowerCut) (c : Chip) (m : Mem) (es answers : List ℕ) (r : Refusal) → (R part enable w c m es answers).answer.verdict ≡ Refused r
+    (part enable : ℕ) (w : PowerCut) (c : Chip) (m : Mem) (es answers : List ℕ) (r : Refusal) → (R part enable w c m es answers).answer.verdict ≡ Err r
     → ((R part enable w c m es answers).mem ≡ m)
     × ((R part enable w c m es answers).answer.chip ≡ c)
     × ((R part enable w c m es answers).answer.cycles ≡ 0)

@@ -1,11 +1,10 @@
 -- Promise 4. "Cycles are well-placed Stops" (document 01, 'Strength of the promises', rules 5 and 6): a definition that finds these
 -- Stops in the history alone, the events and the levels answered, and never looks into the chip.
 -- Assumes nothing.
-use Rattle.std.specs.Prelude.{ℕ, zero, suc, ◌+◌, ◌*◌, ◌/◌, ◌%◌, ◌≡◌, Bool, true, false, not, cond, ◌&&◌, ◌||◌, List, [], ◌∷◌, ◌++◌, drop, eqb}
+use Rattle.std.specs.Prelude.{ℕ, zero, suc, ◌+◌, ◌*◌, ◌/◌, ◌%◌, ◌≡◌, Bool, true, false, not, cond, ◌&&◌, ◌||◌, List, [], ◌∷◌, ◌++◌, drop, eqb, Ok}
 use Rattle.parts.specs.declared.Facts.{Facts}
 use Rattle.parts.specs.declared.Event.{Event}
 use Rattle.parts.specs.declared.Event.TheVariants.{Clock, Start, Stop, Ends, PinLow, PinHigh, PinFloat, Reset, Unknown}
-use Rattle.parts.specs.declared.Verdict.TheVariants.{Fine}
 use Rattle.parts.specs.Table.{facts_of, address_bytes_of}
 use Rattle.parts.specs.Events.{event_of}
 use Rattle.parts.specs.Bytes.{flag_of}
@@ -188,7 +187,7 @@ CallsCyclesAreStops S R =
 -- Any series of calls on what `deliver` answers and leaves.
 abbrev pub CallsCyclesAreStopsFromDelivery : Deliver → Step → Run → Type 0
 CallsCyclesAreStopsFromDelivery D S R =
-    (part enable : ℕ) (m : Mem) (calls : List Call) → (D part m).answer.verdict ≡ Fine
+    (part enable : ℕ) (m : Mem) (calls : List Call) → (D part m).answer.verdict ≡ Ok tt
     → (calls_by S R part enable (before_calls (D part m).answer.chip (D part m).mem) calls).cycles
     ≡ stops_of (facts_of part) fresh_watch
     (calls_by S R part enable (before_calls (D part m).answer.chip (D part m).mem) calls).events

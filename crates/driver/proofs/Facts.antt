@@ -1,5 +1,6 @@
 -- What a request that nothing refuses has, and a driver in range; bounds that the code needs.
 -- Assumes nothing.
+use Rattle.std.specs.Prelude.{Ok, Err}
 use Prim.Native.Nat.{ℕ, zero, suc, ◌+◌, ◌-◌, ◌*◌, ◌/◌, ◌%◌, ◌≤◌, ◌<◌}
 use mathlib.Core.Path.{◌≡◌, refl, sym, ap}
 use mathlib.Core.Bool.{Bool, true, false, cond, not, false≢true, ◌&&◌}
@@ -10,8 +11,7 @@ use native.Mathlib.Omega.{arith}
 use native.Mathlib.Nat.{mod-le, div-le_self, mul-le-mul}
 use borrow.Author.Tests.{ltb-true, ltb-false, leb-true, leb-false, eqb-true, eq-eqb, le-leb}
 use Rattle.parts.specs.declared.Refusal.TheVariants.{NoPart, WrongEnable, Beyond, BadLimit}
-use Rattle.parts.specs.declared.Verdict.{Verdict}
-use Rattle.parts.specs.declared.Verdict.TheVariants.{Fine, Refused}
+use Rattle.parts.specs.Verdict.{Verdict}
 use Rattle.parts.specs.Table.{facts_of, id_size_of, enable_right_of}
 use Rattle.parts.specs.Refusals.{is_fine, claim_of}
 use Rattle.parts.proofs.Laws.{sound, branch}
@@ -22,7 +22,7 @@ use Rattle.driver.specs.declared.Place.TheVariants.{Array, Ident}
 use Rattle.driver.specs.declared.Request.{Request}
 use Rattle.driver.specs.declared.Driver.{Driver}
 use Rattle.driver.specs.Request.{from_of, room_of, there_of, beyond_at, limit_of, judge_of, allowed_of, k_of, GoodRequest}
-use Rattle.driver.specs.Step.{select_name_of, select_at, here_of, wire_of, phase_right, counts_right, clocks_of, range_of, GoodCounts, shift_of, whole_of, byte_kept_of, buffer_of}
+use Rattle.driver.specs.Step.{select_name_of, select_at, here_of, phase_right, counts_right, clocks_of, range_of, GoodCounts, shift_of, whole_of, byte_kept_of, buffer_of}
 
 pub room_most : (n : ℕ) (p : Place) → room_of (facts_of n) p ≤ 32768
 unfolding id_size_of
@@ -45,13 +45,6 @@ pub select_most : (name enable x : ℕ) (wide : Bool) → name ≤ 176 → enabl
 unfolding select_at
 select_most name enable x true h e = omega arith
 select_most name enable x false h e = omega arith
-
--- a select code leaves room for its last bit
-pub wire_small : (d : Driver) (v : ℕ) → GoodRequest d.request → (wire_of d v).select < 255
-unfolding wire_of
-wire_small d v g =
-    let r = d.request in
-    omega (arith, select_most (select_name_of r.place) r.enable (here_of d) (facts_of r.part).wide (name_most r.place) (enable_most r g))
 
 pub pages_suc : (P a n : ℕ) → pages_met_of P a (suc n) ≡ (a % P + n) / P + 1
 unfolding pages_met_of
@@ -92,9 +85,9 @@ unfolding limit_of
 budget_most true b e = omega arith
 budget_most false b e = branch (λ (t : Bool). t ≡ false → b ≤ 1000) (ltb b 1) (λ t z. absurd (false≢true (sym z))) (λ t z. ltb-false 1000 b z) e
 
-fine_is : (v : Verdict) → is_fine v ≡ true → v ≡ Fine
-fine_is Fine e = refl
-fine_is (Refused r) e = absurd (false≢true e)
+fine_is : (v : Verdict) → is_fine v ≡ true → v ≡ Ok tt
+fine_is (Ok _) e = refl
+fine_is (Err r) e = absurd (false≢true e)
 
 pub good_request : (r : Request) → is_fine (judge_of r) ≡ true → GoodRequest r
 unfolding judge_of enable_right_of allowed_of

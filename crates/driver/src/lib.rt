@@ -1,7 +1,8 @@
 // The driver of document 01: a value that is asked for one event a step and told the level of the last clock.
 #![tactic(auto)]
 
-ghost use Rattle.std.specs.Prelude.{◌≡◌, true, ◌+◌, ◌*◌, ◌≤◌, ◌<◌, length, get_or};
+ghost use Rattle.std.specs.Prelude.{◌≡◌, true, false, ◌+◌, ◌*◌, ◌≤◌, ◌<◌, length, MatchOption};
+ghost use Rattle.parts.specs.Table.{facts_of};
 ghost use Rattle.driver.specs.Split.{to_page_end_of, pages_met_of};
 ghost use Rattle.driver.specs.Request.{
   from_of,
@@ -15,7 +16,7 @@ ghost use Rattle.driver.specs.Request.{
   GoodRequest,
 };
 ghost use Rattle.parts.specs.Refusals.{is_fine};
-ghost use Rattle.driver.specs.Step.{select_name_of, select_at, wire_of, slot_byte_of, bit_of, ninth_of, shift_of, told_counts_of, sent_counts_of, ready_of, bits_at, follow_of, lead_at, low_at, data_at, poll_move_of, answered_of, take_at, end_of, heard_at, heard_move_of, bits_move_of, page_at, index_at, last_address_of, refusal_of, move_at, driver_step_of, clocks_of, slot_right, phase_right, counts_right, range_of, GoodCounts, driver_next_of, slot_whole, whole_of, byte_kept_of, buffer_of, begin_of, bad_state_of};
+ghost use Rattle.driver.specs.Step.{select_name_of, select_at, wire_of, slot_byte_of, bit_of, ninth_of, shift_of, told_counts_of, sent_counts_of, ready_of, bits_at, follow_of, lead_at, low_at, data_at, poll_move_of, answered_of, take_at, end_of, heard_at, heard_move_of, bits_move_of, page_at, index_at, last_address_of, refusal_of, move_at, driver_step_of, clocks_of, slot_right, phase_right, counts_right, range_of, GoodCounts, driver_next_of, whole_of, here_of, byte_kept_of, buffer_of, begin_of, bad_state_of};
 
 use parts::{ArrayAddress, Facts, IdLocation, Refusal, Verdict};
 
@@ -26,7 +27,8 @@ pub enum Place {
     Ident(IdLocation),
 }
 
-// A write of `length` bytes, or a read. The budget is the polls allowed for a page, for writes only.
+// A write of `length` bytes, or a read. The budget is the polls allowed for a page, for writes only. Part and enable stay numbers: `judge` refuses
+// those that no part has (`judge_of`).
 #[derive(Clone, Copy)]
 pub struct Request {
     pub part: u8,
@@ -83,7 +85,7 @@ pub enum Phase {
     Over(Failed),
 }
 
-#[derive(Clone, Copy)]
+#[derive(Clone, Copy, Default)]
 pub struct Counts {
     // Data bytes sent, or got.
     pub at: usize,
@@ -105,7 +107,7 @@ pub struct Driver {
 
 #[derive(Clone, Copy)]
 pub enum Answer {
-    // An event to send: 0 and 1 a clock with that level, 2 Start, 3 Stop.
+    // An event to send: 0 and 1 a clock with that level, 2 Start, 3 Stop. A code, as the C interface hands it out (`sapwoodle_driver_next`).
     Send(u8),
     // Finished: the polls spent, and the bytes written or got.
     Done(usize, usize),
@@ -147,26 +149,25 @@ const START: u8 = 2;
 const STOP: u8 = 3;
 
 // The splitter: how many of `length` bytes stand before the page's end.
+#[tactic(auto, unfolding(crate::specs::Split::to_page_end_of))]
 fn first(address: usize, length: usize, page: usize) -> usize
     requires { 0 < page }
     ensures { result ≡ to_page_end_of page address length }
 {
-    let room = page - address % page;
-    if length <= room {
-        return length;
-    }
-    room
+    length.min(page - address % page)
 }
 
 // How many pages the bytes meet.
+#[tactic(auto, unfolding(crate::specs::Split::pages_met_of))]
 fn pages(address: usize, length: usize, page: usize) -> usize
     requires { (0 < page) × (address + length ≤ 65536) }
     ensures { result ≡ pages_met_of page address length }
 {
     if length == 0 {
-        return 0;
+        0
+    } else {
+        (address % page + (length - 1)) / page + 1
     }
-    (address % page + (length - 1)) / page + 1
 }
 
 // Where the bytes of a request begin.
@@ -198,35 +199,23 @@ fn there(f: Facts, place: Place) -> bool
 }
 
 // Refusal 7. The sum is not made, since it may not fit.
+#[tactic(auto, unfolding(crate::specs::Request::beyond_at))]
 fn beyond(from: usize, length: usize, room: usize, there: bool) -> bool
     ensures { result ≡ beyond_at from length room there }
 {
-    if there {
-        if room < from {
-            return true;
-        }
-        if room - from < length {
-            return true;
-        }
-        return false;
-    }
-    true
+    !there || room < from || room - from < length
 }
 
 // Refusal 8.
+#[tactic(auto, unfolding(crate::specs::Request::limit_of))]
 fn limit(reads: bool, budget: usize) -> bool
     ensures { result ≡ limit_of reads budget }
 {
-    if reads {
-        return false;
-    }
-    if budget < 1 {
-        return true;
-    }
-    1000 < budget
+    !reads && (budget < 1 || 1000 < budget)
 }
 
 // What refuses a request: 1, 2, 7 or 8.
+#[tactic(auto, unfolding(crate::specs::Request::judge_of))]
 pub fn judge(request: Request) -> Verdict
     ensures { result ≡ judge_of request }
 {
@@ -250,13 +239,7 @@ fn fresh(request: Request) -> Driver
     Driver {
         request,
         phase: Phase::Ready,
-        counts: Counts {
-            at: 0,
-            seen: 0,
-            tries: 0,
-            polls: 0,
-            byte: 0,
-        },
+        counts: Counts::default(),
     }
 }
 
@@ -271,6 +254,7 @@ pub fn begin(request: Request) -> Begun
 }
 
 // The polls allowed for a page: none for a read.
+#[tactic(auto, unfolding(crate::specs::Request::allowed_of))]
 pub fn allowed(request: Request) -> usize
     ensures { result ≡ allowed_of request }
 {
@@ -287,31 +271,13 @@ fn name(place: Place) -> u8
 }
 
 // The select code with write, for bytes from `x` on.
+#[tactic(auto, unfolding(crate::specs::Step::select_at))]
 fn select(name: u8, wide: bool, enable: u8, x: usize) -> u8
     requires { (name ≤ 176) × (enable ≤ 7) }
     ensures { result ≡ select_at name wide enable x }
 {
-    if wide {
-        return name + 2 * enable;
-    }
-    name + 2 * ((x / 256 % 8) as u8)
-}
-
-fn bytes_of(d: Driver, value: u8) -> Wire
-    requires { GoodRequest d.request × (d.counts.seen ≤ d.request.length) }
-    ensures { result ≡ wire_of d value }
-{
-    let request = d.request;
-    let place = request.place;
-    let x = from(place) + d.counts.seen;
-    let f = parts::facts_of(request.part);
-    let s = select(name(place), f.wide, request.enable, x);
-    Wire {
-        select: s,
-        high: (x / 256 % 256) as u8,
-        low: (x % 256) as u8,
-        value,
-    }
+    let bits = if wide { enable } else { (x / 256 % 8) as u8 };
+    name + 2 * bits
 }
 
 fn byte(w: Wire, slot: Slot) -> u8
@@ -319,23 +285,20 @@ fn byte(w: Wire, slot: Slot) -> u8
     ensures { result ≡ slot_byte_of w slot }
 {
     match slot {
-        Slot::Select => w.select,
+        Slot::Select | Slot::Poll => w.select,
         Slot::High => w.high,
         Slot::Low => w.low,
         Slot::Data => w.value,
-        Slot::Poll => w.select,
         Slot::Turn => w.select + 1,
         Slot::Take => 255,
     }
 }
 
+#[tactic(auto, unfolding(crate::specs::Step::bit_of))]
 fn bit(byte: u8, i: u8) -> u8
     ensures { result ≡ bit_of byte i }
 {
-    if i < 8 {
-        return (byte >> (7 - i)) % 2;
-    }
-    1
+    if i < 8 { (byte >> (7 - i)) % 2 } else { 1 }
 }
 
 // The level of a ninth clock: the last byte that is read is not acknowledged.
@@ -343,48 +306,29 @@ fn ninth(slot: Slot, last: bool) -> u8
     ensures { result ≡ ninth_of slot last }
 {
     match slot {
-        Slot::Select => 1,
-        Slot::High => 1,
-        Slot::Low => 1,
-        Slot::Data => 1,
-        Slot::Poll => 1,
-        Slot::Turn => 1,
-        Slot::Take => { if last { 1 } else { 0 } }
+        Slot::Take => u8::from(last),
+        _ => 1,
     }
 }
 
+#[tactic(auto, unfolding(crate::specs::Step::shift_of))]
 fn shift(byte: u8, level: u8) -> u8
     ensures { result ≡ shift_of byte level }
 {
-    if level == 0 {
-        return byte % 128 * 2;
-    }
-    byte % 128 * 2 + 1
+    byte % 128 * 2 + u8::from(level != 0)
 }
 
 fn with_byte(c: Counts, byte: u8) -> Counts
     ensures { result ≡ Rattle.driver.specs.Step.with_byte c byte }
 {
-    Counts {
-        at: c.at,
-        seen: c.seen,
-        tries: c.tries,
-        polls: c.polls,
-        byte,
-    }
+    Counts { byte, ..c }
 }
 
 fn with_next(c: Counts) -> Counts
     requires { c.at ≤ 65536 }
     ensures { result ≡ Rattle.driver.specs.Step.with_next c }
 {
-    Counts {
-        at: c.at + 1,
-        seen: c.seen,
-        tries: c.tries,
-        polls: c.polls,
-        byte: c.byte,
-    }
+    Counts { at: c.at + 1, ..c }
 }
 
 // The counts after a level told inside a byte.
@@ -392,13 +336,8 @@ fn taken(slot: Slot, c: Counts, level: u8) -> Counts
     ensures { result ≡ told_counts_of slot c level }
 {
     match slot {
-        Slot::Select => c,
-        Slot::High => c,
-        Slot::Low => c,
-        Slot::Data => c,
-        Slot::Poll => c,
-        Slot::Turn => c,
         Slot::Take => with_byte(c, shift(c.byte, level)),
+        _ => c,
     }
 }
 
@@ -408,64 +347,46 @@ fn sent(slot: Slot, c: Counts) -> Counts
     ensures { result ≡ sent_counts_of slot c }
 {
     match slot {
-        Slot::Select => c,
-        Slot::High => c,
-        Slot::Low => c,
-        Slot::Data => with_next(c),
-        Slot::Poll => c,
-        Slot::Turn => c,
-        Slot::Take => with_next(c),
+        Slot::Data | Slot::Take => with_next(c),
+        _ => c,
     }
 }
 
+// An event is sent.
+fn send(event: u8, phase: Phase, counts: Counts) -> Move
+    ensures { result ≡ Rattle.driver.specs.Step.send_then event phase counts }
+{
+    Move {
+        answer: Answer::Send(event),
+        phase,
+        counts,
+    }
+}
+
+#[tactic(auto, unfolding(crate::specs::Step::ready_of))]
 fn ready(c: Counts, length: usize) -> Move
     ensures { result ≡ ready_of c length }
 {
     if c.at == length {
-        return Move {
+        Move {
             answer: Answer::Done(c.polls, c.seen),
             phase: Phase::Ready,
             counts: c,
-        };
-    }
-    Move {
-        answer: Answer::Send(START),
-        phase: Phase::Bits(Slot::Select, 0),
-        counts: c,
+        }
+    } else {
+        send(START, Phase::Bits(Slot::Select, 0), c)
     }
 }
 
+#[tactic(auto, unfolding(crate::specs::Step::bits_at))]
 fn bits_at(slot: Slot, b: u8, clock: u8, ninth: u8, taken: Counts, sent: Counts) -> Move
     ensures { result ≡ bits_at slot b clock ninth taken sent }
 {
     if b < 8 {
-        return Move {
-            answer: Answer::Send(clock),
-            phase: Phase::Bits(slot, b + 1),
-            counts: taken,
-        };
+        send(clock, Phase::Bits(slot, b + 1), taken)
+    } else {
+        send(ninth, Phase::Heard(slot), sent)
     }
-    Move {
-        answer: Answer::Send(ninth),
-        phase: Phase::Heard(slot),
-        counts: sent,
-    }
-}
-
-fn bits(d: Driver, slot: Slot, b: u8, level: u8, value: u8) -> Move
-    requires { GoodRequest d.request × GoodCounts d d.request.length }
-    ensures { result ≡ bits_move_of d slot b level value }
-{
-    let c = d.counts;
-    let last = c.at + 1 == d.request.length;
-    bits_at(
-        slot,
-        b,
-        bit(byte(bytes_of(d, value), slot), b),
-        ninth(slot, last),
-        taken(slot, c, level),
-        sent(slot, c),
-    )
 }
 
 // The byte that comes after a byte, where no Start or Stop comes first.
@@ -475,11 +396,9 @@ fn follow(slot: Slot, wide: bool) -> Slot
     match slot {
         Slot::Select => { if wide { Slot::High } else { Slot::Low } }
         Slot::High => Slot::Low,
-        Slot::Low => Slot::Data,
-        Slot::Data => Slot::Data,
+        Slot::Low | Slot::Data => Slot::Data,
         Slot::Poll => Slot::Poll,
-        Slot::Turn => Slot::Take,
-        Slot::Take => Slot::Take,
+        Slot::Turn | Slot::Take => Slot::Take,
     }
 }
 
@@ -487,35 +406,14 @@ fn follow(slot: Slot, wide: bool) -> Slot
 fn opened(slot: Slot, clock: u8, c: Counts) -> Move
     ensures { result ≡ Rattle.driver.specs.Step.opens slot clock c }
 {
-    Move {
-        answer: Answer::Send(clock),
-        phase: Phase::Bits(slot, 1),
-        counts: Counts {
-            at: c.at,
-            seen: c.seen,
-            tries: c.tries,
-            polls: c.polls,
-            byte: 0,
-        },
-    }
-}
-
-// A Stop.
-fn stop(phase: Phase, c: Counts) -> Move
-    ensures { result ≡ Rattle.driver.specs.Step.send_then 3 phase c }
-{
-    Move {
-        answer: Answer::Send(STOP),
-        phase,
-        counts: c,
-    }
+    send(clock, Phase::Bits(slot, 1), with_byte(c, 0))
 }
 
 // Stop, and refused; `refusal` has the numbers.
 fn refused(why: Failed, c: Counts) -> Move
     ensures { result ≡ Rattle.driver.specs.Step.send_then 3 (Phase.Over why) c }
 {
-    stop(Phase::Over(why), c)
+    send(STOP, Phase::Over(why), c)
 }
 
 // Stop, and all bytes so far are done.
@@ -523,155 +421,99 @@ fn closed(c: Counts) -> Move
     ensures { result ≡ Rattle.driver.specs.Step.send_then 3 Phase.Ready (Rattle.driver.specs.Step.with_seen c) }
 {
     let seen = Counts {
-        at: c.at,
         seen: c.at,
         tries: 0,
-        polls: c.polls,
-        byte: c.byte,
+        ..c
     };
-    stop(Phase::Ready, seen)
+    send(STOP, Phase::Ready, seen)
 }
 
 // After a select, or the first of two address bytes.
+#[tactic(auto, unfolding(crate::specs::Step::lead_at))]
 fn after_head(c: Counts, why: Failed, next: Slot, clock: u8, level: u8) -> Move
     ensures { result ≡ lead_at c why next clock level }
 {
     if level == 0 {
-        return opened(next, clock, c);
+        opened(next, clock, c)
+    } else {
+        refused(why, c)
     }
-    refused(why, c)
 }
 
 // After the last address byte: a read starts again.
+#[tactic(auto, unfolding(crate::specs::Step::low_at))]
 fn after_low(c: Counts, reads: bool, clock: u8, level: u8) -> Move
     ensures { result ≡ low_at c reads clock level }
 {
-    if level == 0 {
-        if reads {
-            return Move {
-                answer: Answer::Send(START),
-                phase: Phase::Bits(Slot::Turn, 0),
-                counts: c,
-            };
-        }
-        return opened(Slot::Data, clock, c);
+    if level != 0 {
+        refused(Failed::AtLow, c)
+    } else if reads {
+        send(START, Phase::Bits(Slot::Turn, 0), c)
+    } else {
+        opened(Slot::Data, clock, c)
     }
-    refused(Failed::AtLow, c)
 }
 
 // After a data byte; `end` is where the part ends.
+#[tactic(auto, unfolding(crate::specs::Step::data_at))]
 fn after_data(c: Counts, end: usize, clock: u8, level: u8) -> Move
     ensures { result ≡ data_at c end clock level }
 {
-    if level == 0 {
-        if c.at == end {
-            return stop(Phase::Rest, c);
-        }
-        return opened(Slot::Data, clock, c);
+    if level != 0 {
+        refused(Failed::AtData, c)
+    } else if c.at == end {
+        send(STOP, Phase::Rest, c)
+    } else {
+        opened(Slot::Data, clock, c)
     }
-    refused(Failed::AtData, c)
 }
 
 // A poll starts, and is counted.
+#[tactic(auto, unfolding(crate::specs::Step::poll_move_of))]
 fn poll(c: Counts) -> Move
     requires { (c.tries ≤ 1000) × (c.polls ≤ 65536000) }
     ensures { result ≡ poll_move_of c }
 {
-    Move {
-        answer: Answer::Send(START),
-        phase: Phase::Bits(Slot::Poll, 0),
-        counts: Counts {
-            at: c.at,
-            seen: c.seen,
-            tries: c.tries + 1,
-            polls: c.polls + 1,
-            byte: c.byte,
-        },
-    }
+    let counted = Counts {
+        tries: c.tries + 1,
+        polls: c.polls + 1,
+        ..c
+    };
+    send(START, Phase::Bits(Slot::Poll, 0), counted)
 }
 
 // After a poll.
+#[tactic(auto, unfolding(crate::specs::Step::answered_of))]
 fn after_poll(c: Counts, allowed: usize, level: u8) -> Move
     requires { (c.tries ≤ 1000) × (c.polls ≤ 65536000) }
     ensures { result ≡ answered_of c allowed level }
 {
     if level == 0 {
-        return closed(c);
+        closed(c)
+    } else if c.tries < allowed {
+        poll(c)
+    } else {
+        refused(Failed::AtPolls, c)
     }
-    if c.tries < allowed {
-        return poll(c);
-    }
-    refused(Failed::AtPolls, c)
 }
 
 // After a byte that was read.
+#[tactic(auto, unfolding(crate::specs::Step::take_at))]
 fn after_take(c: Counts, all: usize, clock: u8) -> Move
     ensures { result ≡ take_at c all clock }
 {
     if c.at == all {
-        return closed(c);
+        closed(c)
+    } else {
+        opened(Slot::Take, clock, c)
     }
-    opened(Slot::Take, clock, c)
-}
-
-// Where the part under way ends.
-fn part_end(d: Driver) -> usize
-    requires { GoodRequest d.request × (d.counts.seen ≤ d.request.length) }
-    ensures { result ≡ end_of d }
-{
-    let request = d.request;
-    let place = request.place;
-    let f = parts::facts_of(request.part);
-    let seen = d.counts.seen;
-    seen + first(from(place) + seen, request.length - seen, f.page)
-}
-
-// The level of a byte's ninth clock is told; `clock` is the first clock of the byte that follows.
-fn heard_at(d: Driver, slot: Slot, level: u8, clock: u8) -> Move
-    requires { GoodRequest d.request × GoodCounts d d.request.length }
-    ensures { result ≡ heard_at d slot level clock }
-{
-    let c = d.counts;
-    let f = parts::facts_of(d.request.part);
-    match slot {
-        Slot::Select => after_head(c, Failed::AtSelect, follow(slot, f.wide), clock, level),
-        Slot::High => after_head(c, Failed::AtHigh, Slot::Low, clock, level),
-        Slot::Low => after_low(c, d.request.reads, clock, level),
-        Slot::Data => after_data(c, part_end(d), clock, level),
-        Slot::Poll => after_poll(c, allowed(d.request), level),
-        Slot::Turn => after_head(c, Failed::AtSelect, Slot::Take, clock, level),
-        Slot::Take => after_take(c, d.request.length, clock),
-    }
-}
-
-fn heard(d: Driver, slot: Slot, level: u8, value: u8) -> Move
-    requires { GoodRequest d.request × GoodCounts d d.request.length }
-    ensures { result ≡ heard_move_of d slot level value }
-{
-    let f = parts::facts_of(d.request.part);
-    let next = follow(slot, f.wide);
-    heard_at(d, slot, level, bit(byte(bytes_of(d, value), next), 0))
-}
-
-// The page of the part under way, or of the read: its first address div P.
-fn page_at(d: Driver) -> usize
-    requires { GoodRequest d.request × (d.counts.seen ≤ d.request.length) }
-    ensures { result ≡ page_at d.request d.counts.seen }
-{
-    let request = d.request;
-    let place = request.place;
-    let f = parts::facts_of(request.part);
-    (from(place) + d.counts.seen) / f.page
 }
 
 // The index in the request of the data byte sent last; it is counted when its ninth clock is sent.
 fn index_at(c: Counts) -> usize
     ensures { result ≡ index_at c }
 {
-    if c.at == 0 {
-        return 0;
-    }
-    c.at - 1
+    c.at.saturating_sub(1)
 }
 
 // The last address byte is the second of two, and the first where there is one.
@@ -679,69 +521,9 @@ fn last_address(wide: bool, page: usize) -> Refusal
     ensures { result ≡ last_address_of wide page }
 {
     if wide {
-        return Refusal::NoSecond(page);
-    }
-    Refusal::NoFirst(page)
-}
-
-// The refusal that a byte without its acknowledge ends in.
-fn refusal(d: Driver, why: Failed) -> Refusal
-    requires { GoodRequest d.request × (d.counts.seen ≤ d.request.length) }
-    ensures { result ≡ refusal_of d.request d.counts why }
-{
-    let f = parts::facts_of(d.request.part);
-    match why {
-        Failed::AtSelect => Refusal::NoSelect(page_at(d)),
-        Failed::AtHigh => Refusal::NoFirst(page_at(d)),
-        Failed::AtLow => last_address(f.wide, page_at(d)),
-        Failed::AtData => Refusal::NoData(index_at(d.counts)),
-        Failed::AtPolls => Refusal::PollsUsed,
-    }
-}
-
-fn over(d: Driver, why: Failed) -> Move
-    requires { GoodRequest d.request × (d.counts.seen ≤ d.request.length) }
-    ensures { result ≡ Rattle.driver.specs.Step.over_of d.request d.counts why }
-{
-    let c = d.counts;
-    Move {
-        answer: Answer::Refused(refusal(d, why), c.polls, c.seen),
-        phase: Phase::Over(why),
-        counts: c,
-    }
-}
-
-fn moved(d: Driver, level: u8, value: u8) -> Move
-    requires { GoodRequest d.request × GoodCounts d d.request.length }
-    ensures { result ≡ move_at d.phase d level value }
-{
-    let p = d.phase;
-    let c = d.counts;
-    match p {
-        Phase::Ready => ready(c, d.request.length),
-        Phase::Bits(slot, b) => bits(d, slot, b, level, value),
-        Phase::Heard(slot) => heard(d, slot, level, value),
-        Phase::Rest => poll(c),
-        Phase::Over(why) => over(d, why),
-    }
-}
-
-fn step(d: Driver, level: u8, value: u8) -> Asked
-    requires { GoodRequest d.request × GoodCounts d d.request.length }
-    ensures { result ≡ driver_step_of d level value }
-{
-    let m = moved(d, level, value);
-    let request = d.request;
-    let phase = m.phase;
-    let counts = m.counts;
-    let answer = m.answer;
-    Asked {
-        answer,
-        driver: Driver {
-            request,
-            phase,
-            counts,
-        },
+        Refusal::NoSecond(page)
+    } else {
+        Refusal::NoFirst(page)
     }
 }
 
@@ -749,11 +531,8 @@ fn clocks(p: Phase) -> u8
     ensures { result ≡ clocks_of p }
 {
     match p {
-        Phase::Ready => 0,
         Phase::Bits(_, b) => b,
-        Phase::Heard(_) => 0,
-        Phase::Rest => 0,
-        Phase::Over(_) => 0,
+        _ => 0,
     }
 }
 
@@ -761,13 +540,9 @@ fn slot_right(slot: Slot, reads: bool) -> bool
     ensures { result ≡ slot_right slot reads }
 {
     match slot {
-        Slot::Select => true,
-        Slot::High => true,
-        Slot::Low => true,
-        Slot::Data => !reads,
-        Slot::Poll => !reads,
-        Slot::Turn => reads,
-        Slot::Take => reads,
+        Slot::Select | Slot::High | Slot::Low => true,
+        Slot::Data | Slot::Poll => !reads,
+        Slot::Turn | Slot::Take => reads,
     }
 }
 
@@ -775,100 +550,222 @@ fn phase_right(p: Phase, reads: bool) -> bool
     ensures { result ≡ phase_right p reads }
 {
     match p {
-        Phase::Ready => true,
-        Phase::Bits(slot, _) => slot_right(slot, reads),
-        Phase::Heard(slot) => slot_right(slot, reads),
+        Phase::Ready | Phase::Over(_) => true,
+        Phase::Bits(slot, _) | Phase::Heard(slot) => slot_right(slot, reads),
         Phase::Rest => !reads,
-        Phase::Over(_) => true,
     }
 }
 
 // Document 01's list for the driver; `bits` is clocks sent of a byte, `most` the polls allowed in all.
+#[tactic(auto, unfolding(crate::specs::Step::counts_right))]
 fn counts_right(c: Counts, n: usize, length: usize, bits: u8, allowed: usize, most: usize) -> bool
     ensures { result ≡ counts_right c n length bits allowed most }
 {
-    if n != length {
-        return false;
-    }
-    if n < c.at {
-        return false;
-    }
-    if c.at < c.seen {
-        return false;
-    }
-    if 8 < bits {
-        return false;
-    }
-    if allowed < c.tries {
-        return false;
-    }
-    if most < c.polls {
-        return false;
-    }
-    true
+    n == length && c.at <= n && c.seen <= c.at && bits <= 8 && c.tries <= allowed && c.polls <= most
 }
 
 // The pages of a request, times the polls allowed for one.
+#[tactic(auto, using(crate::proofs::Facts::reach, crate::proofs::Facts::most_fits), unfolding(crate::specs::Request::k_of))]
 fn most(request: Request) -> usize
     requires { GoodRequest request }
     ensures { result ≡ k_of request * allowed_of request }
 {
-    let place = request.place;
     let f = parts::facts_of(request.part);
-    pages(from(place), request.length, f.page) * allowed(request)
+    pages(from(request.place), request.length, f.page) * allowed(request)
 }
 
 fn is_fine(v: Verdict) -> bool
     ensures { result ≡ is_fine v }
 {
     match v {
-        Verdict::Fine => true,
-        Verdict::Refused(_) => false,
+        Ok(()) => true,
+        Err(_) => false,
     }
 }
 
-// Whether the driver is in range, for a buffer of `n` bytes.
-fn in_range(d: Driver, n: usize) -> bool
-    ensures { result ≡ range_of d n }
-{
-    if !is_fine(judge(d.request)) {
-        return false;
-    }
-    let p = d.phase;
-    let c = d.counts;
-    if !phase_right(p, d.request.reads) {
-        return false;
-    }
-    counts_right(
-        c,
-        n,
-        d.request.length,
-        clocks(p),
-        allowed(d.request),
-        most(d.request),
-    )
+// A driver in range, with a buffer as long as its request asks: only of such a one a step is asked.
+#[derive(Clone, Copy)]
+struct Running {
+    driver: Driver,
+    ghost request: { GoodRequest driver.request },
+    ghost counts: { GoodCounts driver driver.request.length },
 }
 
-fn peek(buffer: &[u8], at: usize) -> u8
-    ensures { result ≡ get_or buffer.now at 0 }
-{
-    if at < buffer.len() {
-        return buffer[at];
+impl Running {
+    // `None` where the driver is out of range for a buffer of `n` bytes.
+    #[tactic(auto, unfolding(crate::specs::Step::range_of))]
+    fn of(driver: Driver, n: usize) -> Option<Running>
+        ensures { MatchOption result (range_of driver n ≡ false) (λ r. (r.driver ≡ driver) × (range_of driver n ≡ true)) }
+    {
+        let request = driver.request;
+        if is_fine(judge(request))
+            && phase_right(driver.phase, request.reads)
+            && counts_right(
+                driver.counts,
+                n,
+                request.length,
+                clocks(driver.phase),
+                allowed(request),
+                most(request),
+            )
+        {
+            Some(Running { driver })
+        } else {
+            None
+        }
     }
-    0
-}
 
-fn slot_whole(slot: Slot, b: u8) -> bool
-    ensures { result ≡ slot_whole slot b }
-{
-    match slot {
-        Slot::Select => false,
-        Slot::High => false,
-        Slot::Low => false,
-        Slot::Data => false,
-        Slot::Poll => false,
-        Slot::Turn => false,
-        Slot::Take => 8 <= b,
+    // The first address of the part under way, or of the read.
+    #[tactic(auto, using(crate::proofs::Facts::reach, crate::proofs::Facts::most_fits))]
+    fn here(self) -> usize
+        ensures value { result ≡ here_of self.driver }
+        ensures range { result ≤ 32768 }
+    {
+        from(self.driver.request.place) + self.driver.counts.seen
+    }
+
+    fn facts(self) -> Facts
+        ensures value { result ≡ facts_of self.driver.request.part }
+        ensures range { 0 < result.page }
+    {
+        parts::facts_of(self.driver.request.part)
+    }
+
+    #[tactic(auto, using(crate::proofs::Facts::select_most, crate::proofs::Facts::name_most, crate::proofs::Facts::enable_most), unfolding(crate::specs::Step::wire_of))]
+    fn bytes_of(self, value: u8) -> Wire
+        ensures value { result ≡ wire_of self.driver value }
+        ensures small { result.select < 255 }
+    {
+        let request = self.driver.request;
+        let x = self.here();
+        Wire {
+            select: select(name(request.place), self.facts().wide, request.enable, x),
+            high: (x / 256 % 256) as u8,
+            low: (x % 256) as u8,
+            value,
+        }
+    }
+
+    // Inside a byte: its next clock, or the ninth.
+    #[tactic(auto, using(crate::proofs::Facts::reach), unfolding(crate::specs::Step::bits_move_of))]
+    fn bits(self, slot: Slot, b: u8, level: u8, value: u8) -> Move
+        ensures { result ≡ bits_move_of self.driver slot b level value }
+    {
+        let c = self.driver.counts;
+        let last = c.at + 1 == self.driver.request.length;
+        bits_at(
+            slot,
+            b,
+            bit(byte(self.bytes_of(value), slot), b),
+            ninth(slot, last),
+            taken(slot, c, level),
+            sent(slot, c),
+        )
+    }
+
+    // Where the part under way ends.
+    #[tactic(auto, using(crate::proofs::Facts::reach, crate::proofs::Facts::first_most))]
+    fn part_end(self) -> usize
+        ensures { result ≡ end_of self.driver }
+    {
+        let seen = self.driver.counts.seen;
+        seen + first(
+            self.here(),
+            self.driver.request.length - seen,
+            self.facts().page,
+        )
+    }
+
+    // The level of a byte's ninth clock is told; `clock` is the first clock of the byte that follows.
+    #[tactic(auto, using(crate::proofs::Facts::reach, crate::proofs::Facts::most_fits))]
+    fn heard_at(self, slot: Slot, level: u8, clock: u8) -> Move
+        ensures { result ≡ heard_at self.driver slot level clock }
+    {
+        let request = self.driver.request;
+        let c = self.driver.counts;
+        match slot {
+            Slot::Select => after_head(
+                c,
+                Failed::AtSelect,
+                follow(slot, self.facts().wide),
+                clock,
+                level,
+            ),
+            Slot::High => after_head(c, Failed::AtHigh, Slot::Low, clock, level),
+            Slot::Low => after_low(c, request.reads, clock, level),
+            Slot::Data => after_data(c, self.part_end(), clock, level),
+            Slot::Poll => after_poll(c, allowed(request), level),
+            Slot::Turn => after_head(c, Failed::AtSelect, Slot::Take, clock, level),
+            Slot::Take => after_take(c, request.length, clock),
+        }
+    }
+
+    #[tactic(auto, unfolding(crate::specs::Step::heard_move_of))]
+    fn heard(self, slot: Slot, level: u8, value: u8) -> Move
+        ensures { result ≡ heard_move_of self.driver slot level value }
+    {
+        let next = follow(slot, self.facts().wide);
+        self.heard_at(slot, level, bit(byte(self.bytes_of(value), next), 0))
+    }
+
+    // The page of the part under way, or of the read: its first address div P.
+    fn page_at(self) -> usize
+        ensures { result ≡ page_at self.driver.request self.driver.counts.seen }
+    {
+        self.here() / self.facts().page
+    }
+
+    // The refusal that a byte without its acknowledge ends in.
+    fn refusal(self, why: Failed) -> Refusal
+        ensures { result ≡ refusal_of self.driver.request self.driver.counts why }
+    {
+        match why {
+            Failed::AtSelect => Refusal::NoSelect(self.page_at()),
+            Failed::AtHigh => Refusal::NoFirst(self.page_at()),
+            Failed::AtLow => last_address(self.facts().wide, self.page_at()),
+            Failed::AtData => Refusal::NoData(index_at(self.driver.counts)),
+            Failed::AtPolls => Refusal::PollsUsed,
+        }
+    }
+
+    fn over(self, why: Failed) -> Move
+        ensures { result ≡ Rattle.driver.specs.Step.over_of self.driver.request self.driver.counts why }
+    {
+        let c = self.driver.counts;
+        Move {
+            answer: Answer::Refused(self.refusal(why), c.polls, c.seen),
+            phase: Phase::Over(why),
+            counts: c,
+        }
+    }
+
+    #[tactic(auto, using(crate::proofs::Facts::reach, crate::proofs::Facts::most_fits))]
+    fn moved(self, level: u8, value: u8) -> Move
+        ensures { result ≡ move_at self.driver.phase self.driver level value }
+    {
+        let c = self.driver.counts;
+        match self.driver.phase {
+            Phase::Ready => ready(c, self.driver.request.length),
+            Phase::Bits(slot, b) => self.bits(slot, b, level, value),
+            Phase::Heard(slot) => self.heard(slot, level, value),
+            Phase::Rest => poll(c),
+            Phase::Over(why) => self.over(why),
+        }
+    }
+
+    #[tactic(auto, unfolding(crate::specs::Step::driver_step_of))]
+    fn step(self, level: u8, value: u8) -> Asked
+        ensures { result ≡ driver_step_of self.driver level value }
+    {
+        let m = self.moved(level, value);
+        Asked {
+            answer: m.answer,
+            driver: Driver {
+                phase: m.phase,
+                counts: m.counts,
+                ..self.driver
+            },
+        }
     }
 }
 
@@ -876,25 +773,17 @@ fn slot_whole(slot: Slot, b: u8) -> bool
 fn whole(p: Phase) -> bool
     ensures { result ≡ whole_of p }
 {
-    match p {
-        Phase::Ready => false,
-        Phase::Bits(slot, b) => slot_whole(slot, b),
-        Phase::Heard(_) => false,
-        Phase::Rest => false,
-        Phase::Over(_) => false,
-    }
+    matches!(p, Phase::Bits(Slot::Take, 8..))
 }
 
 // The one store: a byte that was read. Nothing can refuse the read any more.
+#[tactic(auto, unfolding(crate::specs::Step::byte_kept_of))]
 fn keep(d: Driver, level: u8, buffer: &mut [u8])
     ensures { buffer.new ≡ byte_kept_of d level buffer.old }
 {
-    let p = d.phase;
     let at = d.counts.at;
-    if whole(p) {
-        if at < buffer.len() {
-            buffer[at] = shift(d.counts.byte, level);
-        }
+    if whole(d.phase) && at < buffer.len() {
+        buffer[at] = shift(d.counts.byte, level);
     }
 }
 
@@ -909,14 +798,15 @@ fn unfit(driver: Driver) -> Asked
 }
 
 // The next event, or finished. The buffer holds the bytes to write, or takes the bytes read.
+#[tactic(auto, unfolding(crate::specs::Step::driver_next_of, crate::specs::Step::buffer_of))]
 pub fn next(driver: Driver, level: u8, buffer: &mut [u8]) -> Asked
     ensures value { result ≡ driver_next_of driver level buffer.old }
     ensures buffer_after { buffer.new ≡ buffer_of driver level buffer.old }
 {
-    if in_range(driver, buffer.len()) {
-        let asked = step(driver, level, peek(buffer, driver.counts.at));
-        keep(driver, level, buffer);
-        return asked;
-    }
-    unfit(driver)
+    let Some(running) = Running::of(driver, buffer.len()) else {
+        return unfit(driver);
+    };
+    let asked = running.step(level, parts::byte_at(buffer, driver.counts.at));
+    keep(driver, level, buffer);
+    asked
 }

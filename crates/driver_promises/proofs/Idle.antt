@@ -1,5 +1,6 @@
 -- Each driver that only seems to work breaks a promise, at a read of no byte or of one, or a write of one.
 -- Assumes nothing.
+use Rattle.std.specs.Prelude.{Err}
 use Prim.Native.Nat.{ℕ, ◌<◌}
 use mathlib.Core.Path.{◌≡◌, refl, ◌∙◌, ap, subst}
 use mathlib.Core.Bool.{true, false, false≢true}
@@ -7,7 +8,6 @@ use mathlib.Core.List.{List, [], ◌∷◌, ◌++◌}
 use lib.ListN.{length, get_or, replicate, set}
 use native.Mathlib.Omega.{arith}
 use Rattle.parts.specs.declared.Refusal.{Refusal}
-use Rattle.parts.specs.declared.Verdict.TheVariants.{Refused as Judged}
 use Rattle.parts.specs.Refusals.{sooner_of}
 use Rattle.parts.specs.Table.{facts_of, enable_right_of, address_bytes_of}
 use Rattle.driver.specs.declared.Place.TheVariants.{Array}
@@ -106,7 +106,7 @@ unfolding driver_next_of range_of judge_of sooner_of facts_of enable_right_of be
 nosy_breaks o = let s = o (reading 1) (90 ∷ []) one (0 ∷ []) (1 ∷ []) (λ e. absurd (false≢true e), tt) in omega (arith, ap length s.events)
 
 -- part 6 is 1; part 0 with enable 1 is 2
-refusing_begin_breaks : (f : Refusal) → RequestNumbers (λ r. Judged f) → ⊥
+refusing_begin_breaks : (f : Refusal) → RequestNumbers (λ r. Err f) → ⊥
 unfolding facts_of
 refusing_begin_breaks f p =
     let a = (p (record { part = 6; enable = 0; place = Array (record { 0 = 0 }); reads = true; length = 0; budget = 0 })).no_part (omega arith) in

@@ -1,5 +1,6 @@
 -- The numbers of a request are given in document 01's order.
 -- Assumes nothing.
+use Rattle.std.specs.Prelude.{Err}
 use Prim.Native.Nat.{ℕ, ◌+◌, ◌<◌, ◌≤◌}
 use mathlib.Core.Path.{◌≡◌, refl, sym, ap, ◌∙◌}
 use mathlib.Core.Bool.{Bool, true, false, not, cond}
@@ -9,8 +10,7 @@ use native.Mathlib.Omega.{arith}
 use borrow.Author.Tests.{lt-ltb, le-ltb, ltb-true, ltb-false}
 use Rattle.parts.specs.declared.Refusal.{Refusal}
 use Rattle.parts.specs.declared.Refusal.TheVariants.{NoPart, WrongEnable, Beyond, BadLimit}
-use Rattle.parts.specs.declared.Verdict.{Verdict}
-use Rattle.parts.specs.declared.Verdict.TheVariants.{Refused}
+use Rattle.parts.specs.Verdict.{Verdict}
 use Rattle.parts.specs.Table.{facts_of, enable_right_of}
 use Rattle.parts.specs.Refusals.{rank_of, verdict_number_of, claim_of, sooner_of}
 use Rattle.parts.proofs.Laws.{known, unknown}
@@ -37,7 +37,7 @@ module _ (r : Request) where
   behind x h =
       later_sooner (rank_of x) far limit (later_claim (rank_of x) off Beyond h) (later_claim (rank_of x) (limit_of r.reads r.budget) BadLimit (omega arith))
 
-  pub judged_1 : 5 < r.part → judge_of r ≡ Refused NoPart
+  pub judged_1 : 5 < r.part → judge_of r ≡ Err NoPart
   unfolding judge_of
   judged_1 h =
       ap (λ (b : Bool). sooner_of (claim_of (not b) NoPart) (sooner_of enable (sooner_of far limit))) (unknown r.part h)
@@ -48,7 +48,7 @@ module _ (r : Request) where
   unfolding judge_of sooner_of
   from_2 k = ap (λ (b : Bool). sooner_of (claim_of (not b) NoPart) (sooner_of enable (sooner_of far limit))) (known r.part k)
 
-  pub judged_2 : r.part ≤ 5 → (facts_of r.part).enables ≤ r.enable → judge_of r ≡ Refused WrongEnable
+  pub judged_2 : r.part ≤ 5 → (facts_of r.part).enables ≤ r.enable → judge_of r ≡ Err WrongEnable
   unfolding enable_right_of
   judged_2 k h =
       from_2 k
@@ -61,7 +61,7 @@ module _ (r : Request) where
       from_2 e.known
       ∙ ap (λ (b : Bool). sooner_of (claim_of (not b) WrongEnable) (sooner_of far limit)) (lt-ltb r.enable (facts_of r.part).enables e.enable)
 
-  pub judged_7 : Enabled r → off ≡ true → judge_of r ≡ Refused Beyond
+  pub judged_7 : Enabled r → off ≡ true → judge_of r ≡ Err Beyond
   judged_7 e h =
       from_7 e
       ∙ ap (λ (b : Bool). sooner_of (claim_of b Beyond) limit) h

@@ -1,8 +1,7 @@
 -- Drivers that only seem to work (document 01, 'Strength of the promises'): each breaks a promise, and which is said with it.
 -- Assumes nothing.
-use Rattle.std.specs.Prelude.{ℕ, ◌+◌, ◌-◌, ◌<◌, Bool, true, false, cond, ◌&&◌, List, map, set, eqb, ltb}
+use Rattle.std.specs.Prelude.{ℕ, ◌+◌, ◌-◌, ◌<◌, Bool, true, false, cond, ◌&&◌, List, map, set, eqb, ltb, Err}
 use Rattle.parts.specs.declared.Refusal.{Refusal}
-use Rattle.parts.specs.declared.Verdict.TheVariants.{Refused as Judged}
 use Rattle.driver.specs.declared.Slot.{Slot}
 use Rattle.driver.specs.declared.Slot.TheVariants.{Select, High, Low, Data, Poll, Turn, Take}
 use Rattle.driver.specs.declared.Phase.{Phase}
@@ -137,7 +136,7 @@ scribbling =
 
 pub record IdleDriversBreak : Type 0 where
   -- the refusal table: some requests are given 1, others 2
-  pub refusing_begin : (f : Refusal) → RequestNumbers (λ r. Judged f) → ⊥
+  pub refusing_begin : (f : Refusal) → RequestNumbers (λ r. Err f) → ⊥
   -- refused says which byte was told as missed
   pub refusing : (f : Refusal) → RefusedKept (refusing_driver f) → ⊥
   -- done is the written-out list of events

@@ -1,9 +1,8 @@
 -- Which number a request is given, by plain conditions, each with all earlier ones excluded (document 01, 'Refusal numbers': 1 2 7 8), and
 -- 0 where none applies. Said of any function that judges a request, so that another order breaks it.
 -- Assumes nothing.
-use Rattle.std.specs.Prelude.{ℕ, ◌+◌, ◌<◌, ◌≤◌, ◌≡◌, true, false, cond}
-use Rattle.parts.specs.declared.Verdict.{Verdict}
-use Rattle.parts.specs.declared.Verdict.TheVariants.{Refused}
+use Rattle.std.specs.Prelude.{ℕ, ◌+◌, ◌<◌, ◌≤◌, ◌≡◌, true, false, cond, Err}
+use Rattle.parts.specs.Verdict.{Verdict}
 use Rattle.parts.specs.declared.Refusal.TheVariants.{BadLimit}
 use Rattle.parts.specs.Table.{facts_of}
 use Rattle.parts.specs.Refusals.{verdict_number_of}
@@ -47,7 +46,7 @@ OneNumber =
 -- ---- another order: the budget is asked about first, and then all is judged as it should be
 
 abbrev pub hasty : Request → Verdict
-hasty r = cond (limit_of r.reads r.budget) (Refused BadLimit) (judge_of r)
+hasty r = cond (limit_of r.reads r.budget) (Err BadLimit) (judge_of r)
 
 abbrev pub HastyBreaks : Type 0
 HastyBreaks = RequestNumbers hasty → ⊥

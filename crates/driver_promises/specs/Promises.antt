@@ -1,9 +1,8 @@
 -- The promises of the driver: each a type over any machine, for every request that is accepted and ANY list of line levels.
 -- Proved of `our_driver` in proofs/Promises.antt.
 -- Assumes nothing.
-use Rattle.std.specs.Prelude.{ℕ, ◌+◌, ◌-◌, ◌*◌, ◌/◌, ◌%◌, ◌<◌, ◌≤◌, ◌≡◌, Bool, true, false, List, [], length, get_or}
+use Rattle.std.specs.Prelude.{ℕ, ◌+◌, ◌-◌, ◌*◌, ◌/◌, ◌%◌, ◌<◌, ◌≤◌, ◌≡◌, Bool, true, false, List, [], length, get_or, Ok}
 use Rattle.parts.specs.declared.Refusal.{Refusal}
-use Rattle.parts.specs.declared.Verdict.TheVariants.{Fine}
 use Rattle.driver.specs.declared.Place.{Place}
 use Rattle.driver.specs.declared.Place.TheVariants.{Array, Ident}
 use Rattle.driver.specs.declared.Request.{Request}
@@ -29,7 +28,7 @@ Splits = (P a n : ℕ) → 0 < P → SplitRight P a n
 
 -- `begin` does not refuse, and the buffer is as long as asked
 pub record Accepted (r : Request) (xs : List ℕ) : Type 0 where
-  pub fine : judge_of r ≡ Fine
+  pub fine : judge_of r ≡ Ok tt
   pub size : length xs ≡ r.length
 
 -- one asking after a run of a machine

@@ -1,10 +1,9 @@
 -- Document 02, §1, said of the events and the number alone: "9 is the select only; 14 first address byte, 15 second", each with "the page of the
 -- transfer's address", and refusal 10 with "the data byte's index in the request". For any levels. And "a faulty line does" give 14 and 15.
 -- Assumes nothing.
-use Rattle.std.specs.Prelude.{ℕ, ◌+◌, ◌-◌, ◌*◌, ◌<◌, ◌≡◌, Bool, true, false, cond, not, ◌⊎◌, List, [], ◌∷◌, ◌++◌, length, take, replicate, eqb}
+use Rattle.std.specs.Prelude.{ℕ, ◌+◌, ◌-◌, ◌*◌, ◌<◌, ◌≡◌, Bool, true, false, cond, not, ◌⊎◌, List, [], ◌∷◌, ◌++◌, length, take, replicate, eqb, None, Some}
 use Rattle.parts.specs.declared.Refusal.{Refusal}
 use Rattle.parts.specs.declared.Refusal.TheVariants.{NoSelect, NoFirst, NoSecond}
-use Rattle.parts.specs.declared.Spot.TheVariants.{Nowhere, At}
 use Rattle.parts.specs.Table.{facts_of}
 use Rattle.parts.specs.Refusals.{number_of, spot_of}
 use Rattle.driver.specs.declared.Request.{Request}
@@ -37,15 +36,15 @@ in_polls odd (e ∷ es) = in_polls (cond (eqb e 3) (not odd) odd) es
 -- refused with f after m bytes; es: the events before the Stop that is sent first
 pub record Names (r : Request) (m : ℕ) (es : List ℕ) (f : Refusal) : Type 0 where
   -- the byte behind a Start, of a part, or either of a read
-  pub select : number_of f ≡ 9 → (clocks_since es ≡ 9) × (spot_of f ≡ At (page_at r m))
-  pub first : number_of f ≡ 14 → (clocks_since es ≡ 18) × (spot_of f ≡ At (page_at r m))
+  pub select : number_of f ≡ 9 → (clocks_since es ≡ 9) × (spot_of f ≡ Some (page_at r m))
+  pub first : number_of f ≡ 14 → (clocks_since es ≡ 18) × (spot_of f ≡ Some (page_at r m))
   -- parts 0 and 1 have no second one
-  pub second : number_of f ≡ 15 → (clocks_since es ≡ 27) × (spot_of f ≡ At (page_at r m)) × ((facts_of r.part).wide ≡ true)
+  pub second : number_of f ≡ 15 → (clocks_since es ≡ 27) × (spot_of f ≡ Some (page_at r m)) × ((facts_of r.part).wide ≡ true)
   -- behind select and address, data byte i of the part, which begins with byte m of the request
-  pub byte : number_of f ≡ 10 → (i : ℕ) × (clocks_since es ≡ 9 * (1 + address_bytes r + i + 1)) × (spot_of f ≡ At (m + i))
+  pub byte : number_of f ≡ 10 → (i : ℕ) × (clocks_since es ≡ 9 * (1 + address_bytes r + i + 1)) × (spot_of f ≡ Some (m + i))
   -- the select of a poll; and no other number stands there
   pub polling : in_polls false es ≡ eqb (number_of f) 11
-  pub polls : number_of f ≡ 11 → (clocks_since es ≡ 9) × (spot_of f ≡ Nowhere)
+  pub polls : number_of f ≡ 11 → (clocks_since es ≡ 9) × (spot_of f ≡ None)
   -- and a driver that has begun is refused with these alone
   pub these : (number_of f ≡ 9) ⊎ ((number_of f ≡ 10) ⊎ ((number_of f ≡ 11) ⊎ ((number_of f ≡ 14) ⊎ (number_of f ≡ 15))))
 

@@ -1,7 +1,9 @@
 -- Cells filled into an array, and how many of them are named.
 -- Assumes nothing.
-use mathlib.Core.Path.{◌≡◌, refl, ◌∙◌}
-use mathlib.Core.Bool.{cond}
+use mathlib.Core.Path.{◌≡◌, refl, sym, ◌∙◌}
+use Rattle.std.specs.List.{count_by}
+use Rattle.std.proofs.lemmas.List.Recursion.{is_count_by}
+use mathlib.Core.Bool.{Bool, true, false, cond}
 use mathlib.Core.List.{List, [], ◌∷◌, ◌++◌, append-nil, append_assoc}
 use Prim.Native.Nat.{ℕ, suc, ◌+◌, ◌≤◌, ◌<◌}
 use native.Mathlib.Omega.{arith}
@@ -9,44 +11,35 @@ use native.Mathlib.Numerals.{add-one}
 use lib.ListN.{length, get_or, take, drop, set, length-set, drop_of_length-le}
 use lib.Dec.{ltb}
 use lib.Seq.{drop-cons, take-suc-set, take_all}
-use Rattle.parts.proofs.Laws.{branch}
 use Rattle.hexfile.specs.File.{blank_of, filled_of, named_of}
 
--- 1 for a cell that is named
-abbrev pub one_of : ℕ → ℕ
-one_of x = cond (ltb x 256) 1 0
+one_more : (b : Bool) (n : ℕ) → cond b 1 0 + n ≡ cond b (1 + n) n
+one_more true n = refl
+one_more false n = omega arith
 
-one_most : (x : ℕ) → one_of x ≤ 1
-one_most x = branch (λ (n : ℕ). n ≤ 1) (ltb x 256) (λ _. omega arith) (λ _. omega arith)
+-- how many cells are named
+pub named_count : (cells : List ℕ) → count_by (λ x. ltb x 256) cells ≡ named_of cells
+named_count cells = sym (is_count_by named_of (λ x. ltb x 256) refl (λ x rest. one_more (ltb x 256) (named_of rest)) cells)
 
 -- what is filled, and the cells that are left
-pub record Filling (cells array : List ℕ) (named i : ℕ) : Type 0 where
-  pub within : i ≤ length cells
+pub record Filling (cells array : List ℕ) (i : ℕ) : Type 0 where
   pub long : length array ≡ length cells
   pub filled : take i array ++ filled_of (drop i cells) ≡ filled_of cells
-  pub count : named + named_of (drop i cells) ≡ named_of cells
-  pub most : named ≤ i
 
-pub filling : (cells array : List ℕ) → length array ≡ length cells → Filling cells array 0 0
-filling cells array e = record { within = omega arith; long = e; filled = refl; count = omega arith; most = omega arith }
-
-pub filling_more : (cells array after : List ℕ) (named more i : ℕ) → Filling cells array named i → i < length array → after ≡ set array i (blank_of (get_or cells i 0)) → more ≡ named + one_of (get_or cells i 0) → Filling cells after more (i + 1)
-filling_more cells array after named more i F lt e f =
+pub filling_more : (cells array : List ℕ) (i : ℕ) → Filling cells array i → i < length array → Filling cells (set array i (blank_of (get_or cells i 0))) (i + 1)
+filling_more cells array i F lt =
     let inside : i < length cells = omega (arith, F.long) in
     let x = get_or cells i 0 in
     let t = drop-cons cells i 0 inside in
     record {
-      within = omega arith;
-      long = rw e (simp length-set F.long);
+      long = simp length-set F.long;
       filled =
-          rw (e, add-one i, take-suc-set array i (blank_of x) lt)
+          rw (add-one i, take-suc-set array i (blank_of x) lt)
           (append_assoc (take i array) (blank_of x ∷ []) (filled_of (drop (suc i) cells)) ∙ rw t at F.filled);
-      count = rw (f, add-one i) (omega (arith, rw t at F.count));
-      most = omega (arith, one_most x, F.most);
     }
 
-pub filled : (cells array : List ℕ) (named i : ℕ) → Filling cells array named i → length array ≤ i → (named ≡ named_of cells) × (array ≡ filled_of cells)
-filled cells array named i F h =
+pub filled : (cells array : List ℕ) (i : ℕ) → Filling cells array i → length array ≤ i → array ≡ filled_of cells
+filled cells array i F h =
     let out : length cells ≤ i = omega (arith, F.long) in
     let w : drop i cells ≡ [] = drop_of_length-le cells out in
-    (omega (arith, rw w at F.count), rw (w, take_all i array h, append-nil) at F.filled)
+    rw (w, take_all i array h, append-nil) at F.filled

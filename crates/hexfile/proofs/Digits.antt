@@ -58,7 +58,7 @@ module _ (b : ℕ) where
 
 module _ (a b : ℕ) (d e : Bool) (hd : d ≡ ltb (value_of a) 16) (he : e ≡ ltb (value_of b) 16) where
   pub pair_right : (x y : ℕ) → (d && e) ≡ true → (value_of a < 16 → x ≡ value_of a) → (value_of b < 16 → y ≡ value_of b)
-      → (16 * x + y ≡ pair_of a b) × (16 * x + y ≤ 256)
+      → (16 * x + y ≡ pair_of a b) × (16 * x + y < 256)
   unfolding pair_of pair_at
   pair_right x y h fx fy =
       let (p, q) = and_both d e h in

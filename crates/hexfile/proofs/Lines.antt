@@ -1,16 +1,20 @@
 -- The lines of a text: what stands before its first LF, or all of it, and the lines behind.
 -- Assumes nothing.
 use mathlib.Core.Path.{◌≡◌, refl, sym, ap, ◌∙◌}
-use mathlib.Core.Bool.{Bool, cond}
+use mathlib.Core.Bool.{Bool, true, false, cond, not}
 use mathlib.Core.List.{List, [], ◌∷◌}
 use Prim.Native.Nat.{ℕ, zero, suc, ◌+◌, ◌-◌, ◌≤◌, ◌<◌}
 use native.Mathlib.Omega.{arith}
 use lib.ListN.{length, get_or, take, drop, length-drop, drop_of_length-le}
 use lib.Dec.{eqb, ltb}
-use lib.Seq.{get_or-drop, drop-drop}
-use borrow.Author.Tests.{eq-eqb, ne_eqb, ltb-true, ltb-false, eqb-true, eqb-false}
+use lib.Seq.{get_or-drop, drop-drop, take_all}
+use borrow.Author.Tests.{lt-ltb, eq-eqb, ne_eqb, ltb-true, ltb-false, eqb-true, eqb-false}
 use Rattle.parts.proofs.Laws.{branch}
 use Rattle.parts.proofs.Tests.{either}
+use Rattle.std.specs.List.{position, position_or_len}
+use Rattle.std.specs.Prelude.{◌==◌, Option, Some, None}
+use Rattle.std.proofs.lemmas.Option.{none-some}
+use Rattle.std.proofs.lemmas.List.Quantifiers.{position-Some}
 use Rattle.hexfile.specs.File.{lines_of}
 use Rattle.hexfile.specs.Steps.{LineEnd, bare_of, next_of}
 
@@ -56,10 +60,47 @@ line_cr (x ∷ y ∷ s) (suc j) h none c e =
 
 -- ---- the line that begins at a place of a text
 
--- one byte more that is no LF
-pub none_more : (t : List ℕ) (at e : ℕ) → ((k : ℕ) → at ≤ k → k < e → get_or t k 0 ≡ 10 → ⊥) → (get_or t e 0 ≡ 10 → ⊥) → (k : ℕ) → at ≤ k → k < e + 1 → get_or t k 0 ≡ 10 → ⊥
-none_more t at e h g k a b x =
-    either (eqb k e) (λ q. g (rw (eqb-true k e q) at x)) (λ q. h k a (omega (arith, eqb-false k e q)) x)
+shorter : (n m : ℕ) → cond (ltb (1 + n) (suc m)) (Some (1 + n)) None ≡ None → cond (ltb n m) (Some n) None ≡ None
+shorter n m e =
+    either (ltb n m) (λ y. absurd (none-some {A = ℕ} (1 + n) (sym (rw (lt-ltb (1 + n) (suc m) (let z = ltb-true n m y in omega arith)) at e)))) (λ y. rw y refl)
+
+no_first : (b : Bool) (n m : ℕ) → cond (ltb (cond (not b) (1 + n) 0) (suc m)) (Some (cond (not b) (1 + n) 0)) None ≡ None → (b ≡ false) × (cond (ltb n m) (Some n) None ≡ None)
+no_first true n m e = absurd (none-some {A = ℕ} 0 (sym (rw (lt-ltb 0 (suc m) (omega arith)) at e)))
+no_first false n m e = (refl, shorter n m e)
+
+-- of bytes without an LF
+no_feed : (xs : List ℕ) → position (λ b. b == 10) xs ≡ None → (k : ℕ) → get_or xs k 0 ≡ 10 → ⊥
+no_feed [] e zero h = absurd (omega arith)
+no_feed [] e (suc k) h = absurd (omega arith)
+no_feed (x ∷ xs) e zero h = eqb-false x 10 (no_first (eqb x 10) (position_or_len (λ b. b == 10) xs) (length xs) e).0 h
+no_feed (x ∷ xs) e (suc k) h = no_feed xs (no_first (eqb x 10) (position_or_len (λ b. b == 10) xs) (length xs) e).1 k h
+
+module _ (t : List ℕ) (at : ℕ) (h : at ≤ length t) where
+  behind_at : (k : ℕ) → at ≤ k → get_or (drop at t) (k - at) 0 ≡ get_or t k 0
+  behind_at k a = let g : at + (k - at) ≡ k = omega arith in get_or-drop at t (k - at) 0 ∙ rw g
+
+  rest : take (length t - at) (drop at t) ≡ drop at t
+  rest = take_all (length t - at) (drop at t) (simp length-drop (omega arith))
+
+  pub fed : (k : ℕ) → Some k ≡ position (λ b. b == 10) (take (length t - at) (drop at t)) → LineEnd t at (at + k)
+  fed k e =
+      let f = position-Some (λ b. b == 10) (drop at t) k 0 (sym (rw rest at e)) in
+      let w : k < length t - at = rw length-drop at f.0 in
+      record {
+        from = omega arith;
+        within = omega arith;
+        none = λ n a b y. let m : n - at < k = omega arith in eqb-false (get_or (drop at t) (n - at) 0) 10 (f.2 (n - at) m) (behind_at n a ∙ y);
+        found = λ _. sym (get_or-drop at t k 0) ∙ eqb-true (get_or (drop at t) k 0) 10 f.1;
+      }
+
+  pub unfed : None ≡ position (λ b. b == 10) (take (length t - at) (drop at t)) → LineEnd t at (length t)
+  unfed e =
+      record {
+        from = h;
+        within = omega arith;
+        none = λ n a b y. no_feed (drop at t) (sym (rw rest at e)) (n - at) (behind_at n a ∙ y);
+        found = λ z. absurd (omega arith);
+      }
 
 module _ (t : List ℕ) (at e : ℕ) (lt : at < length t) (E : LineEnd t at e) where
   before : Before (drop at t) (e - at)

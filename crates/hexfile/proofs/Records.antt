@@ -2,22 +2,23 @@
 -- Assumes nothing.
 use mathlib.Core.Path.{◌≡◌, refl, sym, ap, ◌∙◌}
 use mathlib.Core.Bool.{Bool, true, false, cond, ◌&&◌}
+use Rattle.std.specs.Prelude.{Ok, Err, OnOk}
 use mathlib.Core.List.{List, [], ◌∷◌, ◌++◌}
 use Prim.Native.Nat.{ℕ, ◌+◌, ◌*◌, ◌%◌, ◌≤◌, ◌<◌}
 use native.Mathlib.Omega.{arith}
 use lib.ListN.{length, get_or, take, drop, length-append, length-drop}
 use lib.Dec.{eqb, leb, ltb}
 use lib.Seq.{take_at, get_or-drop, length-take-le}
-use borrow.Author.Tests.{le-leb, eq-eqb, ne_eqb, ltb-true, leb-true, eqb-true}
+use borrow.Author.Tests.{le-leb, lt-ltb, le-ltb, eq-eqb, ne_eqb, ltb-true, leb-true, eqb-true}
 use Rattle.parts.specs.Bytes.{same_of}
 use Rattle.parts.proofs.Bytes.{same_eq}
-use Rattle.parts.proofs.Tests.{both}
-use Rattle.hexfile.specs.declared.reading.Found.{Found}
-use Rattle.hexfile.specs.declared.reading.Found.TheVariants.{Malformed, WrongSum, Lapping, Taken}
+use Rattle.parts.proofs.Tests.{both, and_both}
+use Rattle.hexfile.specs.declared.reading.Kind.TheVariants.{Data}
+use Rattle.hexfile.specs.declared.reading.Fault.TheVariants.{Malformed, WrongSum, Lapping}
 use Rattle.hexfile.specs.declared.reading.Head.{Head}
 use Rattle.hexfile.specs.Record.{malformed, bytes, last, pair_of, values_of, sum_of, bytes_of, formed_of, end_bytes, typed_of, record_in, record_of_lem}
 use Rattle.hexfile.specs.File.{fits_of, entered_of}
-use Rattle.hexfile.specs.Steps.{found_of, taken_of, Left, all_four, head_of, head_in, data_found_of, ends_of}
+use Rattle.hexfile.specs.Steps.{Found, found_of, taken_of, all_four, head_of, head_at, headed, data_found_of, ends_of}
 use Rattle.hexfile.proofs.Kit.{clash, cond_same, cond_self, not_so}
 use Rattle.hexfile.proofs.Values.{values_step, length-values, bytes_head, bytes_even, values_last, sum-append, bytes_more, bytes_spoilt}
 
@@ -87,7 +88,7 @@ module _ (p q r k x : ℕ) (d : List ℕ) (four : all_four p q r k ≡ true) (le
   bytes_whole = let f = fours_of p q r k four in rw (f.0, f.1, f.2, f.3)
 
   -- the last is no byte
-  pub bad_check : 255 < x → record_in (p ∷ q ∷ r ∷ k ∷ (d ++ (x ∷ []))) ≡ malformed
+  pub bad_check : 256 ≤ x → record_in (p ∷ q ∷ r ∷ k ∷ (d ++ (x ∷ []))) ≡ malformed
   bad_check h = no_record whole_at (unformed whole_at (λ a _ _. clash (sym a ∙ bytes_whole ∙ bytes_spoilt d x h)))
 
   formed_whole : x ≤ 255 → formed_of whole_at ≡ bytes_of d
@@ -112,14 +113,14 @@ module _ (p q r k x : ℕ) (d : List ℕ) (four : all_four p q r k ≡ true) (le
   ends_whole : ends_of (head_of p q r k) x ≡ true → whole_at ≡ end_bytes
   unfolding ends_of
   ends_whole e =
-      let a = both (eqb p 0) (cond (eqb (256 * q + r) 0) (cond (eqb k 1) (eqb x 255) false) false) e in
-      let b = both (eqb (256 * q + r) 0) (cond (eqb k 1) (eqb x 255) false) a.1 in
-      let c = both (eqb k 1) (eqb x 255) b.1 in
-      let hp = eqb-true p 0 a.0 in
-      let hs = eqb-true (256 * q + r) 0 b.0 in
+      let a = and_both ((eqb p 0 && eqb (256 * q + r) 0) && eqb k 1) (eqb x 255) e in
+      let b = and_both (eqb p 0 && eqb (256 * q + r) 0) (eqb k 1) a.0 in
+      let c = and_both (eqb p 0) (eqb (256 * q + r) 0) b.0 in
+      let hp = eqb-true p 0 c.0 in
+      let hs = eqb-true (256 * q + r) 0 c.1 in
       let hq : q ≡ 0 = omega arith in
       let hr : r ≡ 0 = omega arith in
-      rw (nothing d (len ∙ hp), hp, hq, hr, eqb-true k 1 c.0, eqb-true x 255 c.1)
+      rw (nothing d (len ∙ hp), hp, hq, hr, eqb-true k 1 b.1, eqb-true x 255 a.1)
 
   whole_ends : whole_at ≡ end_bytes → ends_of (head_of p q r k) x ≡ true
   unfolding ends_of
@@ -142,18 +143,53 @@ module _ (p q r k x : ℕ) (d : List ℕ) (four : all_four p q r k ≡ true) (le
 -- ---- what a data record is to the cells
 
 module _ (cells : List ℕ) (a : ℕ) (d : List ℕ) (right : Bool) where
-  data_found : (b : Bool) → cond b (cond right (cond (fits_of cells a (length d)) Taken Lapping) WrongSum) Malformed ≡ found_of cells (cond b (bytes a d right) malformed)
+  data_found : (b : Bool) → cond b (cond right (cond (fits_of cells a (length d)) (Ok Data) (Err Lapping)) (Err WrongSum)) (Err Malformed) ≡ found_of cells (cond b (bytes a d right) malformed)
   data_found true = refl
   data_found false = refl
 
 module _ (cells after : List ℕ) (a : ℕ) (d : List ℕ) (right : Bool) where
-  data_left : (b : Bool) → Left (found_of cells (cond b (bytes a d right) malformed)) after (entered_of cells a d) → Left (found_of cells (cond b (bytes a d right) malformed)) after (taken_of cells (cond b (bytes a d right) malformed))
+  data_left : (b : Bool) → OnOk (found_of cells (cond b (bytes a d right) malformed)) (after ≡ entered_of cells a d) → OnOk (found_of cells (cond b (bytes a d right) malformed)) (after ≡ taken_of cells (cond b (bytes a d right) malformed))
   data_left true e = e
   data_left false e = tt
 
+-- ---- the first four bytes of a line
+
+module _ (l : List ℕ) where
+  abbrev one : ℕ
+  one = pair_of (get_or l 1 0) (get_or l 2 0)
+
+  abbrev two : ℕ
+  two = pair_of (get_or l 3 0) (get_or l 4 0)
+
+  abbrev three : ℕ
+  three = pair_of (get_or l 5 0) (get_or l 6 0)
+
+  abbrev fourth : ℕ
+  fourth = pair_of (get_or l 7 0) (get_or l 8 0)
+
+  pub no_count : 256 ≤ one → headed l ≡ false
+  unfolding headed all_four
+  no_count h = rw (le-ltb one 256 h) refl
+
+  pub no_high : 256 ≤ two → headed l ≡ false
+  unfolding headed all_four
+  no_high h = rw (le-ltb two 256 h) (cond_same (ltb one 256) false)
+
+  pub no_low : 256 ≤ three → headed l ≡ false
+  unfolding headed all_four
+  no_low h = rw (le-ltb three 256 h, cond_same (ltb two 256) false) (cond_same (ltb one 256) false)
+
+  pub no_kind : 256 ≤ fourth → headed l ≡ false
+  unfolding headed all_four
+  no_kind h = rw (le-ltb fourth 256 h, cond_same (ltb three 256) false, cond_same (ltb two 256) false) (cond_same (ltb one 256) false)
+
+  pub headed_by : one < 256 → two < 256 → three < 256 → fourth < 256 → headed l ≡ true
+  unfolding headed all_four
+  headed_by a b c d = rw (lt-ltb one 256 a, lt-ltb two 256 b, lt-ltb three 256 c, lt-ltb fourth 256 d) refl
+
 -- ---- a line
 
-pub too_short : (l : List ℕ) → length l < 11 → record_of_lem l ≡ malformed
+pub too_short : (l : List ℕ) → length l ≤ 10 → record_of_lem l ≡ malformed
 too_short [] h = refl
 too_short (c ∷ l) h =
     rw (no_record (values_of l) (unformed (values_of l) (λ a b _. omega (arith, length-values l, bytes_even l a)))) (cond_same (eqb c 58) malformed)
@@ -166,7 +202,19 @@ with_colon : (l : List ℕ) → 0 < length l → get_or l 0 0 ≡ 58 → record_
 with_colon [] h e = absurd (omega arith)
 with_colon (c ∷ l) h e = rw (eq-eqb c 58 e)
 
-module _ (l : List ℕ) (h : Head) (long : 11 ≤ length l) (colon : get_or l 0 0 ≡ 58) (head : h ≡ head_in l) where
+module _ (l : List ℕ) (long : 11 ≤ length l) (colon : get_or l 0 0 ≡ 58) where
+  row_of_four : record_of_lem l ≡ record_in (pair_of (get_or l 1 0) (get_or l 2 0) ∷ pair_of (get_or l 3 0) (get_or l 4 0) ∷ pair_of (get_or l 5 0) (get_or l 6 0) ∷ pair_of (get_or l 7 0) (get_or l 8 0) ∷ values_of (drop 9 l))
+  row_of_four =
+      with_colon l (omega arith) colon
+      ∙ ap record_in (rw (values_step l 1 (omega arith), values_step l 3 (omega arith), values_step l 5 (omega arith), values_step l 7 (omega arith)))
+
+  pub line_head : headed l ≡ false → record_of_lem l ≡ malformed
+  unfolding headed
+  line_head e =
+      row_of_four
+      ∙ bad_four (pair_of (get_or l 1 0) (get_or l 2 0)) (pair_of (get_or l 3 0) (get_or l 4 0)) (pair_of (get_or l 5 0) (get_or l 6 0)) (pair_of (get_or l 7 0) (get_or l 8 0)) (drop 9 l) e
+
+module _ (l : List ℕ) (h : Head) (long : 11 ≤ length l) (colon : get_or l 0 0 ≡ 58) (head : h ≡ head_at l) (good : headed l ≡ true) where
   abbrev high : ℕ
   high = pair_of (get_or l 3 0) (get_or l 4 0)
 
@@ -180,12 +228,11 @@ module _ (l : List ℕ) (h : Head) (long : 11 ≤ length l) (colon : get_or l 0 
   kind = sym (ap (λ (g : Head). g.kind) head)
 
   line_row : record_of_lem l ≡ record_in (h.count ∷ high ∷ low ∷ h.kind ∷ values_of (drop 9 l))
-  line_row =
-      with_colon l (omega arith) colon
-      ∙ ap record_in (rw (values_step l 1 (omega arith), values_step l 3 (omega arith), values_step l 5 (omega arith), values_step l 7 (omega arith), counted, kind))
+  line_row = row_of_four l long colon ∙ rw (counted, kind)
 
-  all_four_lem : all_four h.count high low h.kind ≡ h.good
-  all_four_lem = rw (← counted, ← kind) (sym (ap (λ (g : Head). g.good) head))
+  four_good : all_four h.count high low h.kind ≡ true
+  unfolding headed
+  four_good = rw (← counted, ← kind) good
 
   head_ends : (x : ℕ) → ends_of (head_of h.count high low h.kind) x ≡ ends_of h x
   head_ends x =
@@ -199,18 +246,10 @@ module _ (l : List ℕ) (h : Head) (long : 11 ≤ length l) (colon : get_or l 0 
   head_sum : h.count + high + low + h.kind ≡ h.sum
   head_sum = rw (← counted, ← kind) (sym (ap (λ (g : Head). g.sum) head))
 
-  pub head_range : h.good ≡ true → (h.count ≤ 255) × (h.place ≤ 65535)
-  head_range g =
-      let f = fours_of h.count high low h.kind (all_four_lem ∙ g) in
-      (omega (arith, ltb-true h.count 256 f.0), omega (arith, ltb-true high 256 f.1, ltb-true low 256 f.2, head_place))
-
-  pub line_head : h.good ≡ false → record_of_lem l ≡ malformed
-  line_head e = line_row ∙ bad_four h.count high low h.kind (drop 9 l) (all_four_lem ∙ e)
-
   pub line_long : (length l ≡ 2 * h.count + 9 + 2 → ⊥) → record_of_lem l ≡ malformed
   line_long e = line_row ∙ bad_length h.count high low h.kind (drop 9 l) (λ n. e (omega (arith, length-drop 9 l)))
 
-  module _ (check : ℕ) (good : h.good ≡ true) (whole : length l ≡ 2 * h.count + 9 + 2)
+  module _ (check : ℕ) (whole : length l ≡ 2 * h.count + 9 + 2)
       (last-two : check ≡ pair_of (get_or l (2 * h.count + 9) 0) (get_or l (2 * h.count + 9 + 1) 0)) where
     abbrev held : List ℕ
     held = values_of (take (2 * h.count) (drop 9 l))
@@ -229,10 +268,7 @@ module _ (l : List ℕ) (h : Head) (long : 11 ≤ length l) (colon : get_or l 0 
         line_row
         ∙ ap (λ (v : List ℕ). record_in (h.count ∷ high ∷ low ∷ h.kind ∷ v)) (values_last (drop 9 l) h.count (omega (arith, length-drop 9 l)) ∙ rw (get_or-drop 9 l (2 * h.count) 0, get_or-drop 9 l (2 * h.count + 1) 0, high_at, low_at, ← last-two))
 
-    four_good : all_four h.count high low h.kind ≡ true
-    four_good = all_four_lem ∙ good
-
-    pub line_check : 255 < check → record_of_lem l ≡ malformed
+    pub line_check : 256 ≤ check → record_of_lem l ≡ malformed
     line_check b = row_whole ∙ bad_check h.count high low h.kind check held four_good held_length b
 
     pub line_end : ends_of h check ≡ true → record_of_lem l ≡ last
@@ -256,19 +292,8 @@ module _ (l : List ℕ) (h : Head) (long : 11 ≤ length l) (colon : get_or l 0 
           ∙ data_found cells h.place held (eqb ((h.sum + check + sum_of held) % 256) 0) (bytes_of held)
           ∙ ap (found_of cells) (sym (line_data some zero-kind))
 
-      pub line_left : Left r after (entered_of cells h.place (values_of (take m (drop 9 l)))) → Left r after (taken_of cells (record_of_lem l))
+      pub line_left : OnOk r (after ≡ entered_of cells h.place (values_of (take m (drop 9 l)))) → OnOk r (after ≡ taken_of cells (record_of_lem l))
       line_left e =
           rw (line_found, line_data some zero-kind)
           (data_left cells after h.place held (eqb ((h.sum + check + sum_of held) % 256) 0) (bytes_of held)
           (rw (line_found, line_data some zero-kind, hm) at e))
-
--- ---- the tests of the end record
-
-module _ (h : Head) (x : ℕ) (count : h.count ≡ 0) (place : h.place ≡ 0) where
-  pub ends_not : (h.kind ≡ 1 → ⊥) → false ≡ ends_of h x
-  unfolding ends_of
-  ends_not k = rw (eq-eqb h.count 0 count, eq-eqb h.place 0 place, ne_eqb h.kind 1 k)
-
-  pub ends_by : h.kind ≡ 1 → eqb x 255 ≡ ends_of h x
-  unfolding ends_of
-  ends_by k = rw (eq-eqb h.count 0 count, eq-eqb h.place 0 place, eq-eqb h.kind 1 k)

@@ -11,31 +11,30 @@ use lib.Dec.{eqb, ltb}
 use borrow.Author.Tests.{ltb-true, ltb-false, eqb-true}
 use Rattle.parts.specs.declared.Refusal.{Refusal}
 use Rattle.parts.specs.declared.Refusal.TheVariants.{NoEnd}
-use Rattle.parts.specs.declared.Verdict.TheVariants.{Fine, Refused}
 use Rattle.parts.specs.Table.{facts_of, id_size_of, buffers_right_of}
 use Rattle.parts.proofs.Laws.{branch, sound}
 use Rattle.parts.proofs.Claims.{lent_fine}
 use Rattle.parts.proofs.Tests.{either, both}
 use Rattle.hexfile.specs.declared.HexRead.{HexRead}
 use Rattle.hexfile.specs.declared.reading.Line.{Line}
-use Rattle.hexfile.specs.declared.reading.Scan.{Scan}
+use Rattle.std.specs.Prelude.{Result, Ok, Err, OnOk}
 use Rattle.hexfile.specs.Record.{Record, malformed, bytes, last, record_of_lem}
 use Rattle.hexfile.specs.File.{Got, before_lf, join_of, lines_of, fits_of, turn_of, some_of, read_at, filled_of, named_of}
-use Rattle.hexfile.specs.Steps.{found_of, taken_of, Left, is_taken, Turned, scan_of, refused_scan, judged_of}
+use Rattle.hexfile.specs.Steps.{found_of, taken_of, is_taken, Turned, scan_of, judged_of}
 use Rattle.hexfile.specs.Calls.{array_verdict_of, refused_hex, got_of}
 use Rattle.hexfile.proofs.Kit.{clash}
 
 -- ---- one record
 
 module _ (on : List ℕ → Got) (more : Bool) (cells after : List ℕ) (k : ℕ) where
-  turn_taken : (r : Record) → is_taken (found_of cells r) ≡ true → Left (found_of cells r) after (taken_of cells r) → turn_of on more cells k r ≡ on after
+  turn_taken : (r : Record) → is_taken (found_of cells r) ≡ true → OnOk (found_of cells r) (after ≡ taken_of cells r) → turn_of on more cells k r ≡ on after
   turn_taken malformed h l = clash (sym h)
   turn_taken (bytes a d false) h l = clash (sym h)
   turn_taken (bytes a d true) h l =
       either (fits_of cells a (length d)) (λ f. rw f (ap on (sym (rw f at l)))) (λ f. clash (sym (rw f at h)))
   turn_taken last h l = clash (sym h)
 
-  turn_judged : (r : Record) → is_taken (found_of cells r) ≡ false → Left (found_of cells r) after (taken_of cells r) → scan_of (judged_of (found_of cells r) k more) after ≡ turn_of on more cells k r
+  turn_judged : (r : Record) → is_taken (found_of cells r) ≡ false → OnOk (found_of cells r) (after ≡ taken_of cells r) → scan_of (judged_of (found_of cells r) k more) after ≡ turn_of on more cells k r
   turn_judged malformed h l = rw (add-one k)
   turn_judged (bytes a d false) h l = rw (add-one k)
   turn_judged (bytes a d true) h l =
@@ -84,28 +83,25 @@ module _ (t before after : List ℕ) (at k : ℕ) (r : Line) (T : Turned t at be
       (turn_judged (λ now. read_at now (suc k) (lines_of (drop r.next t))) (some_of (lines_of (drop r.next t))) before after k (record_of_lem T.line) (rw T.found at h) (rw T.found at T.cells))
 
 -- behind the last line
-pub no_line : (t cells : List ℕ) (at k : ℕ) → length t ≤ at → scan_of (refused_scan (NoEnd (k + 1))) cells ≡ read_at cells k (lines_of (drop at t))
+pub no_line : (t cells : List ℕ) (at k : ℕ) → length t ≤ at → scan_of (Err (NoEnd (k + 1))) cells ≡ read_at cells k (lines_of (drop at t))
 no_line t cells at k h = rw (drop_of_length-le t h, add-one k)
 
 -- ---- the array
 
-module _ (s : Scan) (cells array : List ℕ) (g : Got) (e : scan_of s cells ≡ g) where
-  pub got_fine : (n : ℕ) (filled : List ℕ) → s.verdict ≡ Fine → n ≡ named_of cells → filled ≡ filled_of cells → ◌≡◌ {A = HexRead} (record { verdict = Fine; records = s.records; named = n }) (got_of g array).answer × (filled ≡ (got_of g array).array)
-  got_fine n filled v hn hf = (rw (← e, v, hn), rw (← e, v, hf))
+module _ (s : Result ℕ Refusal) (cells array : List ℕ) (g : Got) (e : scan_of s cells ≡ g) where
+  pub got_fine : (k n : ℕ) (filled : List ℕ) → s ≡ Ok k → n ≡ named_of cells → filled ≡ filled_of cells → ◌≡◌ {A = HexRead} (record { verdict = Ok tt; records = k; named = n }) (got_of g array).answer × (filled ≡ (got_of g array).array)
+  got_fine k n filled v hn hf = (rw (← e, v, hn), rw (← e, v, hf))
 
-  pub got_refused : (r : Refusal) → s.verdict ≡ Refused r → (refused_hex r ≡ (got_of g array).answer) × (array ≡ (got_of g array).array)
+  pub got_refused : (r : Refusal) → s ≡ Err r → (refused_hex r ≡ (got_of g array).answer) × (array ≡ (got_of g array).array)
   got_refused r v = (rw (← e, v), rw (← e, v))
 
 -- cells that no record has named
-fresh_first : (n m : ℕ) → n ≤ m → take {A = ℕ} n (replicate m 256) ≡ replicate n 256
-fresh_first zero m h = refl
-fresh_first (suc n) zero h = absurd (omega arith)
-fresh_first (suc n) (suc m) h = ap (λ (l : List ℕ). 256 ∷ l) (fresh_first n m (omega arith))
+pub fresh : (n m : ℕ) → n ≤ m → take {A = ℕ} n (replicate m 256) ≡ replicate n 256
+fresh zero m h = refl
+fresh (suc n) zero h = absurd (omega arith)
+fresh (suc n) (suc m) h = ap (λ (l : List ℕ). 256 ∷ l) (fresh n m (omega arith))
 
-pub fresh : (n m : ℕ) → n ≤ m → take {A = ℕ} (n - 0) (replicate m 256) ≡ replicate n 256
-fresh n m h = let e : n - 0 ≡ n = omega arith in rw e (fresh_first n m h)
-
-pub array_size : (part n : ℕ) → array_verdict_of (facts_of part) n ≡ Fine → (n ≡ (facts_of part).size) × (n ≤ 32768)
+pub array_size : (part n : ℕ) → array_verdict_of (facts_of part) n ≡ Ok tt → (n ≡ (facts_of part).size) × (n ≤ 32768)
 unfolding array_verdict_of buffers_right_of
 array_size part n h =
     let f = facts_of part in

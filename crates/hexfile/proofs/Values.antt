@@ -1,7 +1,7 @@
 -- The bytes of a row of digits, two by two, and a row of them entered into cells.
 -- Assumes nothing.
 use mathlib.Core.Path.{◌≡◌, refl, sym, ap, ◌∙◌}
-use mathlib.Core.Bool.{Bool, true, false, cond}
+use mathlib.Core.Bool.{Bool, true, false, cond, ◌&&◌}
 use mathlib.Core.List.{List, [], ◌∷◌, ◌++◌, append-nil, append_assoc}
 use Prim.Native.Nat.{ℕ, zero, suc, ◌+◌, ◌*◌, ◌/◌, ◌%◌, ◌≤◌, ◌<◌}
 use native.Mathlib.Omega.{arith}
@@ -9,12 +9,12 @@ use native.Mathlib.Numerals.{add-one}
 use lib.ListN.{length, get_or, take, drop, set, length-set, take-append-drop, drop_of_length-le}
 use lib.Dec.{ltb}
 use lib.Seq.{drop-cons, length-take-le, take-suc-set, drop-set-lt, take_all}
-use borrow.Author.Tests.{lt-ltb, le-ltb, ltb-true}
+use borrow.Author.Tests.{lt-ltb, le-ltb, ltb-true, ltb-false}
 use Rattle.parts.proofs.Laws.{branch}
-use Rattle.parts.proofs.Tests.{both}
+use Rattle.parts.proofs.Tests.{both, either}
 use Rattle.hexfile.specs.Record.{pair_of, values_of, sum_of, bytes_of}
 use Rattle.hexfile.specs.File.{free_of}
-use Rattle.hexfile.specs.Steps.{Entered}
+use Rattle.hexfile.specs.Steps.{RowEntered}
 use Rattle.hexfile.proofs.Kit.{clash, cond_self}
 
 -- ---- bytes of digits
@@ -116,25 +116,29 @@ module _ (d before cells : List ℕ) (free : Bool) (sum i v : ℕ) (E : Entering
         most = omega (arith, E.most);
       }
 
--- of a row that is no row of bytes nothing else is said
-pub entered_bad : (d before cells : List ℕ) (free : Bool) (sum i : ℕ) → Entering d before cells free sum i → length before ≤ 256 → false ≡ bytes_of (values_of d) → Entered d before cells (record { good = false; free = free; sum = sum })
-entered_bad d before cells free sum i E few bad =
-    record {
-      good = bad;
-      sum = λ q. clash (sym q);
-      free = λ q. clash (sym q);
-      cells = λ q. clash (sym q);
-      most = omega (arith, E.most, E.within, E.long);
-    }
+none_of : (free : Bool) → (free && false) ≡ false
+none_of true = refl
+none_of false = refl
 
-pub entered : (d before cells : List ℕ) (free : Bool) (sum i : ℕ) → Entering d before cells free sum i → length cells ≤ i → length d ≡ 2 * length before → i ≤ 256 → Entered d before cells (record { good = true; free = free; sum = sum })
+same_of_true : (free : Bool) → (free && true) ≡ free
+same_of_true true = refl
+same_of_true false = refl
+
+-- a cell is free where it is no byte
+pub free_more : (free : Bool) (x : ℕ) → (free && ltb 255 x) ≡ cond (ltb x 256) false free
+free_more free x =
+    either (ltb x 256)
+    (λ h. let t = ltb-true x 256 h in rw (h, le-ltb 255 x (omega arith)) (none_of free))
+    (λ h. let t = ltb-false x 256 h in rw (h, lt-ltb 255 x (omega arith)) (same_of_true free))
+
+pub entered : (d before cells : List ℕ) (free : Bool) (sum i : ℕ) → Entering d before cells free sum i → length cells ≤ i → length d ≡ 2 * length before → i ≤ 256 → RowEntered d before cells (record { free = free; sum = sum })
 entered d before cells free sum i E h len few =
     let all : length d ≤ 2 * i = omega (arith, E.within, E.long) in
     let w : drop (2 * i) d ≡ [] = drop_of_length-le d all in
     record {
-      good = rw w at E.good;
-      sum = λ _. omega (arith, rw w at E.total);
-      free = λ _. sym (cond_self free) ∙ rw (drop_of_length-le cells h) at E.clear;
-      cells = λ _. rw (w, take_all i cells h, append-nil) at E.row;
+      good = sym (rw w at E.good);
+      sum = omega (arith, rw w at E.total);
+      free = sym (cond_self free) ∙ rw (drop_of_length-le cells h) at E.clear;
+      cells = rw (w, take_all i cells h, append-nil) at E.row;
       most = omega (arith, E.most);
     }

@@ -1,6 +1,7 @@
 -- Laws that the proofs of the write side share: digits one after another, a part written behind what stands already, rows, and what a call that
 -- is not refused has.
 -- Assumes nothing.
+use Rattle.std.specs.Prelude.{Ok}
 use Prim.Native.Nat.{ℕ, zero, suc, ◌+◌, ◌-◌, ◌*◌, ◌/◌, ◌%◌, ◌≤◌, ◌<◌}
 use mathlib.Core.Path.{◌≡◌, refl, sym, ap, ◌∙◌}
 use mathlib.Core.List.{List, [], ◌∷◌, ◌++◌, append-nil, append_assoc}
@@ -13,7 +14,6 @@ use lib.Dec.{eqb, ltb}
 use borrow.Author.Tests.{eqb-true, ltb-false}
 use Rattle.parts.specs.declared.Facts.{Facts}
 use Rattle.parts.specs.declared.Refusal.TheVariants.{ShortBuffer}
-use Rattle.parts.specs.declared.Verdict.TheVariants.{Fine}
 use Rattle.parts.specs.Table.{facts_of, id_size_of, buffers_right_of}
 use Rattle.parts.specs.Refusals.{claim_of}
 use Rattle.parts.proofs.Laws.{sound}
@@ -163,11 +163,11 @@ text_written o o₀ m y e k =
 
 -- ---- what a call that is not refused has
 
-pub array_is : (f : Facts) (n : ℕ) → array_verdict_of f n ≡ Fine → n ≡ f.size
+pub array_is : (f : Facts) (n : ℕ) → array_verdict_of f n ≡ Ok tt → n ≡ f.size
 unfolding array_verdict_of buffers_right_of
 array_is f n h = eqb-true n f.size (both (eqb n f.size) (eqb (id_size_of f) (id_size_of f)) (lent_fine f n (id_size_of f) h).1).0
 
-pub write_fine : (part n room : ℕ) → write_verdict_of (facts_of part) n room ≡ Fine
+pub write_fine : (part n room : ℕ) → write_verdict_of (facts_of part) n room ≡ Ok tt
     → (n ≡ (facts_of part).size) × (n ≤ 65536) × (text_length_of n ≤ room)
 unfolding write_verdict_of
 write_fine part n room h =

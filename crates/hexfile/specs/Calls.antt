@@ -1,11 +1,10 @@
 -- What `read` and `write` answer and leave, for refused input too (document 02, §2, and document 01, 'Refusal numbers').
 -- Assumes nothing.
-use Rattle.std.specs.Prelude.{ℕ, List, ◌++◌, length, drop, ltb}
+use Rattle.std.specs.Prelude.{ℕ, List, ◌++◌, length, drop, ltb, Ok, Err}
 use Rattle.parts.specs.declared.Facts.{Facts}
 use Rattle.parts.specs.declared.Refusal.{Refusal}
 use Rattle.parts.specs.declared.Refusal.TheVariants.{ShortBuffer}
-use Rattle.parts.specs.declared.Verdict.{Verdict}
-use Rattle.parts.specs.declared.Verdict.TheVariants.{Fine, Refused}
+use Rattle.parts.specs.Verdict.{Verdict}
 use Rattle.parts.specs.Table.{facts_of, id_size_of}
 use Rattle.parts.specs.Refusals.{claim_of, sooner_of, lent_verdict_of}
 use Rattle.hexfile.specs.declared.HexRead.{HexRead}
@@ -24,18 +23,18 @@ pub record AfterRead : Type 0 where
   pub array : List ℕ
 
 abbrev pub refused_hex : Refusal → HexRead
-refused_hex r = record { verdict = Refused r; records = 0; named = 0 }
+refused_hex r = record { verdict = Err r; records = 0; named = 0 }
 
 abbrev pub refused_read : Refusal → List ℕ → AfterRead
 refused_read r array = record { answer = refused_hex r; array = array }
 
 abbrev pub got_of : Got → List ℕ → AfterRead
-got_of (gets cells k) array = record { answer = record { verdict = Fine; records = k; named = named_of cells }; array = filled_of cells }
+got_of (gets cells k) array = record { answer = record { verdict = Ok tt; records = k; named = named_of cells }; array = filled_of cells }
 got_of (no r) array = refused_read r array
 
 abbrev pub read_by : Verdict → Facts → List ℕ → List ℕ → AfterRead
-read_by Fine f text array = got_of (read_of f.size text) array
-read_by (Refused r) f text array = refused_read r array
+read_by (Ok _) f text array = got_of (read_of f.size text) array
+read_by (Err r) f text array = refused_read r array
 
 -- of the part, the text and the array
 abbrev pub reading_of : ℕ → List ℕ → List ℕ → AfterRead
@@ -52,9 +51,9 @@ write_verdict_of f n room = sooner_of (array_verdict_of f n) (claim_of (ltb room
 
 -- bytes past the text keep their values
 abbrev pub write_by : Verdict → Facts → List ℕ → List ℕ → AfterWrite
-write_by Fine f array out =
-    record { answer = record { verdict = Fine; length = text_length_of f.size }; out = text_of f.size array ++ drop (text_length_of f.size) out }
-write_by (Refused r) f array out = record { answer = record { verdict = Refused r; length = 0 }; out = out }
+write_by (Ok _) f array out =
+    record { answer = record { verdict = Ok tt; length = text_length_of f.size }; out = text_of f.size array ++ drop (text_length_of f.size) out }
+write_by (Err r) f array out = record { answer = record { verdict = Err r; length = 0 }; out = out }
 
 -- of the part, the array and the output buffer
 abbrev pub writing_of : ℕ → List ℕ → List ℕ → AfterWrite

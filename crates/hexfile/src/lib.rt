@@ -11,8 +11,8 @@ ghost use Rattle.hexfile.specs.Calls.{array_verdict_of, write_verdict_of, refuse
 ghost use Rattle.hexfile.specs.Written.{text_length_of};
 
 use parts::{Refusal, Verdict};
-use reading::Scan;
 
+// No Result: the clause `answer` of `read` says what a refused call hands back.
 #[derive(Clone, Copy)]
 pub struct HexRead {
     pub verdict: Verdict,
@@ -21,6 +21,7 @@ pub struct HexRead {
     pub named: usize,
 }
 
+// No Result: the clause `answer` of `write` says what a refused call hands back.
 #[derive(Clone, Copy)]
 pub struct HexWritten {
     pub verdict: Verdict,
@@ -33,8 +34,7 @@ fn array_verdict(part: u8, n: usize) -> Verdict
     ensures { result ≡ array_verdict_of (facts_of part) n }
 {
     let f = parts::facts_of(part);
-    let own = parts::id_size(f);
-    parts::lent_verdict(f, n, own)
+    parts::lent_verdict(f, n, parts::id_size(f))
 }
 
 // ---- reading
@@ -43,7 +43,7 @@ fn refused(r: Refusal) -> HexRead
     ensures { result ≡ refused_hex r }
 {
     HexRead {
-        verdict: Verdict::Refused(r),
+        verdict: Err(r),
         records: 0,
         named: 0,
     }
@@ -55,18 +55,16 @@ fn read_into(text: &[u8], cells: &mut [u16], array: &mut [u8]) -> HexRead
     ensures answer { result ≡ (got_of (read_at cells.old 0 (lines_of text.now)) array.old).answer }
     ensures bytes { array.new ≡ (got_of (read_at cells.old 0 (lines_of text.now)) array.old).array }
 {
-    let scan = reading::scan_text(text, cells);
-    let verdict = scan.verdict;
-    match verdict {
-        Verdict::Fine => {
-            let named = reading::fill(cells, array);
+    match reading::scan_text(text, cells) {
+        Ok(records) => {
+            reading::fill(cells, array);
             HexRead {
-                verdict: Verdict::Fine,
-                records: scan.records,
-                named,
+                verdict: Ok(()),
+                records,
+                named: reading::named(cells),
             }
         }
-        Verdict::Refused(r) => refused(r),
+        Err(r) => refused(r),
     }
 }
 
@@ -76,8 +74,8 @@ fn read_fitted(text: &[u8], array: &mut [u8]) -> HexRead
     ensures bytes { array.new ≡ (got_of (read_of (length array.old) text.now) array.old).array }
 {
     let n = array.len();
-    let mut cells = [256u16; 32768];
-    read_into(text, &mut cells[0..n], array)
+    let mut cells = [256; 32768];
+    read_into(text, &mut cells[..n], array)
 }
 
 // The array that a text names. A refused call changes nothing.
@@ -85,10 +83,9 @@ pub fn read(part: u8, text: &[u8], array: &mut [u8]) -> HexRead
     ensures answer { result ≡ (reading_of part text.now array.old).answer }
     ensures bytes { array.new ≡ (reading_of part text.now array.old).array }
 {
-    let verdict = array_verdict(part, array.len());
-    match verdict {
-        Verdict::Fine => read_fitted(text, array),
-        Verdict::Refused(r) => refused(r),
+    match array_verdict(part, array.len()) {
+        Ok(()) => read_fitted(text, array),
+        Err(r) => refused(r),
     }
 }
 
@@ -97,17 +94,14 @@ pub fn read(part: u8, text: &[u8], array: &mut [u8]) -> HexRead
 fn text_length(part: u8) -> usize
     ensures { result ≡ text_length_of (facts_of part).size }
 {
-    let f = parts::facts_of(part);
-    let size = f.size;
-    size / 16 * 44 + 12
+    parts::facts_of(part).size / 16 * 44 + 12
 }
 
 fn write_verdict(part: u8, n: usize, room: usize) -> Verdict
     ensures { result ≡ write_verdict_of (facts_of part) n room }
 {
-    let lent = array_verdict(part, n);
-    let need = text_length(part);
-    parts::sooner(lent, parts::claim(room < need, Refusal::ShortBuffer))
+    let short = parts::claim(room < text_length(part), Refusal::ShortBuffer);
+    parts::sooner(array_verdict(part, n), short)
 }
 
 // An array as text, records of 16 bytes. Bytes of `out` past it keep their values, and a refused call changes nothing.
@@ -115,17 +109,13 @@ pub fn write(part: u8, array: &[u8], out: &mut [u8]) -> HexWritten
     ensures answer { result ≡ (writing_of part array.now out.old).answer }
     ensures bytes { out.new ≡ (writing_of part array.now out.old).out }
 {
-    let verdict = write_verdict(part, array.len(), out.len());
-    match verdict {
-        Verdict::Fine => {
-            let length = writing::put_text(array, out);
-            HexWritten {
-                verdict: Verdict::Fine,
-                length,
-            }
-        }
-        Verdict::Refused(r) => HexWritten {
-            verdict: Verdict::Refused(r),
+    match write_verdict(part, array.len(), out.len()) {
+        Ok(()) => HexWritten {
+            verdict: Ok(()),
+            length: writing::put_text(array, out),
+        },
+        Err(r) => HexWritten {
+            verdict: Err(r),
             length: 0,
         },
     }

@@ -30,12 +30,9 @@ fn put_bytes(out: &mut [u8], bytes: &[u8], digits: &[u8; 16]) -> usize
     ensures digits { out.new ≡ digits_of bytes.now }
 {
     let mut sum: usize = 0;
-    let mut i = 0;
-    while i < bytes.len() {
-        let x = bytes[i];
-        put(out, 2 * i, x, digits);
-        sum += x as usize;
-        i += 1;
+    for (i, x) in bytes.iter().enumerate() {
+        put(out, 2 * i, *x, digits);
+        sum += *x as usize;
     }
     sum
 }
@@ -53,12 +50,12 @@ fn put_row(out: &mut [u8], at: usize, bytes: &[u8], digits: &[u8; 16])
     ensures { out.new ≡ row_of at bytes.now }
 {
     let first = [16, (at / 256) as u8, (at % 256) as u8, 0];
-    out[0] = 58;
+    out[0] = b':';
     let head = put_bytes(&mut out[1..9], &first, digits);
     let sum = put_bytes(&mut out[9..41], bytes, digits);
     let last = [check_byte(head + sum)];
     put_bytes(&mut out[41..43], &last, digits);
-    out[43] = 10;
+    out[43] = b'\n';
 }
 
 fn put_end(out: &mut [u8], digits: &[u8; 16])
@@ -66,9 +63,9 @@ fn put_end(out: &mut [u8], digits: &[u8; 16])
     ensures { out.new ≡ line_of end_bytes }
 {
     let bytes = [0, 0, 0, 1, 255];
-    out[0] = 58;
+    out[0] = b':';
     put_bytes(&mut out[1..11], &bytes, digits);
-    out[11] = 10;
+    out[11] = b'\n';
 }
 
 // So many rows of an array.
@@ -76,12 +73,10 @@ fn put_rows(rows: usize, array: &[u8], out: &mut [u8], digits: &[u8; 16])
     requires { (rows ≤ 4096) × (rows * 16 ≤ length array.now) × (rows * 44 ≤ length out.old) × (digits.now ≡ capitals) }
     ensures { out.new ≡ rows_of rows 0 array.now ++ drop (rows * 44) out.old }
 {
-    let mut i = 0;
-    while i < rows {
+    for i in 0..rows {
         let at = i * ROW;
         let to = i * LINE;
         put_row(&mut out[to..to + LINE], at, &array[at..at + ROW], digits);
-        i += 1;
     }
 }
 

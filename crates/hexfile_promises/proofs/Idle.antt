@@ -1,5 +1,6 @@
 -- The wrong readers and writers of specs/Idle.antt break the promise, whatever goes with them.
 -- Assumes nothing.
+use Rattle.std.specs.Prelude.{Ok, Err}
 use Prim.Native.Nat.{ℕ, zero, suc, ◌/◌, ◌<◌, ◌≤◌}
 use mathlib.Core.Path.{◌≡◌, refl, sym, ap, ◌∙◌}
 use mathlib.Core.Bool.{Bool}
@@ -9,8 +10,7 @@ use lib.ListN.{length, get_or, drop, replicate, length-replicate}
 use Rattle.parts.specs.Bytes.{AllBelow, same_of}
 use Rattle.parts.specs.declared.Refusal.{Refusal}
 use Rattle.parts.specs.declared.Refusal.TheVariants.{BadRecord, BadSum, Misplaced, NoEnd}
-use Rattle.parts.specs.declared.Verdict.{Verdict}
-use Rattle.parts.specs.declared.Verdict.TheVariants.{Fine, Refused}
+use Rattle.parts.specs.Verdict.{Verdict}
 use Rattle.parts.specs.Table.{facts_of}
 use Rattle.parts.proofs.Claims.{refused_not}
 use Rattle.text.specs.Digits.{hex_digit_of, value_of}
@@ -50,7 +50,7 @@ unfolding buffer text_length_of facts_of
 room = omega (arith, length-replicate {A = ℕ} 5644 0)
 
 module _ (read : Reading) (write : Writing) (kept : GivesBack read write) (v : ℕ) (h : v < 256) where
-  back : read 0 (text_in_lem (write 0 (all v) buffer)) (all 0) ≡ record { answer = record { verdict = Fine; records = size_of 0 / 16; named = size_of 0 }; array = all v }
+  back : read 0 (text_in_lem (write 0 (all v) buffer)) (all 0) ≡ record { answer = record { verdict = Ok tt; records = size_of 0 / 16; named = size_of 0 }; array = all v }
   back = (kept 0 (all v) (all 0) buffer (lent v) (all-below v h) (lent 0) room).1
 
 refuses_all_breaks : RefusesAllBreaks
@@ -86,8 +86,8 @@ same_at cells k (l ∷ ls) = same_turn cells k (some_of ls) (λ now. viewed_at o
 
 same_by : (v : Verdict) (part : ℕ) (text array : List ℕ) → viewed_by ours v (size_of part) text array ≡ read_by v (facts_of part) text array
 unfolding read_of
-same_by Fine part text array = ap (λ (g : Got). got_of g array) (same_at (replicate (size_of part) 256) 0 (lines_of text))
-same_by (Refused r) part text array = refl
+same_by (Ok _) part text array = ap (λ (g : Got). got_of g array) (same_at (replicate (size_of part) 256) 0 (lines_of text))
+same_by (Err r) part text array = refl
 
 like_ours : ViewedIsOurs
 like_ours part text array = same_by (array_verdict_of (facts_of part) (length array)) part text array
@@ -96,10 +96,10 @@ like_ours part text array = same_by (array_verdict_of (facts_of part) (length ar
 
 -- a text that ours does not read
 module _ (text : List ℕ) (r : Refusal) (ours-refuses : read_of (size_of 0) text ≡ no r) where
-  not_ours : (read : Reading) → AcceptsOnly read → (read 0 text (all 0)).answer.verdict ≡ Fine → ⊥
+  not_ours : (read : Reading) → AcceptsOnly read → (read 0 text (all 0)).answer.verdict ≡ Ok tt → ⊥
   not_ours read only fine =
       let x = only 0 text (all 0) fine in
-      let n : (reading_of 0 text (all 0)).answer.verdict ≡ Refused r = rw (is_lent 0 (all 0) (lent 0), ours-refuses) refl in
+      let n : (reading_of 0 text (all 0)).answer.verdict ≡ Err r = rw (is_lent 0 (all 0) (lent 0), ours-refuses) refl in
       refused_not (sym n ∙ ap (λ (a : HexRead). a.verdict) (accepts_all 0 text (all 0) x.records x.lent x.file x.placed))
 
 -- `:0000000001` and the end record
@@ -158,7 +158,7 @@ lower_file = record { line = lower; stop = []; begins = rest; end = lower_end; e
 wants_upper_lem : WantsUpperBreaks
 unfolding lower
 wants_upper_lem all_read =
-    let n : (wants_upper 0 lower (all 0)).answer.verdict ≡ Refused (BadRecord 1) = rw (is_lent 0 (all 0) (lent 0)) refl in
+    let n : (wants_upper 0 lower (all 0)).answer.verdict ≡ Err (BadRecord 1) = rw (is_lent 0 (all 0) (lent 0)) refl in
     refused_not (sym n ∙ ap (λ (a : HexRead). a.verdict) (all_read 0 lower (all 0) [] (lent 0) lower_file tt))
 
 -- ---- each

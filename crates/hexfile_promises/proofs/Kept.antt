@@ -1,5 +1,6 @@
 -- The promises of specs/Promises.antt are kept.
 -- Assumes nothing.
+use Rattle.std.specs.Prelude.{Ok, Err}
 use Prim.Native.Nat.{ℕ, ◌/◌, ◌≤◌}
 use mathlib.Core.Path.{◌≡◌, refl, sym, ap, ◌∙◌}
 use mathlib.Core.List.{List, ◌++◌}
@@ -9,8 +10,7 @@ use lib.ListN.{length, drop}
 use lib.Seq.{take_at}
 use Rattle.parts.specs.declared.Facts.{Facts}
 use Rattle.parts.specs.declared.Refusal.{Refusal}
-use Rattle.parts.specs.declared.Verdict.{Verdict}
-use Rattle.parts.specs.declared.Verdict.TheVariants.{Fine, Refused}
+use Rattle.parts.specs.Verdict.{Verdict}
 use Rattle.parts.specs.Bytes.{AllBelow}
 use Rattle.parts.specs.Table.{facts_of}
 use Rattle.parts.proofs.Claims.{refused_not}
@@ -39,15 +39,15 @@ module _ (part : ℕ) (text array : List ℕ) where
   lent_reading : Lent part array → reading_of part text array ≡ answered
   lent_reading l = rw (is_lent part array l) refl
 
-  fine_lent : (reading_of part text array).answer.verdict ≡ Fine → Lent part array
+  fine_lent : (reading_of part text array).answer.verdict ≡ Ok tt → Lent part array
   fine_lent = go (array_verdict_of (facts_of part) (length array)) refl
     where
-      go : (v : Verdict) → array_verdict_of (facts_of part) (length array) ≡ v → (read_by v (facts_of part) text array).answer.verdict ≡ Fine → Lent part array
-      go Fine e h = lent_is part array e
-      go (Refused r) e h = refused_not h
+      go : (v : Verdict) → array_verdict_of (facts_of part) (length array) ≡ v → (read_by v (facts_of part) text array).answer.verdict ≡ Ok tt → Lent part array
+      go (Ok _) e h = lent_is part array e
+      go (Err r) e h = refused_not h
 
   file_reading : (ps : List Piece) → Lent part array → IsFile text ps → Placed (size_of part) ps
-      → reading_of part text array ≡ record { answer = record { verdict = Fine; records = length ps; named = bytes_in ps }; array = filled_of (entered (clear (size_of part)) ps) }
+      → reading_of part text array ≡ record { answer = record { verdict = Ok tt; records = length ps; named = bytes_in ps }; array = filled_of (entered (clear (size_of part)) ps) }
   unfolding read_of
   file_reading ps l f h =
       let s : Fit (clear (size_of part)) ps = clear_fit (size_of part) ps h in
@@ -62,7 +62,7 @@ accepts_only part text array h =
     let l = fine_lent part text array h in
     go l (outcome (clear (size_of part)) text 0) (rw (lent_reading part text array l) at h)
   where
-    go : {g : Got} → Lent part array → Outcome (clear (size_of part)) 0 text g → (got_of g array).answer.verdict ≡ Fine → Read part text array
+    go : {g : Got} → Lent part array → Outcome (clear (size_of part)) 0 text g → (got_of g array).answer.verdict ≡ Ok tt → Read part text array
     go l (done {ps = ps} f s) e = record { lent = l; records = ps; file = f; placed = clear_placed (size_of part) ps (begins_bytes f.begins) s }
     go l (stopped b s x) e = refused_not e
 
@@ -96,7 +96,7 @@ module _ (size : ℕ) (ps : List Piece) (s : Fit (clear size) ps) (b : Each Byte
   of_fault (text_after f e n) = not_last f e n
 
 module _ (part : ℕ) (text array : List ℕ) (r : Refusal) where
-  stops : {g : Got} → Outcome (clear (size_of part)) 0 text g → (got_of g array).answer.verdict ≡ Refused r → Stops (size_of part) text r
+  stops : {g : Got} → Outcome (clear (size_of part)) 0 text g → (got_of g array).answer.verdict ≡ Err r → Stops (size_of part) text r
   stops (done f s) e = refused_not (sym e)
   stops (stopped {ps = ps} {u = u} {r = q} b s x) e =
       let same : q ≡ r = cc in
@@ -120,17 +120,17 @@ stops_first =
 -- ---- writing
 
 module _ (part : ℕ) (m out : List ℕ) where
-  fine_room : (writing_of part m out).answer.verdict ≡ Fine → Lent part m × (text_length_of (size_of part) ≤ length out)
+  fine_room : (writing_of part m out).answer.verdict ≡ Ok tt → Lent part m × (text_length_of (size_of part) ≤ length out)
   fine_room = go (write_verdict_of (facts_of part) (length m) (length out)) refl
     where
-      go : (v : Verdict) → write_verdict_of (facts_of part) (length m) (length out) ≡ v → (write_by v (facts_of part) m out).answer.verdict ≡ Fine
+      go : (v : Verdict) → write_verdict_of (facts_of part) (length m) (length out) ≡ v → (write_by v (facts_of part) m out).answer.verdict ≡ Ok tt
           → Lent part m × (text_length_of (size_of part) ≤ length out)
-      go Fine e h = roomy_is part m (length out) e
-      go (Refused r) e h = refused_not h
+      go (Ok _) e h = roomy_is part m (length out) e
+      go (Err r) e h = refused_not h
 
   module _ (l : Lent part m) (h : text_length_of (size_of part) ≤ length out) where
     writes : writing_of part m out
-        ≡ record { answer = record { verdict = Fine; length = text_length_of (size_of part) }; out = text_of (size_of part) m ++ drop (text_length_of (size_of part)) out }
+        ≡ record { answer = record { verdict = Ok tt; length = text_length_of (size_of part) }; out = text_of (size_of part) m ++ drop (text_length_of (size_of part)) out }
     writes = rw (is_roomy part m (length out) l h) refl
 
     text_in : text_in_lem (writing_of part m out) ≡ text_of (size_of part) m
@@ -147,14 +147,14 @@ writes_plain part m out b h =
 
 -- what was written, read
 written_back : (part : ℕ) (m old : List ℕ) → Lent part m → AllBelow 256 m → Lent part old
-    → reading_of part (text_of (size_of part) m) old ≡ record { answer = record { verdict = Fine; records = size_of part / 16; named = size_of part }; array = m }
+    → reading_of part (text_of (size_of part) m) old ≡ record { answer = record { verdict = Ok tt; records = size_of part / 16; named = size_of part }; array = m }
 written_back part m old l b o =
     let f : IsFile (text_of (size_of part) m) (rows part m l.known l.long) = text_file part m l.known l.long b in
     let r = accepts_all part (text_of (size_of part) m) old (rows part m l.known l.long) o f (placed_rows part m l.known l.long) in
-    let v : (reading_of part (text_of (size_of part) m) old).answer.verdict ≡ Fine = ap (λ (x : HexRead). x.verdict) r in
+    let v : (reading_of part (text_of (size_of part) m) old).answer.verdict ≡ (Ok tt) = ap (λ (x : HexRead). x.verdict) r in
     let n = names_each part (text_of (size_of part) m) old (rows part m l.known l.long) v f in
     let e = named_rows part m l.known l.long (reading_of part (text_of (size_of part) m) old).array n in
-    let c : (reading_of part (text_of (size_of part) m) old).answer ≡ record { verdict = Fine; records = size_of part / 16; named = size_of part } =
+    let c : (reading_of part (text_of (size_of part) m) old).answer ≡ record { verdict = Ok tt; records = size_of part / 16; named = size_of part } =
     r ∙ rw (count_rows part m l.known l.long, bytes_rows part m l.known l.long) refl in
     λ i. record { answer = c i; array = e i }
 
@@ -163,7 +163,7 @@ gives_back part m old out l b o h =
     (ap (λ (w : AfterWrite). w.answer.verdict) (writes part m out l h), rw (text_in part m out l h) (written_back part m old l b o))
 
 -- what is read is bytes
-read_bytes : (part : ℕ) (text array : List ℕ) → (reading_of part text array).answer.verdict ≡ Fine → AllBelow 256 (reading_of part text array).array
+read_bytes : (part : ℕ) (text array : List ℕ) → (reading_of part text array).answer.verdict ≡ Ok tt → AllBelow 256 (reading_of part text array).array
 read_bytes part text array h =
     let r = accepts_only part text array h in
     rw (file_reading part text array r.records r.lent r.file r.placed) (filled_below (entered (clear (size_of part)) r.records))
@@ -178,19 +178,19 @@ settles part text old other out h o room =
 
 -- ---- a refused call
 
-kept_reading : (v : Verdict) (f : Facts) (text array : List ℕ) (r : Refusal) → (read_by v f text array).answer.verdict ≡ Refused r
-    → read_by v f text array ≡ record { answer = record { verdict = Refused r; records = 0; named = 0 }; array = array }
-kept_reading Fine f text array r h = go (read_of f.size text) h
+kept_reading : (v : Verdict) (f : Facts) (text array : List ℕ) (r : Refusal) → (read_by v f text array).answer.verdict ≡ Err r
+    → read_by v f text array ≡ record { answer = record { verdict = Err r; records = 0; named = 0 }; array = array }
+kept_reading (Ok _) f text array r h = go (read_of f.size text) h
   where
-    go : (g : Got) → (got_of g array).answer.verdict ≡ Refused r → got_of g array ≡ record { answer = record { verdict = Refused r; records = 0; named = 0 }; array = array }
+    go : (g : Got) → (got_of g array).answer.verdict ≡ Err r → got_of g array ≡ record { answer = record { verdict = Err r; records = 0; named = 0 }; array = array }
     go (gets cells k) e = refused_not (sym e)
     go (no q) e = rw e refl
-kept_reading (Refused q) f text array r h = rw h refl
+kept_reading (Err q) f text array r h = rw h refl
 
-kept_writing : (v : Verdict) (f : Facts) (m out : List ℕ) (r : Refusal) → (write_by v f m out).answer.verdict ≡ Refused r
-    → write_by v f m out ≡ record { answer = record { verdict = Refused r; length = 0 }; out = out }
-kept_writing Fine f m out r h = refused_not (sym h)
-kept_writing (Refused q) f m out r h = rw h refl
+kept_writing : (v : Verdict) (f : Facts) (m out : List ℕ) (r : Refusal) → (write_by v f m out).answer.verdict ≡ Err r
+    → write_by v f m out ≡ record { answer = record { verdict = Err r; length = 0 }; out = out }
+kept_writing (Ok _) f m out r h = refused_not (sym h)
+kept_writing (Err q) f m out r h = rw h refl
 
 pub refused_keeps : RefusedKeeps reading_of writing_of
 refused_keeps =

@@ -1,5 +1,6 @@
 -- The refusals are given in document 01's order.
 -- Assumes nothing.
+use Rattle.std.specs.Prelude.{Err}
 use Prim.Native.Nat.{ℕ, ◌<◌, ◌≤◌}
 use mathlib.Core.Path.{◌≡◌, refl, ap}
 use mathlib.Core.List.{List}
@@ -9,8 +10,7 @@ use lib.ListN.{length}
 use borrow.Author.Tests.{lt-ltb}
 use Rattle.parts.specs.declared.Refusal.{Refusal}
 use Rattle.parts.specs.declared.Refusal.TheVariants.{NoPart, WrongBuffer, ShortBuffer}
-use Rattle.parts.specs.declared.Verdict.{Verdict}
-use Rattle.parts.specs.declared.Verdict.TheVariants.{Refused}
+use Rattle.parts.specs.Verdict.{Verdict}
 use Rattle.parts.specs.Table.{facts_of}
 use Rattle.parts.specs.Refusals.{rank_of, claim_of, sooner_of}
 use Rattle.parts.proofs.Claims.{given_first, later_claim}
@@ -34,12 +34,12 @@ module _ (part : ℕ) (m out : List ℕ) where
   write_as : {v : Verdict} → verdict ≡ v → (writing_of part m out).answer.verdict ≡ (write_by v (facts_of part) m out).answer.verdict
   write_as e = ap (λ (v : Verdict). (write_by v (facts_of part) m out).answer.verdict) e
 
-  lent_first : (r : Refusal) → rank_of r ≤ rank_of ShortBuffer → lent_for part m ≡ Refused r → verdict ≡ Refused r
+  lent_first : (r : Refusal) → rank_of r ≤ rank_of ShortBuffer → lent_for part m ≡ Err r → verdict ≡ Err r
   unfolding write_verdict_of
   lent_first r h e =
       rw e (given_first r (claim_of (ltb (length out) (text_length_of (size_of part))) ShortBuffer) (later_claim (rank_of r) (ltb (length out) (text_length_of (size_of part))) ShortBuffer h))
 
-  too_short : Lent part m → length out < text_length_of (size_of part) → verdict ≡ Refused ShortBuffer
+  too_short : Lent part m → length out < text_length_of (size_of part) → verdict ≡ Err ShortBuffer
   unfolding write_verdict_of sooner_of
   too_short l h = rw (is_lent part m l, lt-ltb (length out) (text_length_of (size_of part)) h) refl
 

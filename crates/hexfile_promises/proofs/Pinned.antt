@@ -1,5 +1,6 @@
 -- The promises of reading leave no choice.
 -- Assumes nothing.
+use Rattle.std.specs.Prelude.{Ok, Err}
 use Prim.Native.Nat.{ℕ, ◌+◌, ◌-◌, ◌<◌, ◌≤◌}
 use mathlib.Core.Path.{◌≡◌, refl, sym, ap, ◌∙◌}
 use mathlib.Core.Logic.{◌⊎◌, inl, inr}
@@ -10,8 +11,7 @@ use lib.ListN.{length, get_or}
 use lib.Seq.{ext_get_or}
 use Rattle.parts.specs.declared.Refusal.{Refusal}
 use Rattle.parts.specs.declared.Refusal.TheVariants.{NoPart, WrongBuffer}
-use Rattle.parts.specs.declared.Verdict.{Verdict}
-use Rattle.parts.specs.declared.Verdict.TheVariants.{Fine, Refused}
+use Rattle.parts.specs.Verdict.{Verdict}
 use Rattle.hexfile.specs.Calls.{reading_of}
 use Rattle.hexfile.specs.declared.HexRead.{HexRead}
 use Rattle.hexfile_promises.specs.Files.{Each, Piece, Names, NamedBy}
@@ -49,15 +49,15 @@ one_array size ps m n f g = ext_get_or 0 m n (f.long ∙ sym g.long) (λ i h. go
 -- ---- two readers
 
 module _ (read other : Reading) (p : HexReader read) (q : HexReader other) (part : ℕ) (text array : List ℕ) where
-  both_refuse : (r : Refusal) → (read part text array).answer.verdict ≡ Refused r → (other part text array).answer.verdict ≡ Refused r → read part text array ≡ other part text array
+  both_refuse : (r : Refusal) → (read part text array).answer.verdict ≡ Err r → (other part text array).answer.verdict ≡ Err r → read part text array ≡ other part text array
   both_refuse r e f = p.keeps part text array r e ∙ sym (q.keeps part text array r f)
 
-  both_read : (read part text array).answer.verdict ≡ Fine → read part text array ≡ other part text array
+  both_read : (read part text array).answer.verdict ≡ Ok tt → read part text array ≡ other part text array
   both_read e =
       let x = p.accepts_only part text array e in
       let a = p.accepts_all part text array x.records x.lent x.file x.placed in
       let b = q.accepts_all part text array x.records x.lent x.file x.placed in
-      let f : (other part text array).answer.verdict ≡ Fine = ap (λ (h : HexRead). h.verdict) b in
+      let f : (other part text array).answer.verdict ≡ (Ok tt) = ap (λ (h : HexRead). h.verdict) b in
       let c : (read part text array).answer ≡ (other part text array).answer = a ∙ sym b in
       let d : (read part text array).array ≡ (other part text array).array =
       one_array (size_of part) x.records (read part text array).array (other part text array).array (p.names_each part text array x.records e x.file) (q.names_each part text array x.records f x.file) in
@@ -67,8 +67,8 @@ module _ (read other : Reading) (p : HexReader read) (q : HexReader other) (part
   lent_same l = go (read part text array).answer.verdict refl
     where
       go : (v : Verdict) → (read part text array).answer.verdict ≡ v → read part text array ≡ other part text array
-      go Fine e = both_read e
-      go (Refused r) e = both_refuse r e (q.stops_first.first part text array r l (p.stops_first.stops part text array r l e))
+      go (Ok _) e = both_read e
+      go (Err r) e = both_refuse r e (q.stops_first.first part text array r l (p.stops_first.stops part text array r l e))
 
 pub hex_pinned : HexPinned
 hex_pinned read other p q part text array = known (dec_le part 5)

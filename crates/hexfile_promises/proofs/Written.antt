@@ -1,5 +1,6 @@
 -- The promises of writing leave no choice: an array has one text.
 -- Assumes nothing.
+use Rattle.std.specs.Prelude.{Ok, Err}
 use Prim.Native.Nat.{ℕ, zero, suc, ◌+◌, ◌/◌, ◌%◌, ◌<◌, ◌≤◌}
 use mathlib.Core.Path.{◌≡◌, refl, sym, ap, ◌∙◌}
 use mathlib.Core.Logic.{inl, inr}
@@ -10,7 +11,6 @@ use lib.ListN.{length, take, drop, length-append}
 use borrow.Author.Tests.{lt-ltb, le-ltb}
 use Rattle.parts.specs.declared.Refusal.{Refusal}
 use Rattle.parts.specs.declared.Refusal.TheVariants.{NoPart, WrongBuffer, ShortBuffer}
-use Rattle.parts.specs.declared.Verdict.TheVariants.{Fine, Refused}
 use Rattle.parts.specs.Bytes.{AllBelow}
 use Rattle.text.specs.Digits.{hex_digit_of}
 use Rattle.hexfile.proofs.Values.{sum-append}
@@ -154,9 +154,9 @@ module _ (part : ℕ) (m t : List ℕ) (l : Lent part m) (x : Text part m t) whe
 module _ (part : ℕ) (m out : List ℕ) where
   abbrev written : AfterWrite
   written =
-      record { answer = record { verdict = Fine; length = length (text_of (size_of part) m) }; out = text_of (size_of part) m ++ drop (length (text_of (size_of part) m)) out }
+      record { answer = record { verdict = Ok tt; length = length (text_of (size_of part) m) }; out = text_of (size_of part) m ++ drop (length (text_of (size_of part) m)) out }
 
-  fine_written : (write : Writing) → HexWriter write → Lent part m → AllBelow 256 m → (write part m out).answer.verdict ≡ Fine → write part m out ≡ written
+  fine_written : (write : Writing) → HexWriter write → Lent part m → AllBelow 256 m → (write part m out).answer.verdict ≡ Ok tt → write part m out ≡ written
   fine_written write p l b v =
       let x = p.plain part m out b v in
       let e = one_text part m (text_in_lem (write part m out)) l x.0 in
@@ -165,7 +165,7 @@ module _ (part : ℕ) (m out : List ℕ) where
       λ i. record { answer = record { verdict = v i; length = n i }; out = o i }
 
   module _ (write other : Writing) (p : HexWriter write) (q : HexWriter other) where
-    both_refuse : (r : Refusal) → (write part m out).answer.verdict ≡ Refused r → (other part m out).answer.verdict ≡ Refused r → write part m out ≡ other part m out
+    both_refuse : (r : Refusal) → (write part m out).answer.verdict ≡ Err r → (other part m out).answer.verdict ≡ Err r → write part m out ≡ other part m out
     both_refuse r e f = p.keeps part m out r e ∙ sym (q.keeps part m out r f)
 
     lent_same : Lent part m → AllBelow 256 m → write part m out ≡ other part m out

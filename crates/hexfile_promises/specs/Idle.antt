@@ -1,9 +1,8 @@
 -- Wrong readers and writers of Intel HEX, and the promise that each breaks: proofs/Idle.antt.
 -- Assumes nothing.
-use Rattle.std.specs.Prelude.{ℕ, suc, ◌+◌, ◌≡◌, Bool, true, false, cond, List, [], ◌∷◌, ◌++◌, length, drop, replicate, leb, ltb}
+use Rattle.std.specs.Prelude.{ℕ, suc, ◌+◌, ◌≡◌, Bool, true, false, cond, List, [], ◌∷◌, ◌++◌, length, drop, replicate, leb, ltb, Ok, Err}
 use Rattle.parts.specs.declared.Refusal.TheVariants.{BadRecord, BadSum, Misplaced, NoEnd}
-use Rattle.parts.specs.declared.Verdict.{Verdict}
-use Rattle.parts.specs.declared.Verdict.TheVariants.{Fine, Refused}
+use Rattle.parts.specs.Verdict.{Verdict}
 use Rattle.hexfile.specs.Record.{Record, malformed, bytes, last, record_of_lem, end_bytes}
 use Rattle.hexfile.specs.File.{Got, gets, no, lines_of, fits_of, entered_of, some_of}
 use Rattle.hexfile.specs.Written.{line_of}
@@ -22,7 +21,7 @@ BlankBreaks = (read : Reading) (write : Writing) → ReadsBlank read → GivesBa
 
 -- refuses everything, with any refusals
 abbrev pub RefusesAll : Reading → Type 0
-RefusesAll read = (part : ℕ) (text array : List ℕ) → (read part text array).answer.verdict ≡ Fine → ⊥
+RefusesAll read = (part : ℕ) (text array : List ℕ) → (read part text array).answer.verdict ≡ Ok tt → ⊥
 
 abbrev pub RefusesAllBreaks : Type 0
 RefusesAllBreaks = (read : Reading) (write : Writing) → RefusesAll read → GivesBack read write → ⊥
@@ -30,7 +29,7 @@ RefusesAllBreaks = (read : Reading) (write : Writing) → RefusesAll read → Gi
 -- ---- a writer of the end record alone, under any reader
 
 abbrev pub end_alone : Writing
-end_alone part m out = record { answer = record { verdict = Fine; length = 12 }; out = line_of end_bytes ++ drop 12 out }
+end_alone part m out = record { answer = record { verdict = Ok tt; length = 12 }; out = line_of end_bytes ++ drop 12 out }
 
 abbrev pub EndAloneBreaks : Type 0
 EndAloneBreaks = (read : Reading) → GivesBack read end_alone → ⊥
@@ -53,8 +52,8 @@ viewed_at v cells k [] = no (NoEnd (suc k))
 viewed_at v cells k (l ∷ ls) = viewed_turn v (λ now. viewed_at v now (suc k) ls) (v.more ls) cells k (v.record_of l)
 
 abbrev pub viewed_by : View → Verdict → ℕ → List ℕ → List ℕ → AfterRead
-viewed_by v Fine size text array = got_of (viewed_at v (replicate size 256) 0 (lines_of text)) array
-viewed_by v (Refused r) size text array = refused_read r array
+viewed_by v (Ok _) size text array = got_of (viewed_at v (replicate size 256) 0 (lines_of text)) array
+viewed_by v (Err r) size text array = refused_read r array
 
 abbrev pub viewed : View → Reading
 viewed v part text array = viewed_by v (array_verdict_of (facts_of part) (length array)) (size_of part) text array

@@ -1,9 +1,8 @@
 -- What is promised of reading and writing Intel HEX (document 02, §2), over any reader and any writer. `reading_of` and `writing_of`, which the
 -- contracts of `hexfile::read` and `hexfile::write` cite, keep it: proofs/Kept.antt.
 -- Assumes nothing.
-use Rattle.std.specs.Prelude.{ℕ, zero, suc, ◌+◌, ◌*◌, ◌/◌, ◌≤◌, ◌≡◌, ◌⊎◌, List, [], ◌∷◌, ◌++◌, length, take, drop}
+use Rattle.std.specs.Prelude.{ℕ, zero, suc, ◌+◌, ◌*◌, ◌/◌, ◌≤◌, ◌≡◌, ◌⊎◌, List, [], ◌∷◌, ◌++◌, length, take, drop, Ok, Err}
 use Rattle.parts.specs.declared.Refusal.{Refusal}
-use Rattle.parts.specs.declared.Verdict.TheVariants.{Fine, Refused}
 use Rattle.parts.specs.Bytes.{AllBelow}
 use Rattle.parts.specs.Table.{facts_of}
 use Rattle.hexfile.specs.Calls.{AfterRead, AfterWrite}
@@ -36,15 +35,15 @@ text_in_lem w = take w.answer.length w.out
 abbrev pub GivesBack : Reading → Writing → Type 0
 GivesBack read write =
     (part : ℕ) (m old out : List ℕ) → Lent part m → AllBelow 256 m → Lent part old → text_length_of (size_of part) ≤ length out
-    → ((write part m out).answer.verdict ≡ Fine)
-    × (read part (text_in_lem (write part m out)) old ≡ record { answer = record { verdict = Fine; records = size_of part / 16; named = size_of part }; array = m })
+    → ((write part m out).answer.verdict ≡ Ok tt)
+    × (read part (text_in_lem (write part m out)) old ≡ record { answer = record { verdict = Ok tt; records = size_of part / 16; named = size_of part }; array = m })
 
 -- what a text is read as is written, and read as the same again: the text written is the normal form of all texts of an array
 abbrev pub Settles : Reading → Writing → Type 0
 Settles read write =
-    (part : ℕ) (text old other out : List ℕ) → (read part text old).answer.verdict ≡ Fine → Lent part other → text_length_of (size_of part) ≤ length out
-    → ((write part (read part text old).array out).answer.verdict ≡ Fine)
-    × ((read part (text_in_lem (write part (read part text old).array out)) other).answer.verdict ≡ Fine)
+    (part : ℕ) (text old other out : List ℕ) → (read part text old).answer.verdict ≡ Ok tt → Lent part other → text_length_of (size_of part) ≤ length out
+    → ((write part (read part text old).array out).answer.verdict ≡ Ok tt)
+    × ((read part (text_in_lem (write part (read part text old).array out)) other).answer.verdict ≡ Ok tt)
     × ((read part (text_in_lem (write part (read part text old).array out)) other).array ≡ (read part text old).array)
 
 -- ---- "Read data and end records (types 00 and 01) into an array buffer"
@@ -53,7 +52,7 @@ Settles read write =
 abbrev pub AcceptsAll : Reading → Type 0
 AcceptsAll read =
     (part : ℕ) (text array : List ℕ) (ps : List Piece) → Lent part array → IsFile text ps → Placed (size_of part) ps
-    → (read part text array).answer ≡ record { verdict = Fine; records = length ps; named = bytes_in ps }
+    → (read part text array).answer ≡ record { verdict = Ok tt; records = length ps; named = bytes_in ps }
 
 pub record Read (part : ℕ) (text array : List ℕ) : Type 0 where
   pub lent : Lent part array
@@ -63,12 +62,12 @@ pub record Read (part : ℕ) (text array : List ℕ) : Type 0 where
 
 -- and only such
 abbrev pub AcceptsOnly : Reading → Type 0
-AcceptsOnly read = (part : ℕ) (text array : List ℕ) → (read part text array).answer.verdict ≡ Fine → Read part text array
+AcceptsOnly read = (part : ℕ) (text array : List ℕ) → (read part text array).answer.verdict ≡ Ok tt → Read part text array
 
 -- "bytes not named are FFh": a byte is that of the one record that names it
 abbrev pub NamesEach : Reading → Type 0
 NamesEach read =
-    (part : ℕ) (text array : List ℕ) (ps : List Piece) → (read part text array).answer.verdict ≡ Fine → IsFile text ps
+    (part : ℕ) (text array : List ℕ) (ps : List Piece) → (read part text array).answer.verdict ≡ Ok tt → IsFile text ps
     → NamedBy (size_of part) ps (read part text array).array
 
 -- a text is a file in one way
@@ -78,8 +77,8 @@ ReadsOneWay = (text : List ℕ) (ps qs : List Piece) → IsFile text ps → IsFi
 -- ---- "the earliest record decides, within it the lowest number"
 
 pub record StopsFirst (read : Reading) : Type 0 where
-  pub stops : (part : ℕ) (text array : List ℕ) (r : Refusal) → Lent part array → (read part text array).answer.verdict ≡ Refused r → Stops (size_of part) text r
-  pub first : (part : ℕ) (text array : List ℕ) (r : Refusal) → Lent part array → Stops (size_of part) text r → (read part text array).answer.verdict ≡ Refused r
+  pub stops : (part : ℕ) (text array : List ℕ) (r : Refusal) → Lent part array → (read part text array).answer.verdict ≡ Err r → Stops (size_of part) text r
+  pub first : (part : ℕ) (text array : List ℕ) (r : Refusal) → Lent part array → Stops (size_of part) text r → (read part text array).answer.verdict ≡ Err r
 
 -- ---- "write an array out as records of 16 data bytes", "upper case and LF are written"
 
@@ -100,7 +99,7 @@ pub record Text (part : ℕ) (m t : List ℕ) : Type 0 where
 -- the text, its length, and behind it the bytes that were there
 abbrev pub WritesPlain : Writing → Type 0
 WritesPlain write =
-    (part : ℕ) (m out : List ℕ) → AllBelow 256 m → (write part m out).answer.verdict ≡ Fine
+    (part : ℕ) (m out : List ℕ) → AllBelow 256 m → (write part m out).answer.verdict ≡ Ok tt
     → Text part m (text_in_lem (write part m out))
     × ((write part m out).answer.length ≡ length (text_in_lem (write part m out)))
     × ((write part m out).out ≡ text_in_lem (write part m out) ++ drop (write part m out).answer.length out)
@@ -109,13 +108,13 @@ WritesPlain write =
 
 abbrev pub ReadKeeps : Reading → Type 0
 ReadKeeps read =
-    (part : ℕ) (text array : List ℕ) (r : Refusal) → (read part text array).answer.verdict ≡ Refused r
-    → read part text array ≡ record { answer = record { verdict = Refused r; records = 0; named = 0 }; array = array }
+    (part : ℕ) (text array : List ℕ) (r : Refusal) → (read part text array).answer.verdict ≡ Err r
+    → read part text array ≡ record { answer = record { verdict = Err r; records = 0; named = 0 }; array = array }
 
 abbrev pub WriteKeeps : Writing → Type 0
 WriteKeeps write =
-    (part : ℕ) (m out : List ℕ) (r : Refusal) → (write part m out).answer.verdict ≡ Refused r
-    → write part m out ≡ record { answer = record { verdict = Refused r; length = 0 }; out = out }
+    (part : ℕ) (m out : List ℕ) (r : Refusal) → (write part m out).answer.verdict ≡ Err r
+    → write part m out ≡ record { answer = record { verdict = Err r; length = 0 }; out = out }
 
 pub record RefusedKeeps (read : Reading) (write : Writing) : Type 0 where
   pub reading : ReadKeeps read

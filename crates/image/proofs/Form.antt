@@ -1,5 +1,6 @@
 -- Laws of the form: an image taken apart, and a list of bytes that is one.
 -- Assumes nothing.
+use Rattle.std.specs.Prelude.{Ok}
 use Prim.Native.Nat.{ℕ, zero, suc, ◌+◌, ◌≤◌, ◌<◌}
 use mathlib.Core.Path.{◌≡◌, ◌∙◌, sym, ap, refl}
 use mathlib.Core.Bool.{Bool, true, false, cond}
@@ -10,7 +11,6 @@ use lib.Seq.{drop-cons, take_at, drop_at, drop-drop}
 use lib.Dec.{eqb, ltb, leb}
 use borrow.Author.Tests.{eqb-true, eq-eqb, le-ltb, lt-ltb}
 use Rattle.parts.specs.declared.Facts.{Facts}
-use Rattle.parts.specs.declared.Verdict.TheVariants.{Fine}
 use Rattle.parts.specs.Table.{facts_of, enable_right_of}
 use Rattle.parts.specs.Sound.{Sound}
 use Rattle.parts.specs.Refusals.{sooner_of}
@@ -74,7 +74,7 @@ module _ (part : ℕ) (lock : Bool) (m : Mem) (known : (facts_of part).known ≡
       (lockable_right (facts_of part) lock h)
 
   pub accepted : (enable : ℕ) (old : Mem) → enable_right_of (facts_of part) enable ≡ true → BuffersFit part old
-      → load_verdict_of (image_of part lock m) enable (length old.cells) (length old.ident) ≡ Fine
+      → load_verdict_of (image_of part lock m) enable (length old.cells) (length old.ident) ≡ Ok tt
   unfolding load_verdict_of judged_of sooner_of image_length_of
   accepted enable old e o =
       let long : 6 ≤ length (image_of part lock m) = omega (arith, length_of_image part lock m t) in
@@ -181,7 +181,7 @@ range_lockable f c h e =
 -- ---- a save that is not refused
 
 module _ (part : ℕ) (c : Chip) (m : Mem) (known : (facts_of part).known ≡ true) (r : in_range_of (facts_of part) c ≡ true) (t : BuffersFit part m) where
-  pub saves : (room : ℕ) → image_length_of (facts_of part) ≤ room → save_verdict_of part c (length m.cells) (length m.ident) room ≡ Fine
+  pub saves : (room : ℕ) → image_length_of (facts_of part) ≤ room → save_verdict_of part c (length m.cells) (length m.ident) room ≡ Ok tt
   unfolding save_verdict_of sooner_of
   saves room h =
       rw (fine_lent (facts_of part) (length m.cells) (length m.ident) known (buffers_right_lem (facts_of part) (length m.cells) (length m.ident) t.cells t.ident), r, le-ltb room (image_length_of (facts_of part)) h) refl

@@ -1,12 +1,12 @@
 -- The idle ways of specs/Idle.antt break the promise, whatever goes with them.
 -- Assumes nothing.
+use Rattle.std.specs.Prelude.{Ok, Err}
 use Prim.Native.Nat.{ℕ, ◌≤◌}
 use mathlib.Core.Path.{◌≡◌, ◌∙◌, sym, ap, refl}
 use mathlib.Core.Bool.{true, false}
 use mathlib.Core.List.{List}
 use native.Mathlib.Omega.{arith}
 use lib.ListN.{length, get_or, take, replicate, length-replicate}
-use Rattle.parts.specs.declared.Verdict.TheVariants.{Fine, Refused}
 use Rattle.parts.specs.declared.Refusal.TheVariants.{BadImage}
 use Rattle.parts.specs.Table.{facts_of, id_size_of, enable_right_of}
 use Rattle.parts.proofs.Laws.{sound}
@@ -66,13 +66,13 @@ module _ (save : Saving) (load : Loading) (kept : GivesBack save load) where
   image : List ℕ
   image = take (save 0 fresh (all 255) buffer).answer.length (save 0 fresh (all 255) buffer).out
 
-  back : load image 0 (all 0) ≡ record { answer = record { verdict = Fine; part = 0; chip = standby_of (facts_of 0) fresh.line.core.locked }; stored = all 255 }
+  back : load image 0 (all 0) ≡ record { answer = record { verdict = Ok tt; part = 0; chip = standby_of (facts_of 0) fresh.line.core.locked }; stored = all 255 }
   unfolding image
   back = (kept 0 0 fresh (all 255) (all 0) buffer known enabled ranged (fits 255) (fits 0) room).1
 
   pub refuses_broken : Refuses load → ⊥
   refuses_broken h =
-      let e : Refused BadImage ≡ Fine = sym (h image 0 (all 0)) ∙ ap (λ (r : AfterLoad). r.answer.verdict) back in
+      let e : Err BadImage ≡ (Ok tt) = sym (h image 0 (all 0)) ∙ ap (λ (r : AfterLoad). r.answer.verdict) back in
       let z : ◌≡◌ {A = ℕ} 0 1 = cc in
       omega arith
 

@@ -1,5 +1,6 @@
 -- The promises of specs/Promises.antt are kept.
 -- Assumes nothing.
+use Rattle.std.specs.Prelude.{Ok, Err}
 use Prim.Native.Nat.{ℕ, ◌≤◌}
 use mathlib.Core.Path.{◌≡◌, ◌∙◌, sym, ap, refl}
 use mathlib.Core.Bool.{Bool, true, not}
@@ -7,8 +8,7 @@ use mathlib.Core.List.{List, ◌++◌}
 use lib.ListN.{length, take, drop}
 use lib.Seq.{take_at}
 use Rattle.parts.specs.declared.Facts.{Facts}
-use Rattle.parts.specs.declared.Verdict.{Verdict}
-use Rattle.parts.specs.declared.Verdict.TheVariants.{Fine, Refused}
+use Rattle.parts.specs.Verdict.{Verdict}
 use Rattle.parts.specs.Table.{facts_of, enable_right_of}
 use Rattle.parts.specs.declared.Loss.TheVariants.{Old}
 use Rattle.parts.proofs.Laws.{sound}
@@ -33,8 +33,8 @@ use Rattle.image.proofs.Form.{part_of_image, lock_of_image, length_of_image, sto
 
 -- the verdict that is answered is the one that was judged
 pub load_verdict : (l : List ℕ) (v : Verdict) → (load_by l v).verdict ≡ v
-load_verdict l Fine = refl
-load_verdict l (Refused r) = refl
+load_verdict l (Ok _) = refl
+load_verdict l (Err r) = refl
 
 pub accepts_only : AcceptsOnly loading
 accepts_only l enable old h =
@@ -43,7 +43,7 @@ accepts_only l enable old h =
 
 -- an image of a part, loaded
 loads : (part enable : ℕ) (lock : Bool) (m old : Mem) → (facts_of part).known ≡ true → BuffersFit part m → (lock ≡ true → (facts_of part).ident ≡ true) → enable_right_of (facts_of part) enable ≡ true → BuffersFit part old
-    → loading (image_of part lock m) enable old ≡ record { answer = record { verdict = Fine; part = part; chip = standby_of (facts_of part) lock }; stored = m }
+    → loading (image_of part lock m) enable old ≡ record { answer = record { verdict = Ok tt; part = part; chip = standby_of (facts_of part) lock }; stored = m }
 loads part enable lock m old known t h e o =
     rw (accepted part lock m known t h enable old e o, part_of_image part lock m, lock_of_image part lock m, stored_of_image part lock m t) refl
 
@@ -61,7 +61,7 @@ gives_back part enable c m old out known e r t o room =
 
 -- what was loaded, saved
 module _ (l : List ℕ) (enable : ℕ) (old : Mem) (out : List ℕ) (k : CanLoad l enable (length old.cells) (length old.ident)) (room : length l ≤ length out) where
-  again : saving (part_in l) (standby_of (facts_of (part_in l)) (lock_in l)) (stored_in (facts_of (part_in l)) l) out ≡ record { answer = record { verdict = Fine; length = length l }; out = l ++ drop (length l) out }
+  again : saving (part_in l) (standby_of (facts_of (part_in l)) (lock_in l)) (stored_in (facts_of (part_in l)) l) out ≡ record { answer = record { verdict = Ok tt; length = length l }; out = l ++ drop (length l) out }
   unfolding standby_of
   again =
       let f = facts_of (part_in l) in
@@ -72,7 +72,7 @@ module _ (l : List ℕ) (enable : ℕ) (old : Mem) (out : List ℕ) (k : CanLoad
 
 pub saves_same : SavesSame saving loading
 saves_same l enable old out h room =
-    let j : load_verdict_of l enable (length old.cells) (length old.ident) ≡ Fine = sym (load_verdict l _) ∙ h in
+    let j : load_verdict_of l enable (length old.cells) (length old.ident) ≡ (Ok tt) = sym (load_verdict l _) ∙ h in
     let k = load_fine l enable (length old.cells) (length old.ident) j in
     rw j (again l enable old out k room)
 
@@ -84,8 +84,8 @@ unfolding save_verdict_of
 same_verdict part c e n d room a b = rw (a, b)
 
 same_out : (part : ℕ) (c e : Chip) (m : Mem) (out : List ℕ) (v : Verdict) → c.line.core.locked ≡ e.line.core.locked → save_out part c m out v ≡ save_out part e m out v
-same_out part c e m out Fine h = rw h refl
-same_out part c e m out (Refused r) h = refl
+same_out part c e m out (Ok _) h = rw h refl
+same_out part c e m out (Err r) h = refl
 
 pub saves_lock_only : SavesLockOnly saving
 saves_lock_only part c e m out a b h =

@@ -1,5 +1,6 @@
 -- Laws that the proofs of the code share: copies one after another, and what a call that is not refused has.
 -- Assumes nothing.
+use Rattle.std.specs.Prelude.{Ok}
 use Prim.Native.Nat.{ℕ, ◌+◌, ◌-◌, ◌≤◌}
 use mathlib.Core.Path.{◌≡◌, ◌∙◌, refl}
 use mathlib.Core.Bool.{Bool, true, false, not, cond}
@@ -12,7 +13,6 @@ use lib.Dec.{ltb, eqb}
 use borrow.Author.Tests.{eqb-true, ltb-false}
 use Rattle.parts.specs.declared.Facts.{Facts}
 use Rattle.parts.specs.declared.Refusal.TheVariants.{WrongEnable, BadState, ShortBuffer, BadImage}
-use Rattle.parts.specs.declared.Verdict.TheVariants.{Fine}
 use Rattle.parts.specs.Table.{facts_of, id_size_of, enable_right_of}
 use Rattle.parts.specs.Refusals.{claim_of, lent_verdict_of}
 use Rattle.parts.specs.Bytes.{copied_of}
@@ -76,7 +76,7 @@ pub record CanSave (part : ℕ) (c : Chip) (n d room : ℕ) : Type 0 where
   pub ranged : in_range_of (facts_of part) c ≡ true
   pub fits : image_length_of (facts_of part) ≤ room
 
-pub save_fine : (part : ℕ) (c : Chip) (n d room : ℕ) → save_verdict_of part c n d room ≡ Fine → CanSave part c n d room
+pub save_fine : (part : ℕ) (c : Chip) (n d room : ℕ) → save_verdict_of part c n d room ≡ Ok tt → CanSave part c n d room
 unfolding save_verdict_of
 save_fine part c n d room h =
     let (lent, r) = sooner_fine (lent_verdict_of (facts_of part) n d) _ h in
@@ -85,7 +85,7 @@ save_fine part c n d room h =
     let b = buffers_are (facts_of part) n d l.1 in
     record { known = l.0; cells = b.0; ident = b.1; ranged = right_fine _ BadState state; fits = ltb-false room (image_length_of (facts_of part)) (claim_fine _ ShortBuffer short) }
 
-pub save_room : (part : ℕ) (c : Chip) (n d room : ℕ) → save_verdict_of part c n d room ≡ Fine
+pub save_room : (part : ℕ) (c : Chip) (n d room : ℕ) → save_verdict_of part c n d room ≡ Ok tt
     → (image_length_of (facts_of part) ≡ 7 + n + d) × (7 + n + d ≤ room)
 unfolding image_length_of
 save_room part c n d room h =
@@ -101,7 +101,7 @@ pub record CanLoad (l : List ℕ) (enable n d : ℕ) : Type 0 where
   pub marked : mark_right_of 1 l ≡ true
   pub lock : lock_byte_right_of (facts_of (part_in l)) (get_or l 6 0) ≡ true
 
-pub load_fine : (l : List ℕ) (enable n d : ℕ) → load_verdict_of l enable n d ≡ Fine → CanLoad l enable n d
+pub load_fine : (l : List ℕ) (enable n d : ℕ) → load_verdict_of l enable n d ≡ Ok tt → CanLoad l enable n d
 unfolding load_verdict_of judged_of formed_as
 load_fine l enable n d h =
     let (lent, r) = sooner_fine (lent_verdict_of (facts_of (part_in l)) n d) _ (passed (ltb (length l) 6) _ _ h).1 in
@@ -112,7 +112,7 @@ load_fine l enable n d h =
     let t = both (mark_right_of 1 l) (lock_byte_right_of (facts_of (part_in l)) (get_or l 6 0)) w.1 in
     record { known = f.0; enabled = right_fine _ WrongEnable enable-right; cells = b.0; ident = b.1; long = eqb-true (length l) (image_length_of (facts_of (part_in l))) w.0; marked = t.0; lock = t.1 }
 
-pub load_room : (l : List ℕ) (enable n d part : ℕ) → load_verdict_of l enable n d ≡ Fine → part ≡ part_in l
+pub load_room : (l : List ℕ) (enable n d part : ℕ) → load_verdict_of l enable n d ≡ Ok tt → part ≡ part_in l
     → (n ≡ (facts_of part).size) × (length l ≡ 7 + n + d)
 unfolding image_length_of
 load_room l enable n d part h e =

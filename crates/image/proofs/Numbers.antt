@@ -1,5 +1,6 @@
 -- The numbers are given in document 01's order.
 -- Assumes nothing.
+use Rattle.std.specs.Prelude.{Ok, Err}
 use Prim.Native.Nat.{ℕ, ◌<◌, ◌≤◌}
 use mathlib.Core.Path.{◌≡◌, refl, sym, ap, ◌∙◌}
 use mathlib.Core.Bool.{Bool, true, false, not}
@@ -11,8 +12,7 @@ use lib.Dec.{ltb}
 use borrow.Author.Tests.{lt-ltb, le-ltb}
 use Rattle.parts.specs.declared.Refusal.{Refusal}
 use Rattle.parts.specs.declared.Refusal.TheVariants.{NoPart, WrongEnable, WrongBuffer, BadState, ShortBuffer, BadImage}
-use Rattle.parts.specs.declared.Verdict.{Verdict}
-use Rattle.parts.specs.declared.Verdict.TheVariants.{Fine, Refused}
+use Rattle.parts.specs.Verdict.{Verdict}
 use Rattle.parts.specs.Table.{facts_of, id_size_of, buffers_right_of, enable_right_of}
 use Rattle.parts.specs.Refusals.{rank_of, verdict_number_of, claim_of, sooner_of, lent_verdict_of}
 use Rattle.parts.proofs.Laws.{known, unknown, buffers_right_lem, buffers_wrong}
@@ -33,15 +33,15 @@ module _ (part : ℕ) (m : Mem) where
   abbrev lent : Verdict
   lent = lent_verdict_of (facts_of part) (length m.cells) (length m.ident)
 
-  lent_1 : 5 < part → lent ≡ Refused NoPart
+  lent_1 : 5 < part → lent ≡ Err NoPart
   lent_1 h = lent_unknown (facts_of part) (length m.cells) (length m.ident) (unknown part h)
 
-  lent_3 : part ≤ 5 → (BuffersFit part m → ⊥) → lent ≡ Refused WrongBuffer
+  lent_3 : part ≤ 5 → (BuffersFit part m → ⊥) → lent ≡ Err WrongBuffer
   lent_3 k w =
       lent_wrong (facts_of part) (length m.cells) (length m.ident) (known part k)
       (buffers_wrong (facts_of part) (length m.cells) (length m.ident) (λ p. w record { cells = p.0; ident = p.1 }))
 
-  lent_0 : part ≤ 5 → BuffersFit part m → lent ≡ Fine
+  lent_0 : part ≤ 5 → BuffersFit part m → lent ≡ Ok tt
   lent_0 k f =
       fine_lent (facts_of part) (length m.cells) (length m.ident) (known part k)
       (buffers_right_lem (facts_of part) (length m.cells) (length m.ident) f.cells f.ident)
@@ -59,27 +59,27 @@ module _ (part : ℕ) (c : Chip) (m : Mem) (out : List ℕ) where
   save_number_lem v h = ap (λ (w : Verdict). verdict_number_of (save_by (facts_of part) w).verdict) h ∙ by v
     where
       by : (w : Verdict) → verdict_number_of (save_by (facts_of part) w).verdict ≡ verdict_number_of w
-      by Fine = refl
-      by (Refused r) = refl
+      by (Ok _) = refl
+      by (Err r) = refl
 
   behind : (k : ℕ) → k ≤ rank_of BadState → Later k (sooner_of state short)
   behind k h =
       later_sooner k state short (later_claim k (not (in_range_of (facts_of part) c)) BadState h)
       (later_claim k (ltb (length out) (image_length_of (facts_of part))) ShortBuffer (omega (arith, h)))
 
-  lent_first : (r : Refusal) → rank_of r ≤ rank_of BadState → lent part m ≡ Refused r → save_number saving part c m out ≡ verdict_number_of (Refused r)
+  lent_first : (r : Refusal) → rank_of r ≤ rank_of BadState → lent part m ≡ Err r → save_number saving part c m out ≡ verdict_number_of (Err r)
   unfolding save_verdict_of
   lent_first r h e =
-      save_number_lem (Refused r) (ap (λ (v : Verdict). sooner_of v (sooner_of state short)) e ∙ given_first r (sooner_of state short) (behind (rank_of r) h))
+      save_number_lem (Err r) (ap (λ (v : Verdict). sooner_of v (sooner_of state short)) e ∙ given_first r (sooner_of state short) (behind (rank_of r) h))
 
-  state_first : lent part m ≡ Fine → in_range_of (facts_of part) c ≡ false → save_number saving part c m out ≡ 4
+  state_first : lent part m ≡ Ok tt → in_range_of (facts_of part) c ≡ false → save_number saving part c m out ≡ 4
   unfolding save_verdict_of sooner_of
   state_first f o =
-      save_number_lem (Refused BadState)
+      save_number_lem (Err BadState)
       (ap (λ (v : Verdict). sooner_of v (sooner_of state short)) f ∙ ap (λ (b : Bool). sooner_of (claim_of (not b) BadState) short) o
       ∙ given_first BadState short (later_claim (rank_of BadState) (ltb (length out) (image_length_of (facts_of part))) ShortBuffer (omega arith)))
 
-  room : (b : Bool) → lent part m ≡ Fine → in_range_of (facts_of part) c ≡ true → ltb (length out) (image_length_of (facts_of part)) ≡ b
+  room : (b : Bool) → lent part m ≡ Ok tt → in_range_of (facts_of part) c ≡ true → ltb (length out) (image_length_of (facts_of part)) ≡ b
       → save_number saving part c m out ≡ verdict_number_of (claim_of b ShortBuffer)
   unfolding save_verdict_of sooner_of
   room b f o e = save_number_lem (claim_of b ShortBuffer) (rw (f, o, e) refl)
@@ -108,7 +108,7 @@ module _ (l : List ℕ) (en : ℕ) (m : Mem) where
 
   unnamed : length l < 6 → load_number loading l en m ≡ 12
   unfolding load_verdict_of
-  unnamed h = ap verdict_number_of (answered (Refused BadImage) (rw (lt-ltb (length l) 6 h) refl))
+  unnamed h = ap verdict_number_of (answered (Err BadImage) (rw (lt-ltb (length l) 6 h) refl))
 
   -- the image holds its part byte
   held : (v : Verdict) → 6 ≤ length l → sooner_of (lent (part_in l) m) (sooner_of enable form) ≡ v → (loading l en m).answer.verdict ≡ v
@@ -123,13 +123,13 @@ module _ (l : List ℕ) (en : ℕ) (m : Mem) where
 
   part_first : 6 ≤ length l → 5 < part_in l → load_number loading l en m ≡ 1
   part_first h k =
-      judged (Refused NoPart) h
+      judged (Err NoPart) h
       (ap (λ (v : Verdict). sooner_of v (sooner_of enable form)) (lent_1 (part_in l) m k)
       ∙ given_first NoPart (sooner_of enable form)
       (later_sooner (rank_of NoPart) enable form (later_claim (rank_of NoPart) (not (enable_right_of (facts_of (part_in l)) en)) WrongEnable (omega arith)) (later_form (rank_of NoPart) (omega arith))))
 
   -- 2 goes before 3
-  before_3 : (b : Bool) → sooner_of (sooner_of (claim_of false NoPart) (claim_of (not b) WrongBuffer)) (Refused WrongEnable) ≡ Refused WrongEnable
+  before_3 : (b : Bool) → sooner_of (sooner_of (claim_of false NoPart) (claim_of (not b) WrongBuffer)) (Err WrongEnable) ≡ Err WrongEnable
   unfolding sooner_of
   before_3 true = refl
   before_3 false = refl
@@ -137,14 +137,14 @@ module _ (l : List ℕ) (en : ℕ) (m : Mem) where
   enable_first : 6 ≤ length l → part_in l ≤ 5 → (facts_of (part_in l)).enables ≤ en → load_number loading l en m ≡ 2
   unfolding lent_verdict_of enable_right_of
   enable_first h k o =
-      let s : sooner_of enable form ≡ Refused WrongEnable =
+      let s : sooner_of enable form ≡ Err WrongEnable =
       ap (λ (b : Bool). sooner_of (claim_of (not b) WrongEnable) form) (le-ltb en (facts_of (part_in l)).enables o)
       ∙ given_first WrongEnable form (later_form (rank_of WrongEnable) (omega arith)) in
       let n = length m.cells in
       let d = length m.ident in
-      judged (Refused WrongEnable) h
+      judged (Err WrongEnable) h
       (ap (λ (v : Verdict). sooner_of (lent (part_in l) m) v) s
-      ∙ ap (λ (b : Bool). sooner_of (sooner_of (claim_of (not b) NoPart) (claim_of (not (buffers_right_of (facts_of (part_in l)) n d)) WrongBuffer)) (Refused WrongEnable)) (known (part_in l) k)
+      ∙ ap (λ (b : Bool). sooner_of (sooner_of (claim_of (not b) NoPart) (claim_of (not (buffers_right_of (facts_of (part_in l)) n d)) WrongBuffer)) (Err WrongEnable)) (known (part_in l) k)
       ∙ before_3 (buffers_right_of (facts_of (part_in l)) n d))
 
   enabled : en < (facts_of (part_in l)).enables → enable_right_of (facts_of (part_in l)) en ≡ true
@@ -154,9 +154,9 @@ module _ (l : List ℕ) (en : ℕ) (m : Mem) where
   buffer_first : 6 ≤ length l → part_in l ≤ 5 → en < (facts_of (part_in l)).enables → (BuffersFit (part_in l) m → ⊥) → load_number loading l en m ≡ 3
   unfolding sooner_of
   buffer_first h k e w =
-      judged (Refused WrongBuffer) h
+      judged (Err WrongBuffer) h
       (ap (λ (v : Verdict). sooner_of v (sooner_of enable form)) (lent_3 (part_in l) m k w)
-      ∙ ap (λ (b : Bool). sooner_of (Refused WrongBuffer) (sooner_of (claim_of (not b) WrongEnable) form)) (enabled e)
+      ∙ ap (λ (b : Bool). sooner_of (Err WrongBuffer) (sooner_of (claim_of (not b) WrongEnable) form)) (enabled e)
       ∙ given_first WrongBuffer form (later_form (rank_of WrongBuffer) (omega arith)))
 
   form_last : (b : Bool) → Openable l en m → formed_of (facts_of (part_in l)) l ≡ b → (loading l en m).answer.verdict ≡ claim_of (not b) BadImage
@@ -164,16 +164,16 @@ module _ (l : List ℕ) (en : ℕ) (m : Mem) where
   form_last b o e = held (claim_of (not b) BadImage) o.named (rw (lent_0 (part_in l) m o.known o.fits, enabled o.enabled, e) refl)
 
   -- what has the form is taken, and nothing else is
-  formed_fine : Openable l en m → Form l → (loading l en m).answer.verdict ≡ Fine
+  formed_fine : Openable l en m → Form l → (loading l en m).answer.verdict ≡ Ok tt
   formed_fine o f = accepts_all l en m f (enabled o.enabled) o.fits
 
   fine_formed : Openable l en m → formed_of (facts_of (part_in l)) l ≡ true → Form l
   fine_formed o e = accepts_only l en m (form_last true o e)
 
-  formless : Openable l en m → (Form l → ⊥) → (loading l en m).answer.verdict ≡ Refused BadImage
+  formless : Openable l en m → (Form l → ⊥) → (loading l en m).answer.verdict ≡ Err BadImage
   formless o w = go (formed_of (facts_of (part_in l)) l) refl
     where
-      go : (b : Bool) → formed_of (facts_of (part_in l)) l ≡ b → (loading l en m).answer.verdict ≡ Refused BadImage
+      go : (b : Bool) → formed_of (facts_of (part_in l)) l ≡ b → (loading l en m).answer.verdict ≡ Err BadImage
       go true e = absurd (w (fine_formed o e))
       go false e = form_last false o e
 

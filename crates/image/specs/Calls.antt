@@ -1,10 +1,9 @@
 -- What `save` and `load` answer and leave, for refused input too (document 01, 'The image' and 'Refusal numbers').
 -- Assumes nothing.
-use Rattle.std.specs.Prelude.{ℕ, false, not, cond, List, ◌++◌, length, drop, ltb}
+use Rattle.std.specs.Prelude.{ℕ, false, not, cond, List, ◌++◌, length, drop, ltb, Ok, Err}
 use Rattle.parts.specs.declared.Facts.{Facts}
 use Rattle.parts.specs.declared.Refusal.TheVariants.{WrongEnable, BadState, ShortBuffer, BadImage}
-use Rattle.parts.specs.declared.Verdict.{Verdict}
-use Rattle.parts.specs.declared.Verdict.TheVariants.{Fine, Refused}
+use Rattle.parts.specs.Verdict.{Verdict}
 use Rattle.parts.specs.Table.{facts_of, enable_right_of}
 use Rattle.parts.specs.Refusals.{claim_of, sooner_of, lent_verdict_of}
 use Rattle.state.specs.declared.Chip.{Chip}
@@ -25,13 +24,13 @@ save_verdict_of part c n d room =
 
 -- of an image of n bytes
 abbrev pub saved_by : ℕ → Verdict → Saved
-saved_by n Fine = record { verdict = Fine; length = n }
-saved_by n (Refused r) = record { verdict = Refused r; length = 0 }
+saved_by n (Ok _) = record { verdict = Ok tt; length = n }
+saved_by n (Err r) = record { verdict = Err r; length = 0 }
 
 -- bytes past the image keep their values
 abbrev pub out_by : List ℕ → ℕ → List ℕ → Verdict → List ℕ
-out_by image n out Fine = image ++ drop n out
-out_by image n out (Refused r) = out
+out_by image n out (Ok _) = image ++ drop n out
+out_by image n out (Err r) = out
 
 abbrev pub save_by : Facts → Verdict → Saved
 save_by f = saved_by (image_length_of f)
@@ -49,16 +48,16 @@ judged_of l enable n d =
     (claim_of (not (formed_of (facts_of (part_in l)) l)) BadImage))
 
 unfoldable pub load_verdict_of : List ℕ → ℕ → ℕ → ℕ → Verdict
-load_verdict_of l enable n d = cond (ltb (length l) 6) (Refused BadImage) (judged_of l enable n d)
+load_verdict_of l enable n d = cond (ltb (length l) 6) (Err BadImage) (judged_of l enable n d)
 
 -- a refused image answers its part byte, 0 where it has none, and an unlocked chip
 abbrev pub load_by : List ℕ → Verdict → Loaded
-load_by l Fine = record { verdict = Fine; part = part_in l; chip = standby_of (facts_of (part_in l)) (lock_in l) }
-load_by l (Refused r) = record { verdict = Refused r; part = part_in l; chip = standby_of (facts_of (part_in l)) false }
+load_by l (Ok _) = record { verdict = Ok tt; part = part_in l; chip = standby_of (facts_of (part_in l)) (lock_in l) }
+load_by l (Err r) = record { verdict = Err r; part = part_in l; chip = standby_of (facts_of (part_in l)) false }
 
 abbrev pub load_mem : List ℕ → Mem → Verdict → Mem
-load_mem l m Fine = stored_in (facts_of (part_in l)) l
-load_mem l m (Refused r) = m
+load_mem l m (Ok _) = stored_in (facts_of (part_in l)) l
+load_mem l m (Err r) = m
 
 -- ---- both whole: what is answered, and each lent byte after it
 

@@ -1,10 +1,9 @@
 -- Which number a save and a load give, by plain conditions, each with all earlier ones excluded (document 01, 'Refusal numbers' and
 -- 'The image'), and 0 where none applies. Said of any functions of the form, so that another order breaks it.
 -- Assumes nothing.
-use Rattle.std.specs.Prelude.{ℕ, ◌<◌, ◌≤◌, ◌≡◌, true, false, cond, List, length, ltb}
+use Rattle.std.specs.Prelude.{ℕ, ◌<◌, ◌≤◌, ◌≡◌, true, false, cond, List, length, ltb, Err}
 use Rattle.parts.specs.declared.Refusal.TheVariants.{ShortBuffer, BadImage}
-use Rattle.parts.specs.declared.Verdict.{Verdict}
-use Rattle.parts.specs.declared.Verdict.TheVariants.{Refused}
+use Rattle.parts.specs.Verdict.{Verdict}
 use Rattle.parts.specs.Table.{facts_of}
 use Rattle.parts.specs.Refusals.{verdict_number_of}
 use Rattle.state.specs.declared.Chip.{Chip}
@@ -71,7 +70,7 @@ saved_as v part c m out = record { answer = save_by (facts_of part) v; out = sav
 -- 6 before 1
 abbrev pub room_first : Saving
 room_first part c m out =
-    saved_as (cond (ltb (length out) (image_length_of (facts_of part))) (Refused ShortBuffer) (save_verdict_of part c (length m.cells) (length m.ident) (length out)))
+    saved_as (cond (ltb (length out) (image_length_of (facts_of part))) (Err ShortBuffer) (save_verdict_of part c (length m.cells) (length m.ident) (length out)))
     part c m out
 
 abbrev pub RoomFirstBreaks : Type 0
@@ -83,7 +82,7 @@ loaded_as v l enable m = record { answer = load_by l v; stored = load_mem l m v 
 -- 12 before 1
 abbrev pub form_first : Loading
 form_first l enable m =
-    loaded_as (cond (formed_of (facts_of (part_in l)) l) (load_verdict_of l enable (length m.cells) (length m.ident)) (Refused BadImage))
+    loaded_as (cond (formed_of (facts_of (part_in l)) l) (load_verdict_of l enable (length m.cells) (length m.ident)) (Err BadImage))
     l enable m
 
 abbrev pub FormFirstBreaks : Type 0

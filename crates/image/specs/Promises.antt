@@ -1,11 +1,10 @@
 -- What is promised of saving and loading (document 01, 'The image'), stated over any pair of them. `saving` and `loading`, which the
 -- contracts of `save` and `load` cite, keep it: proofs/Kept.antt.
 -- Assumes nothing.
-use Rattle.std.specs.Prelude.{ℕ, ◌≤◌, ◌≡◌, Bool, true, List, ◌++◌, length, take, drop}
+use Rattle.std.specs.Prelude.{ℕ, ◌≤◌, ◌≡◌, Bool, true, List, ◌++◌, length, take, drop, Ok}
 use Rattle.parts.specs.declared.Loss.TheVariants.{Old}
 use Rattle.parts.specs.declared.Event.TheVariants.{Reset}
 use Rattle.parts.specs.declared.Facts.{Facts}
-use Rattle.parts.specs.declared.Verdict.TheVariants.{Fine}
 use Rattle.parts.specs.Table.{facts_of, id_size_of, enable_right_of}
 use Rattle.state.specs.declared.Chip.{Chip}
 use Rattle.state.specs.Range.{in_range_of}
@@ -51,25 +50,25 @@ GivesBack save load =
     → BuffersFit part m
     → BuffersFit part old
     → image_length_of (facts_of part) ≤ length out
-    → ((save part c m out).answer.verdict ≡ Fine)
-    × (load (take (save part c m out).answer.length (save part c m out).out) enable old ≡ record { answer = record { verdict = Fine; part = part; chip = standby_of (facts_of part) c.line.core.locked }; stored = m })
+    → ((save part c m out).answer.verdict ≡ Ok tt)
+    × (load (take (save part c m out).answer.length (save part c m out).out) enable old ≡ record { answer = record { verdict = Ok tt; part = part; chip = standby_of (facts_of part) c.line.core.locked }; stored = m })
 
 -- saving what was loaded gives the same image, and leaves the bytes past it
 abbrev pub SavesSame : Saving → Loading → Type 0
 SavesSame save load =
     (l : List ℕ) (enable : ℕ) (old : Mem) (out : List ℕ)
-    → (load l enable old).answer.verdict ≡ Fine
+    → (load l enable old).answer.verdict ≡ Ok tt
     → length l ≤ length out
-    → save (load l enable old).answer.part (load l enable old).answer.chip (load l enable old).stored out ≡ record { answer = record { verdict = Fine; length = length l }; out = l ++ drop (length l) out }
+    → save (load l enable old).answer.part (load l enable old).answer.chip (load l enable old).stored out ≡ record { answer = record { verdict = Ok tt; length = length l }; out = l ++ drop (length l) out }
 
 -- only what has the form of the document is accepted, with any enable and any buffers
 abbrev pub AcceptsOnly : Loading → Type 0
-AcceptsOnly load = (l : List ℕ) (enable : ℕ) (old : Mem) → (load l enable old).answer.verdict ≡ Fine → Form l
+AcceptsOnly load = (l : List ℕ) (enable : ℕ) (old : Mem) → (load l enable old).answer.verdict ≡ Ok tt → Form l
 
 -- and all that has it is, with an enable and buffers right for its part byte
 abbrev pub AcceptsAll : Loading → Type 0
 AcceptsAll load =
-    (l : List ℕ) (enable : ℕ) (old : Mem) → Form l → enable_right_of (facts_of (part_in l)) enable ≡ true → BuffersFit (part_in l) old → (load l enable old).answer.verdict ≡ Fine
+    (l : List ℕ) (enable : ℕ) (old : Mem) → Form l → enable_right_of (facts_of (part_in l)) enable ≡ true → BuffersFit (part_in l) old → (load l enable old).answer.verdict ≡ Ok tt
 
 -- "without latches": of the chip only the lock is saved, whatever transfer or cycle it is in
 abbrev pub SavesLockOnly : Saving → Type 0

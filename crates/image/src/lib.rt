@@ -12,6 +12,7 @@ use state::Chip;
 
 const VERSION: u8 = 1;
 
+// No Result: the clause `answer` of `save` says what a refused call hands back.
 #[derive(Clone, Copy)]
 pub struct Saved {
     pub verdict: Verdict,
@@ -19,6 +20,7 @@ pub struct Saved {
     pub length: usize,
 }
 
+// No Result: the clause `answer` of `load` gives a refused call the image's part and a chip in standby.
 #[derive(Clone, Copy)]
 pub struct Loaded {
     pub verdict: Verdict,
@@ -33,9 +35,8 @@ pub fn image_length(part: u8) -> usize
     ensures { result ≡ image_length_of (facts_of part) }
 {
     let f = parts::facts_of(part);
-    let size = f.size;
     let own = parts::id_size(f);
-    7 + size + own
+    7 + f.size + own
 }
 
 // ---- saving
@@ -43,8 +44,7 @@ pub fn image_length(part: u8) -> usize
 fn head(part: u8, lock: bool) -> [u8; 7]
     ensures { result ≡ image_head_of part lock }
 {
-    let flag = parts::flag(lock);
-    [0x45, 0x50, 0x52, 0x00, VERSION, part, flag]
+    [b'E', b'P', b'R', 0, VERSION, part, parts::flag(lock)]
 }
 
 pub fn save_verdict(part: u8, chip: Chip, n: usize, d: usize, room: usize) -> Verdict
@@ -77,20 +77,17 @@ pub fn save(part: u8, chip: Chip, array: &[u8], id: &[u8], out: &mut [u8]) -> Sa
     ensures answer { result ≡ (saving part chip (mem array.now id.now) out.old).answer }
     ensures bytes { out.new ≡ (saving part chip (mem array.now id.now) out.old).out }
 {
-    let verdict = save_verdict(part, chip, array.len(), id.len(), out.len());
-    let line = chip.line;
-    let core = line.core;
-    let lock = core.locked;
-    match verdict {
-        Verdict::Fine => {
+    let lock = chip.line.core.locked;
+    match save_verdict(part, chip, array.len(), id.len(), out.len()) {
+        Ok(()) => {
             write(part, lock, array, id, out);
             Saved {
-                verdict: Verdict::Fine,
+                verdict: Ok(()),
                 length: image_length(part),
             }
         }
-        Verdict::Refused(r) => Saved {
-            verdict: Verdict::Refused(r),
+        Err(r) => Saved {
+            verdict: Err(r),
             length: 0,
         },
     }
@@ -112,50 +109,36 @@ pub fn lock_in(image: &[u8]) -> bool
 }
 
 // The mark `EPR` and the version, whose high byte is 0.
+#[tactic(auto, unfolding(crate::specs::Layout::mark_right_of))]
 fn mark_right(version: u8, image: &[u8]) -> bool
     ensures { result ≡ mark_right_of version image.now }
 {
-    if parts::byte_at(image, 0) != 0x45 {
-        return false;
-    }
-    if parts::byte_at(image, 1) != 0x50 {
-        return false;
-    }
-    if parts::byte_at(image, 2) != 0x52 {
-        return false;
-    }
-    if parts::byte_at(image, 3) != 0x00 {
-        return false;
-    }
-    parts::byte_at(image, 4) == version
+    parts::byte_at(image, 0) == b'E'
+        && parts::byte_at(image, 1) == b'P'
+        && parts::byte_at(image, 2) == b'R'
+        && parts::byte_at(image, 3) == 0
+        && parts::byte_at(image, 4) == version
 }
 
+#[tactic(auto, unfolding(crate::specs::Layout::lock_byte_right_of))]
 fn lock_byte_right(part: u8, byte: u8) -> bool
     ensures { result ≡ lock_byte_right_of (facts_of part) byte }
 {
-    let f = parts::facts_of(part);
-    if byte == 0 {
-        return true;
+    match byte {
+        0 => true,
+        1 => parts::facts_of(part).ident,
+        _ => false,
     }
-    if byte == 1 {
-        return f.ident;
-    }
-    false
 }
 
 // Whether the image is one of a version, whose images of the part have `need` bytes.
+#[tactic(auto, unfolding(crate::specs::Layout::formed_as))]
 pub fn formed(version: u8, need: usize, part: u8, image: &[u8]) -> bool
     ensures { result ≡ formed_as version need (facts_of part) image.now }
 {
-    if image.len() != need {
-        return false;
-    }
-    let marked = mark_right(version, image);
-    if marked {
-        let flag = parts::byte_at(image, 6);
-        return lock_byte_right(part, flag);
-    }
-    false
+    image.len() == need
+        && mark_right(version, image)
+        && lock_byte_right(part, parts::byte_at(image, 6))
 }
 
 // Which refusal an image is given that holds its part byte.
@@ -176,7 +159,7 @@ fn load_verdict(image: &[u8], enable: u8, n: usize, d: usize) -> Verdict
     ensures { result ≡ load_verdict_of image.now enable n d }
 {
     if image.len() < 6 {
-        return Verdict::Refused(Refusal::BadImage);
+        return Err(Refusal::BadImage);
     }
     judged(image, enable, n, d)
 }
@@ -198,21 +181,20 @@ pub fn load(image: &[u8], enable: u8, array: &mut [u8], id: &mut [u8]) -> Loaded
     ensures cells { array.new ≡ (loading image.now enable (mem array.old id.old)).stored.cells }
     ensures ident { id.new ≡ (loading image.now enable (mem array.old id.old)).stored.ident }
 {
-    let verdict = load_verdict(image, enable, array.len(), id.len());
     let part = part_in(image);
-    match verdict {
-        Verdict::Fine => {
+    match load_verdict(image, enable, array.len(), id.len()) {
+        Ok(()) => {
             let lock = lock_in(image);
             fill(part, image, array, id);
             Loaded {
-                verdict: Verdict::Fine,
-                part: part,
+                verdict: Ok(()),
+                part,
                 chip: chip::standby(part, lock),
             }
         }
-        Verdict::Refused(r) => Loaded {
-            verdict: Verdict::Refused(r),
-            part: part,
+        Err(r) => Loaded {
+            verdict: Err(r),
+            part,
             chip: chip::standby(part, false),
         },
     }

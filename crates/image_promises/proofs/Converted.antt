@@ -1,5 +1,6 @@
 -- The promises of the conversions are kept.
 -- Assumes nothing.
+use Rattle.std.specs.Prelude.{Ok}
 use Prim.Native.Nat.{ℕ, ◌≤◌}
 use mathlib.Core.Path.{◌≡◌, ◌∙◌, sym, ap, refl, subst}
 use mathlib.Core.Bool.{Bool, true, false}
@@ -8,7 +9,6 @@ use mathlib.Core.Logic.{inl, inr}
 use native.Mathlib.Omega.{arith}
 use lib.ListN.{length, replicate, length-replicate}
 use Rattle.parts.specs.declared.Refusal.TheVariants.{CountsLost}
-use Rattle.parts.specs.declared.Verdict.TheVariants.{Fine}
 use Rattle.parts.specs.Table.{facts_of, groups_of}
 use Rattle.parts.specs.Bytes.{word_end}
 use Rattle.parts.proofs.Claims.{refused_not}
@@ -49,7 +49,7 @@ module _ (part : ℕ) (lock : Bool) (m : Mem) (s : Sane part lock m) where
   worn_form =
       record { part = part; lock = lock; stored = m; counts = zeros part; sane = s; counted = counted; below = zeros_below (groups_of (facts_of part)) word_end (omega arith); bytes = refl }
 
-  there_fine : (out : List ℕ) → worn_length_of (facts_of part) ≤ length out → (to_worn_of plain out).answer.verdict ≡ Fine
+  there_fine : (out : List ℕ) → worn_length_of (facts_of part) ≤ length out → (to_worn_of plain out).answer.verdict ≡ Ok tt
   there_fine out room =
       let p = sym (part_of_image part lock m) in
       (to_worn_numbers plain out).none
@@ -62,7 +62,7 @@ module _ (part : ℕ) (lock : Bool) (m : Mem) (s : Sane part lock m) where
       ∙ (λ i. wrote (worn_from (facts_of (p i)) plain) (worn_length_of (facts_of (p i))) out)
       ∙ (λ i. wrote (worn_from_plain part lock m i) (worn_length_of (facts_of part)) out)
 
-  back_fine : (out : List ℕ) → image_length_of (facts_of part) ≤ length out → (to_plain_of worn out).answer.verdict ≡ Fine
+  back_fine : (out : List ℕ) → image_length_of (facts_of part) ≤ length out → (to_plain_of worn out).answer.verdict ≡ Ok tt
   unfolding worn_form
   back_fine out room =
       let p = sym (part_of_worn part lock m (zeros part)) in
@@ -135,6 +135,6 @@ loses_nothing l plain f room =
       lost = λ w. back_keeps l plain CountsLost (back_formed l plain false r f (some_told f.counts w));
     }
   where
-    only : Roomy (image_length_of (facts_of (part_in l))) l plain → (b : Bool) → all_zero_of f.counts ≡ b → (to_plain_of l plain).answer.verdict ≡ Fine → NoneWorn f.counts
+    only : Roomy (image_length_of (facts_of (part_in l))) l plain → (b : Bool) → all_zero_of f.counts ≡ b → (to_plain_of l plain).answer.verdict ≡ Ok tt → NoneWorn f.counts
     only r true e h = told_none f.counts e
     only r false e h = refused_not (sym (back_formed l plain false r f e) ∙ h)

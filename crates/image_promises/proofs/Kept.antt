@@ -1,5 +1,6 @@
 -- The promises of saving and loading are kept.
 -- Assumes nothing.
+use Rattle.std.specs.Prelude.{Ok, Err}
 use Prim.Native.Nat.{ℕ, ◌≤◌}
 use mathlib.Core.Path.{◌≡◌, ◌∙◌, sym, ap, refl}
 use mathlib.Core.Bool.{Bool, true, false, not, cond}
@@ -10,8 +11,7 @@ use lib.Seq.{take_at, take_all}
 use lib.Dec.{ltb}
 use borrow.Author.Tests.{le-ltb, eq-eqb}
 use Rattle.parts.specs.declared.Refusal.TheVariants.{NoPart, WrongEnable, BadImage}
-use Rattle.parts.specs.declared.Verdict.{Verdict}
-use Rattle.parts.specs.declared.Verdict.TheVariants.{Fine, Refused}
+use Rattle.parts.specs.Verdict.{Verdict}
 use Rattle.parts.specs.Table.{facts_of, groups_of, enable_right_of}
 use Rattle.parts.specs.Refusals.{rank_of, claim_of, sooner_of, lent_verdict_of}
 use Rattle.parts.proofs.Laws.{sound, passed, buffers_right_lem}
@@ -68,9 +68,9 @@ again part lock m counts out s k room =
 
 pub saves_same_worn : SavesSameWorn saving_worn loading_worn
 saves_same_worn l enable old was out f h room =
-    let j : load_worn_verdict_of l enable (length old.cells) (length old.ident) (length was) ≡ Fine = sym (load_verdict l _) ∙ h in
+    let j : load_worn_verdict_of l enable (length old.cells) (length old.ident) (length was) ≡ (Ok tt) = sym (load_verdict l _) ∙ h in
     let read : loading_worn l enable old was ≡ holding f.part f.lock f.stored f.counts =
-    ap (load_worn_by l old was) j ∙ ap (λ (x : List ℕ). load_worn_by x old was Fine) f.bytes
+    ap (load_worn_by l old was) j ∙ ap (λ (x : List ℕ). load_worn_by x old was (Ok tt)) f.bytes
     ∙ read_worn f.part f.lock f.stored f.sane.fits old was f.counts f.counted f.below in
     let long : length l ≡ worn_length_of (facts_of f.part) = worn_long l f ∙ ap (λ (p : ℕ). worn_length_of (facts_of p)) (worn_part l f) in
     ap (λ (r : AfterLoadWorn). saving_worn r.answer.part r.answer.chip r.stored r.counts out) read
@@ -87,7 +87,7 @@ pub record Took (l : List ℕ) (enable : ℕ) (m : Mem) (counts : List ℕ) : Ty
   pub counted : CountsFit (part_in l) counts
   pub formed : either_formed_of (part_in l) l ≡ true
 
-pub took : (l : List ℕ) (enable : ℕ) (m : Mem) (counts : List ℕ) → (loading_worn l enable m counts).answer.verdict ≡ Fine → Took l enable m counts
+pub took : (l : List ℕ) (enable : ℕ) (m : Mem) (counts : List ℕ) → (loading_worn l enable m counts).answer.verdict ≡ Ok tt → Took l enable m counts
 unfolding load_worn_verdict_of judged_worn_of
 took l enable m counts h =
     let v = (passed (ltb (length l) 6) _ _ (sym (load_verdict l _) ∙ h)).1 in
@@ -109,7 +109,7 @@ accepts_only_worn l enable m counts b h = let t = took l enable m counts h in ei
 
 -- the reader of version 1 finds all right but the form
 old_verdict : (l : List ℕ) (enable : ℕ) (m : Mem) → WornForm l → enable_right_of (facts_of (part_in l)) enable ≡ true → BuffersFit (part_in l) m
-    → load_verdict_of l enable (length m.cells) (length m.ident) ≡ Refused BadImage
+    → load_verdict_of l enable (length m.cells) (length m.ident) ≡ Err BadImage
 unfolding load_verdict_of judged_of sooner_of image_length_of worn_length_of
 old_verdict l enable m f e o =
     let f' = facts_of (part_in l) in
@@ -142,7 +142,7 @@ module _ (l : List ℕ) (enable n d k : ℕ) (other : version_in l ≡ 0x02 → 
     where
       go : (b : Bool) → (facts_of (part_in l)).known ≡ b → sooner_of (counts_verdict_of (facts_of (part_in l)) k) (sooner_of (lent_verdict_of (facts_of (part_in l)) n d) rest) ≡ sooner_of (lent_verdict_of (facts_of (part_in l)) n d) rest
       go true e =
-          let right : counts_verdict_of (facts_of (part_in l)) k ≡ Fine = rw (eq-eqb k (groups_of (facts_of (part_in l))) fits, e) refl in
+          let right : counts_verdict_of (facts_of (part_in l)) k ≡ (Ok tt) = rw (eq-eqb k (groups_of (facts_of (part_in l))) fits, e) refl in
           ap (λ (v : Verdict). sooner_of v (sooner_of (lent_verdict_of (facts_of (part_in l)) n d) rest)) right
       go false e =
           let later = later_sooner (rank_of NoPart) (claim_of (not (enable_right_of (facts_of (part_in l)) enable)) WrongEnable) (claim_of (not (formed_of (facts_of (part_in l)) l)) BadImage) (later_claim _ (not (enable_right_of (facts_of (part_in l)) enable)) WrongEnable (omega arith)) (later_claim _ (not (formed_of (facts_of (part_in l)) l)) BadImage (omega arith)) in
@@ -151,7 +151,7 @@ module _ (l : List ℕ) (enable n d k : ℕ) (other : version_in l ≡ 0x02 → 
 
   one_verdict : load_worn_verdict_of l enable n d k ≡ load_verdict_of l enable n d
   unfolding load_worn_verdict_of judged_worn_of load_verdict_of judged_of
-  one_verdict = ap (cond (ltb (length l) 6) (Refused BadImage)) (rw one_form unheard)
+  one_verdict = ap (cond (ltb (length l) 6) (Err BadImage)) (rw one_form unheard)
 
 pub plain_loads_zero : PlainLoadsZero loading_worn loading
 plain_loads_zero l enable m counts other fits =
@@ -162,8 +162,8 @@ plain_loads_zero l enable m counts other fits =
     zeroed v = record { answer = load_by l v; stored = load_mem l m v; counts = counts_by (zeros (part_in l)) counts (load_by l v).verdict }
 
     go : (v : Verdict) → load_verdict_of l enable (length m.cells) (length m.ident) ≡ v → load_worn_by l m counts v ≡ zeroed v
-    go Fine e =
+    go (Ok _) e =
         let long = (load_fine l enable (length m.cells) (length m.ident) e).long in
         let all : plain_in (facts_of (part_in l)) l ≡ l = take_all (image_length_of (facts_of (part_in l))) l (omega (arith, long)) in
-        λ i. record { answer = load_by l Fine; stored = stored_in (facts_of (part_in l)) (all i); counts = sym (plain_counts (facts_of (part_in l)) l (groups_of (facts_of (part_in l))) other refl) i }
-    go (Refused r) e = refl
+        λ i. record { answer = load_by l (Ok tt); stored = stored_in (facts_of (part_in l)) (all i); counts = sym (plain_counts (facts_of (part_in l)) l (groups_of (facts_of (part_in l))) other refl) i }
+    go (Err r) e = refl

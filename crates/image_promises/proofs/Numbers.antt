@@ -1,5 +1,6 @@
 -- The refusals are given in the order of the documents.
 -- Assumes nothing.
+use Rattle.std.specs.Prelude.{Ok, Err}
 use Prim.Native.Nat.{ℕ, ◌<◌, ◌≤◌}
 use mathlib.Core.Path.{◌≡◌, refl, ap, ◌∙◌}
 use mathlib.Core.Bool.{Bool, true, false, not}
@@ -10,8 +11,7 @@ use lib.ListN.{length}
 use lib.Dec.{ltb}
 use borrow.Author.Tests.{lt-ltb, le-ltb}
 use Rattle.parts.specs.declared.Refusal.TheVariants.{NoPart, WrongEnable, WrongBuffer, BadState, ShortBuffer, BadImage}
-use Rattle.parts.specs.declared.Verdict.{Verdict}
-use Rattle.parts.specs.declared.Verdict.TheVariants.{Fine, Refused}
+use Rattle.parts.specs.Verdict.{Verdict}
 use Rattle.parts.specs.Table.{facts_of, enable_right_of}
 use Rattle.parts.specs.Bytes.{AllBelow}
 use Rattle.parts.specs.Refusals.{rank_of, claim_of, sooner_of, lent_verdict_of}
@@ -34,8 +34,8 @@ use Rattle.image_promises.proofs.Either.{either_formed, either_form}
 
 -- the verdict that is answered is the one that was judged
 pub saved_verdict : (n : ℕ) (v : Verdict) → (saved_by n v).verdict ≡ v
-saved_verdict n Fine = refl
-saved_verdict n (Refused r) = refl
+saved_verdict n (Ok _) = refl
+saved_verdict n (Err r) = refl
 
 -- ---- what is lent
 
@@ -46,7 +46,7 @@ module _ (part : ℕ) (m : Mem) (counts : List ℕ) where
   lent_fits : (v : Verdict) → part ≤ 5 → LentFit part m counts → lent v ≡ v
   lent_fits v k t = lent_0 (facts_of part) (length m.cells) (length m.ident) (length counts) (known part k) v t.0.cells t.0.ident t.1
 
-  lent_wrong : (v : Verdict) → Later (rank_of WrongBuffer) v → part ≤ 5 → (LentFit part m counts → ⊥) → lent v ≡ Refused WrongBuffer
+  lent_wrong : (v : Verdict) → Later (rank_of WrongBuffer) v → part ≤ 5 → (LentFit part m counts → ⊥) → lent v ≡ Err WrongBuffer
   lent_wrong v h k w =
       lent_3 (facts_of part) (length m.cells) (length m.ident) (length counts) (known part k) v h (λ p. w (record { cells = p.0; ident = p.1 }, p.2))
 
@@ -87,14 +87,14 @@ pub save_worn_numbers : SaveWornNumbers saving_worn
 unfolding sooner_of
 save_worn_numbers part c m counts out =
     record {
-      no_part = λ h. saved part c m counts out (Refused NoPart)
+      no_part = λ h. saved part c m counts out (Err NoPart)
           (lent_1 (facts_of part) (length m.cells) (length m.ident) (length counts) _ (unknown part h) (later_state part c m counts out _ (omega arith)));
-      wrong_buffer = λ k w. saved part c m counts out (Refused WrongBuffer) (lent_wrong part m counts _ (later_state part c m counts out _ (omega arith)) k w);
-      bad_state = λ k t o. saved part c m counts out (Refused BadState)
+      wrong_buffer = λ k w. saved part c m counts out (Err WrongBuffer) (lent_wrong part m counts _ (later_state part c m counts out _ (omega arith)) k w);
+      bad_state = λ k t o. saved part c m counts out (Err BadState)
           (lent_fits part m counts _ k t ∙ ap (λ (b : Bool). sooner_of (claim_of (not b) BadState) (short part c m counts out)) o
           ∙ given_first BadState (short part c m counts out) (later_short part c m counts out _ (omega arith)));
-      short_buffer = λ s h. saved part c m counts out (Refused ShortBuffer) (roomy part c m counts out true s (lt-ltb (length out) (worn_length_of (facts_of part)) h));
-      none = λ s h. saved part c m counts out Fine (roomy part c m counts out false s (le-ltb (length out) (worn_length_of (facts_of part)) h));
+      short_buffer = λ s h. saved part c m counts out (Err ShortBuffer) (roomy part c m counts out true s (lt-ltb (length out) (worn_length_of (facts_of part)) h));
+      none = λ s h. saved part c m counts out (Ok tt) (roomy part c m counts out false s (le-ltb (length out) (worn_length_of (facts_of part)) h));
     }
 
 -- ---- loading
@@ -109,9 +109,9 @@ module _ (l : List ℕ) (en : ℕ) (m : Mem) (counts : List ℕ) where
   answered : (v : Verdict) → load_worn_verdict_of l en (length m.cells) (length m.ident) (length counts) ≡ v → (loading_worn l en m counts).answer.verdict ≡ v
   answered v h = load_verdict l (load_worn_verdict_of l en (length m.cells) (length m.ident) (length counts)) ∙ h
 
-  unnamed : length l < 6 → (loading_worn l en m counts).answer.verdict ≡ Refused BadImage
+  unnamed : length l < 6 → (loading_worn l en m counts).answer.verdict ≡ Err BadImage
   unfolding load_worn_verdict_of
-  unnamed h = answered (Refused BadImage) (rw (lt-ltb (length l) 6 h) refl)
+  unnamed h = answered (Err BadImage) (rw (lt-ltb (length l) 6 h) refl)
 
   held : (v : Verdict) → 6 ≤ length l → lent (part_in l) m counts (sooner_of enable form) ≡ v → (loading_worn l en m counts).answer.verdict ≡ v
   unfolding load_worn_verdict_of judged_worn_of
@@ -123,7 +123,7 @@ module _ (l : List ℕ) (en : ℕ) (m : Mem) (counts : List ℕ) where
   later_enable : (k : ℕ) → k ≤ rank_of WrongEnable → Later k (sooner_of enable form)
   later_enable k h = later_sooner k enable form (later_claim k (not (enable_right_of (facts_of (part_in l)) en)) WrongEnable h) (later_form k (omega (arith, h)))
 
-  no_enable : (facts_of (part_in l)).enables ≤ en → sooner_of enable form ≡ Refused WrongEnable
+  no_enable : (facts_of (part_in l)).enables ≤ en → sooner_of enable form ≡ Err WrongEnable
   unfolding enable_right_of
   no_enable o =
       ap (λ (b : Bool). sooner_of (claim_of (not b) WrongEnable) form) (le-ltb en (facts_of (part_in l)).enables o)
@@ -139,10 +139,10 @@ module _ (l : List ℕ) (en : ℕ) (m : Mem) (counts : List ℕ) where
       held (claim_of (not b) BadImage) o.named
       (lent_fits (part_in l) m counts (sooner_of enable form) o.known o.fits ∙ enabled o.enabled ∙ ap (λ (x : Bool). claim_of (not x) BadImage) e)
 
-  formless : AllBelow 256 l → Openable l en m counts → (Form l ⊎ WornForm l → ⊥) → (loading_worn l en m counts).answer.verdict ≡ Refused BadImage
+  formless : AllBelow 256 l → Openable l en m counts → (Form l ⊎ WornForm l → ⊥) → (loading_worn l en m counts).answer.verdict ≡ Err BadImage
   formless b o w = go (either_formed_of (part_in l) l) refl
     where
-      go : (x : Bool) → either_formed_of (part_in l) l ≡ x → (loading_worn l en m counts).answer.verdict ≡ Refused BadImage
+      go : (x : Bool) → either_formed_of (part_in l) l ≡ x → (loading_worn l en m counts).answer.verdict ≡ Err BadImage
       go true e = absurd (w (either_form l b (known (part_in l) o.known) e))
       go false e = opened false o e
 
@@ -150,12 +150,12 @@ pub load_worn_numbers : LoadWornNumbers loading_worn
 load_worn_numbers l en m counts b =
     record {
       no_part_byte = unnamed l en m counts;
-      no_part = λ h k. held l en m counts (Refused NoPart) h
+      no_part = λ h k. held l en m counts (Err NoPart) h
           (lent_1 (facts_of (part_in l)) (length m.cells) (length m.ident) (length counts) _ (unknown (part_in l) k) (later_enable l en m counts _ (omega arith)));
-      wrong_enable = λ h k o. held l en m counts (Refused WrongEnable) h
+      wrong_enable = λ h k o. held l en m counts (Err WrongEnable) h
           (ap (lent (part_in l) m counts) (no_enable l en m counts o)
           ∙ lent_2 (facts_of (part_in l)) (length m.cells) (length m.ident) (length counts) (known (part_in l) k));
-      wrong_buffer = λ h k e w. held l en m counts (Refused WrongBuffer) h
+      wrong_buffer = λ h k e w. held l en m counts (Err WrongBuffer) h
           (ap (lent (part_in l) m counts) (enabled l en m counts e) ∙ lent_wrong (part_in l) m counts _ (later_form l en m counts _ (omega arith)) k w);
       bad_image = formless l en m counts b;
       none = λ o f. opened l en m counts true o (either_formed l f);

@@ -1,5 +1,6 @@
 -- Ours keep the promises, and whoever else does is ours.
 -- Assumes nothing.
+use Rattle.std.specs.Prelude.{Ok, Err}
 use Prim.Native.Nat.{ℕ, ◌≤◌}
 use mathlib.Core.Path.{◌≡◌, ◌∙◌, sym, ap, refl, subst}
 use mathlib.Core.Bool.{true}
@@ -7,8 +8,7 @@ use mathlib.Core.List.{List}
 use mathlib.Core.Logic.{◌⊎◌, inl, inr}
 use native.Mathlib.Omega.{arith}
 use lib.ListN.{length}
-use Rattle.parts.specs.declared.Verdict.{Verdict}
-use Rattle.parts.specs.declared.Verdict.TheVariants.{Fine, Refused}
+use Rattle.parts.specs.Verdict.{Verdict}
 use Rattle.parts.specs.Table.{facts_of, enable_right_of}
 use Rattle.parts.specs.Bytes.{AllBelow}
 use Rattle.state.specs.declared.Chip.{Chip}
@@ -52,8 +52,8 @@ pinned_save S p part c m counts out =
   where
     by : (v : Verdict) → (saving_worn part c m counts out).answer.verdict ≡ v → (S part c m counts out).answer.verdict ≡ (saving_worn part c m counts out).answer.verdict
         → S part c m counts out ≡ saving_worn part c m counts out
-    by Fine h e = p.layout part c m counts out (e ∙ h) ∙ sym (layout_written part c m counts out h)
-    by (Refused r) h e = p.keeps part c m counts out r (e ∙ h) ∙ sym (save_keeps part c m counts out r h)
+    by (Ok _) h e = p.layout part c m counts out (e ∙ h) ∙ sym (layout_written part c m counts out h)
+    by (Err r) h e = p.keeps part c m counts out r (e ∙ h) ∙ sym (save_keeps part c m counts out r h)
 
 -- ---- loading
 
@@ -77,8 +77,8 @@ module _ (L : LoadingWorn) (p : WornLoader L) (l : List ℕ) (enable : ℕ) (m :
     where
       by : (v : Verdict) → (loading_worn l enable m counts).answer.verdict ≡ v → (L l enable m counts).answer.verdict ≡ (loading_worn l enable m counts).answer.verdict
           → L l enable m counts ≡ loading_worn l enable m counts
-      by Fine h e = load_fine (took l enable m counts h) (accepts_only_worn l enable m counts bytes h)
-      by (Refused r) h e = p.keeps l enable m counts r (e ∙ h) ∙ sym (load_keeps l enable m counts r h)
+      by (Ok _) h e = load_fine (took l enable m counts h) (accepts_only_worn l enable m counts bytes h)
+      by (Err r) h e = p.keeps l enable m counts r (e ∙ h) ∙ sym (load_keeps l enable m counts r h)
 
 -- ---- conversions
 
@@ -94,8 +94,8 @@ module _ (C : Converting) (l out : List ℕ) where
   pinned_there p = by (to_worn_of l out).answer.verdict refl (one_worn_number.there C to_worn_of p.numbers to_worn_numbers l out)
     where
       by : (v : Verdict) → (to_worn_of l out).answer.verdict ≡ v → (C l out).answer.verdict ≡ (to_worn_of l out).answer.verdict → C l out ≡ to_worn_of l out
-      by Fine h e = there_fine p.layout (there_had l out h)
-      by (Refused r) h e = p.keeps l out r (e ∙ h) ∙ sym (there_keeps l out r h)
+      by (Ok _) h e = there_fine p.layout (there_had l out h)
+      by (Err r) h e = p.keeps l out r (e ∙ h) ∙ sym (there_keeps l out r h)
 
   back_fine : ConvertsBack C → BackHad l out → C l out ≡ to_plain_of l out
   back_fine p k =
@@ -109,8 +109,8 @@ module _ (C : Converting) (l out : List ℕ) where
   pinned_back p bytes = by (to_plain_of l out).answer.verdict refl (one_worn_number.back C to_plain_of p.numbers to_plain_numbers l out bytes)
     where
       by : (v : Verdict) → (to_plain_of l out).answer.verdict ≡ v → (C l out).answer.verdict ≡ (to_plain_of l out).answer.verdict → C l out ≡ to_plain_of l out
-      by Fine h e = back_fine p.layout (back_had l out bytes h)
-      by (Refused r) h e = p.keeps l out r (e ∙ h) ∙ sym (back_keeps l out r h)
+      by (Ok _) h e = back_fine p.layout (back_had l out bytes h)
+      by (Err r) h e = p.keeps l out r (e ∙ h) ∙ sym (back_keeps l out r h)
 
 pub worn_pinned : WornPinned
 worn_pinned =

@@ -1,5 +1,6 @@
 -- Loading before and after a conversion gives the same.
 -- Assumes nothing.
+use Rattle.std.specs.Prelude.{Ok, Err}
 use Prim.Native.Nat.{ℕ, ◌≤◌}
 use mathlib.Core.Path.{◌≡◌, ◌∙◌, sym, ap, refl, subst}
 use mathlib.Core.Bool.{Bool, true, false, not}
@@ -10,8 +11,7 @@ use lib.ListN.{length}
 use lib.Dec.{ltb}
 use borrow.Author.Tests.{ltb-false, le-ltb}
 use Rattle.parts.specs.declared.Refusal.TheVariants.{NoPart, ShortBuffer, BadImage, CountsLost}
-use Rattle.parts.specs.declared.Verdict.{Verdict}
-use Rattle.parts.specs.declared.Verdict.TheVariants.{Fine, Refused}
+use Rattle.parts.specs.Verdict.{Verdict}
 use Rattle.parts.specs.Table.{facts_of, groups_of}
 use Rattle.parts.specs.Bytes.{AllBelow, word_end}
 use Rattle.parts.specs.Refusals.{claim_of}
@@ -37,7 +37,7 @@ use Rattle.image_promises.proofs.Converted.{plain_form, worn_form, counted, ther
 -- two images of one part, both formed, that are read alike
 alike : (l k : List ℕ) (enable : ℕ) (m : Mem) (counts : List ℕ)
     → part_in l ≡ part_in k → 6 ≤ length l → 6 ≤ length k → either_formed_of (part_in l) l ≡ true → either_formed_of (part_in k) k ≡ true
-    → load_worn_by l m counts Fine ≡ load_worn_by k m counts Fine
+    → load_worn_by l m counts (Ok tt) ≡ load_worn_by k m counts (Ok tt)
     → loading_worn l enable m counts ≡ loading_worn k enable m counts
 unfolding load_worn_verdict_of judged_worn_of
 alike l k enable m counts p a b f g e =
@@ -47,8 +47,8 @@ alike l k enable m counts p a b f g e =
     by (load_worn_verdict_of l enable n d (length counts)) ∙ ap (load_worn_by k m counts) v
   where
     by : (v : Verdict) → load_worn_by l m counts v ≡ load_worn_by k m counts v
-    by Fine = e
-    by (Refused r) = λ i. record { answer = record { verdict = Refused r; part = p i; chip = standby_of (facts_of (p i)) false }; stored = m; counts = counts }
+    by (Ok _) = e
+    by (Err r) = λ i. record { answer = record { verdict = Err r; part = p i; chip = standby_of (facts_of (p i)) false }; stored = m; counts = counts }
 
 module _ (part : ℕ) (lock : Bool) (m : Mem) (s : Sane part lock m) (enable : ℕ) (old : Mem) (was : List ℕ) where
   both_read : loading_worn (worn_image_of part lock m (zeros part)) enable old was ≡ loading_worn (image_of part lock m) enable old was
@@ -61,7 +61,7 @@ module _ (part : ℕ) (lock : Bool) (m : Mem) (s : Sane part lock m) (enable : �
       ∙ sym (read_plain part lock m s.fits old was))
 
 -- what a conversion that is done has
-pub there_had : (l out : List ℕ) → (to_worn_of l out).answer.verdict ≡ Fine → Form l × (worn_length_of (facts_of (part_in l)) ≤ length out)
+pub there_had : (l out : List ℕ) → (to_worn_of l out).answer.verdict ≡ Ok tt → Form l × (worn_length_of (facts_of (part_in l)) ≤ length out)
 unfolding to_worn_verdict_of
 there_had l out h =
     let v = (passed (ltb (length l) 6) _ _ (sym (saved_verdict (worn_length_of (facts_of (part_in l))) _) ∙ h)).1 in
@@ -86,7 +86,7 @@ pub record BackHad (l out : List ℕ) : Type 0 where
   pub none : NoneWorn form.counts
   pub room : image_length_of (facts_of (part_in l)) ≤ length out
 
-pub back_had : (l out : List ℕ) → AllBelow 256 l → (to_plain_of l out).answer.verdict ≡ Fine → BackHad l out
+pub back_had : (l out : List ℕ) → AllBelow 256 l → (to_plain_of l out).answer.verdict ≡ Ok tt → BackHad l out
 unfolding to_plain_verdict_of
 back_had l out b h =
     let v = (passed (ltb (length l) 6) _ _ (sym (saved_verdict (image_length_of (facts_of (part_in l))) _) ∙ h)).1 in

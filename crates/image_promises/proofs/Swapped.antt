@@ -1,5 +1,6 @@
 -- A box that is swapped keeps its history, whoever counts, saves and loads.
 -- Assumes nothing.
+use Rattle.std.specs.Prelude.{Ok}
 use Prim.Native.Nat.{ℕ, ◌+◌, ◌<◌}
 use mathlib.Core.Path.{◌≡◌, ◌∙◌, sym, ap, refl, subst}
 use mathlib.Core.Bool.{Bool}
@@ -7,7 +8,6 @@ use mathlib.Core.List.{[]}
 use native.Mathlib.Nat.{add_assoc}
 use lib.ListN.{get_or}
 use Rattle.parts.specs.declared.Facts.{Facts}
-use Rattle.parts.specs.declared.Verdict.TheVariants.{Fine}
 use Rattle.parts.specs.Table.{facts_of, groups_of}
 use Rattle.parts.specs.Bytes.{topped}
 use Rattle.line.specs.declared.Phase.TheVariants.{Idle}
@@ -32,7 +32,7 @@ swap_keeps_history R save load history gives part here there c m old counts was 
     let h = history part here c m counts first idle held in
     let box : AfterLoadWorn = load (made_by (save part one.chip one.mem one.counts out)) there old was in
     let lock = one.chip.line.core.locked in
-    let back : AfterLoadWorn = record { answer = record { verdict = Fine; part = part; chip = standby_of f lock }; stored = one.mem; counts = one.counts } in
+    let back : AfterLoadWorn = record { answer = record { verdict = Ok tt; part = part; chip = standby_of f lock }; stored = one.mem; counts = one.counts } in
     let same : box ≡ back = (gives part there one.chip one.mem old one.counts was out known e ranged t o h.0.size h.0.wide w room).1 in
     let Says : AfterLoadWorn → Type 0 = λ b. (n : ℕ) → n < groups_of f → get_or (wears_on R part there b second).counts n 0
     ≡ topped (get_or counts n 0 + (times_of f (watch_at c) [] one.events one.levels n + times_of f (watch_at b.answer.chip) [] (wears_on R part there b second).events (wears_on R part there b second).levels n)) in

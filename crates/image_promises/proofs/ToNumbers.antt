@@ -1,5 +1,6 @@
 -- The refusals of the conversions are given in the order of the documents.
 -- Assumes nothing.
+use Rattle.std.specs.Prelude.{Err}
 use Prim.Native.Nat.{ℕ, ◌<◌, ◌≤◌}
 use mathlib.Core.Path.{◌≡◌, refl, ap, ◌∙◌}
 use mathlib.Core.Bool.{Bool, true, false, not}
@@ -9,8 +10,7 @@ use lib.ListN.{length}
 use lib.Dec.{ltb}
 use borrow.Author.Tests.{lt-ltb, le-ltb}
 use Rattle.parts.specs.declared.Refusal.TheVariants.{NoPart, ShortBuffer, BadImage, CountsLost}
-use Rattle.parts.specs.declared.Verdict.{Verdict}
-use Rattle.parts.specs.declared.Verdict.TheVariants.{Refused}
+use Rattle.parts.specs.Verdict.{Verdict}
 use Rattle.parts.specs.Table.{facts_of}
 use Rattle.parts.specs.Bytes.{AllBelow}
 use Rattle.parts.specs.Refusals.{rank_of, claim_of, sooner_of}
@@ -43,9 +43,9 @@ module _ (l out : List ℕ) where
   there_answered : (v : Verdict) → to_worn_verdict_of l (length out) ≡ v → (to_worn_of l out).answer.verdict ≡ v
   there_answered v e = saved_verdict (worn_length_of (facts_of (part_in l))) (to_worn_verdict_of l (length out)) ∙ e
 
-  there_unnamed : length l < 6 → (to_worn_of l out).answer.verdict ≡ Refused BadImage
+  there_unnamed : length l < 6 → (to_worn_of l out).answer.verdict ≡ Err BadImage
   unfolding to_worn_verdict_of
-  there_unnamed h = there_answered (Refused BadImage) (rw (lt-ltb (length l) 6 h) refl)
+  there_unnamed h = there_answered (Err BadImage) (rw (lt-ltb (length l) 6 h) refl)
 
   there_held : (v : Verdict) → 6 ≤ length l → there_is ≡ v → (to_worn_of l out).answer.verdict ≡ v
   unfolding to_worn_verdict_of
@@ -56,10 +56,10 @@ module _ (l out : List ℕ) where
       there_held (claim_of (not b) BadImage) r.named
       (room_0 _ _ plain later_plain (known (part_in l) r.known) (le-ltb (length out) (worn_length_of (facts_of (part_in l))) r.room) ∙ ap (λ (x : Bool). claim_of (not x) BadImage) e)
 
-  there_formless : Roomy (worn_length_of (facts_of (part_in l))) l out → (Form l → ⊥) → (to_worn_of l out).answer.verdict ≡ Refused BadImage
+  there_formless : Roomy (worn_length_of (facts_of (part_in l))) l out → (Form l → ⊥) → (to_worn_of l out).answer.verdict ≡ Err BadImage
   there_formless r w = go (formed_of (facts_of (part_in l)) l) refl
     where
-      go : (x : Bool) → formed_of (facts_of (part_in l)) l ≡ x → (to_worn_of l out).answer.verdict ≡ Refused BadImage
+      go : (x : Bool) → formed_of (facts_of (part_in l)) l ≡ x → (to_worn_of l out).answer.verdict ≡ Err BadImage
       go true e = absurd (w (is_form l (known (part_in l) r.known) e))
       go false e = there_formed false r e
 
@@ -67,8 +67,8 @@ pub to_worn_numbers : ToWornNumbers to_worn_of
 to_worn_numbers l out =
     record {
       no_part_byte = there_unnamed l out;
-      no_part = λ h k. there_held l out (Refused NoPart) h (room_1 _ (ltb (length out) (worn_length_of (facts_of (part_in l)))) (plain l out) (later_plain l out) (unknown (part_in l) k));
-      short_buffer = λ h k s. there_held l out (Refused ShortBuffer) h
+      no_part = λ h k. there_held l out (Err NoPart) h (room_1 _ (ltb (length out) (worn_length_of (facts_of (part_in l)))) (plain l out) (later_plain l out) (unknown (part_in l) k));
+      short_buffer = λ h k s. there_held l out (Err ShortBuffer) h
           (room_6 _ _ (plain l out) (later_plain l out) (known (part_in l) k) (lt-ltb (length out) (worn_length_of (facts_of (part_in l))) s));
       bad_image = there_formless l out;
       none = λ r f. there_formed l out true r (form_formed l f);
@@ -96,9 +96,9 @@ module _ (l out : List ℕ) where
   back_answered : (v : Verdict) → to_plain_verdict_of l (length out) ≡ v → (to_plain_of l out).answer.verdict ≡ v
   back_answered v e = saved_verdict (image_length_of (facts_of (part_in l))) (to_plain_verdict_of l (length out)) ∙ e
 
-  back_unnamed : length l < 6 → (to_plain_of l out).answer.verdict ≡ Refused BadImage
+  back_unnamed : length l < 6 → (to_plain_of l out).answer.verdict ≡ Err BadImage
   unfolding to_plain_verdict_of
-  back_unnamed h = back_answered (Refused BadImage) (rw (lt-ltb (length l) 6 h) refl)
+  back_unnamed h = back_answered (Err BadImage) (rw (lt-ltb (length l) 6 h) refl)
 
   back_held : (v : Verdict) → 6 ≤ length l → back_is_lem ≡ v → (to_plain_of l out).answer.verdict ≡ v
   unfolding to_plain_verdict_of
@@ -109,13 +109,13 @@ module _ (l out : List ℕ) where
       back_held v r.named
       (room_0 _ _ (sooner_of malformed lost) later_malformed (known (part_in l) r.known) (le-ltb (length out) (image_length_of (facts_of (part_in l))) r.room) ∙ e)
 
-  back_formless : AllBelow 256 l → Roomy (image_length_of (facts_of (part_in l))) l out → (WornForm l → ⊥) → (to_plain_of l out).answer.verdict ≡ Refused BadImage
+  back_formless : AllBelow 256 l → Roomy (image_length_of (facts_of (part_in l))) l out → (WornForm l → ⊥) → (to_plain_of l out).answer.verdict ≡ Err BadImage
   back_formless b r w = go (worn_formed_of (facts_of (part_in l)) l) refl
     where
-      go : (x : Bool) → worn_formed_of (facts_of (part_in l)) l ≡ x → (to_plain_of l out).answer.verdict ≡ Refused BadImage
+      go : (x : Bool) → worn_formed_of (facts_of (part_in l)) l ≡ x → (to_plain_of l out).answer.verdict ≡ Err BadImage
       go true e = absurd (w (is_worn l (known (part_in l) r.known) e b))
       go false e =
-          back_roomy (Refused BadImage) r
+          back_roomy (Err BadImage) r
           (ap (λ (x : Bool). sooner_of (claim_of (not x) BadImage) lost) e ∙ given_first BadImage lost (later_lost _ (omega arith)))
 
   -- nothing but the counts is left to judge
@@ -131,8 +131,8 @@ pub to_plain_numbers : ToPlainNumbers to_plain_of
 to_plain_numbers l out b =
     record {
       no_part_byte = back_unnamed l out;
-      no_part = λ h k. back_held l out (Refused NoPart) h (room_1 _ (ltb (length out) (image_length_of (facts_of (part_in l)))) (sooner_of (malformed l out) (lost l out)) (later_malformed l out) (unknown (part_in l) k));
-      short_buffer = λ h k s. back_held l out (Refused ShortBuffer) h
+      no_part = λ h k. back_held l out (Err NoPart) h (room_1 _ (ltb (length out) (image_length_of (facts_of (part_in l)))) (sooner_of (malformed l out) (lost l out)) (later_malformed l out) (unknown (part_in l) k));
+      short_buffer = λ h k s. back_held l out (Err ShortBuffer) h
           (room_6 _ _ (sooner_of (malformed l out) (lost l out)) (later_malformed l out) (known (part_in l) k) (lt-ltb (length out) (image_length_of (facts_of (part_in l))) s));
       bad_image = back_formless l out b;
       counts_lost = λ r f w. back_formed l out false r f (some_told f.counts w);

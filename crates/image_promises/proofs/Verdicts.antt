@@ -1,5 +1,6 @@
 -- Which verdict is given where a part, buffers and counts are lent.
 -- Assumes nothing.
+use Rattle.std.specs.Prelude.{Ok, Err}
 use Prim.Native.Nat.{ℕ, ◌≤◌}
 use mathlib.Core.Path.{◌≡◌, ◌∙◌, ap, refl}
 use mathlib.Core.Bool.{Bool, true, false, not, cond}
@@ -9,8 +10,7 @@ use borrow.Author.Tests.{eqb-true, eq-eqb, lt-ltb, ltb-true, ltb-false}
 use Rattle.parts.specs.declared.Facts.{Facts}
 use Rattle.parts.specs.declared.Refusal.{Refusal}
 use Rattle.parts.specs.declared.Refusal.TheVariants.{NoPart, WrongEnable, WrongBuffer, ShortBuffer}
-use Rattle.parts.specs.declared.Verdict.{Verdict}
-use Rattle.parts.specs.declared.Verdict.TheVariants.{Fine, Refused}
+use Rattle.parts.specs.Verdict.{Verdict}
 use Rattle.parts.specs.Table.{id_size_of, groups_of, buffers_right_of}
 use Rattle.parts.specs.Refusals.{rank_of, claim_of, sooner_of, lent_verdict_of}
 use Rattle.parts.proofs.Laws.{buffers_right_lem, buffers_wrong}
@@ -21,7 +21,7 @@ use Rattle.wear.specs.Calls.{counts_verdict_of}
 
 module _ (r s t : Refusal) where
   abbrev first_of : Bool → Bool → Bool → Type 0
-  first_of sr ts tr = sooner_of (cond sr (Refused s) (Refused r)) (Refused t) ≡ sooner_of (Refused r) (cond ts (Refused t) (Refused s))
+  first_of sr ts tr = sooner_of (cond sr (Err s) (Err r)) (Err t) ≡ sooner_of (Err r) (cond ts (Err t) (Err s))
 
   of_three : (sr ts tr : Bool) → ltb (rank_of s) (rank_of r) ≡ sr → ltb (rank_of t) (rank_of s) ≡ ts → ltb (rank_of t) (rank_of r) ≡ tr → first_of sr ts tr
   unfolding sooner_of
@@ -34,14 +34,14 @@ module _ (r s t : Refusal) where
 
 pub sooner_either : (a b c : Verdict) → sooner_of (sooner_of a b) c ≡ sooner_of a (sooner_of b c)
 unfolding sooner_of
-sooner_either Fine b c = refl
-sooner_either (Refused r) Fine c = refl
-sooner_either (Refused r) (Refused s) Fine = by (ltb (rank_of s) (rank_of r))
+sooner_either (Ok _) b c = refl
+sooner_either (Err r) (Ok _) c = refl
+sooner_either (Err r) (Err s) (Ok _) = by (ltb (rank_of s) (rank_of r))
   where
-    by : (x : Bool) → sooner_of (cond x (Refused s) (Refused r)) Fine ≡ cond x (Refused s) (Refused r)
+    by : (x : Bool) → sooner_of (cond x (Err s) (Err r)) (Ok tt) ≡ cond x (Err s) (Err r)
     by true = refl
     by false = refl
-sooner_either (Refused r) (Refused s) (Refused t) =
+sooner_either (Err r) (Err s) (Err t) =
     of_three r s t (ltb (rank_of s) (rank_of r)) (ltb (rank_of t) (rank_of s)) (ltb (rank_of t) (rank_of r)) refl refl refl
 
 -- ---- 1 and 3, of the two buffers and the counts, before what else is claimed
@@ -50,16 +50,16 @@ module _ (f : Facts) (n d k : ℕ) where
   abbrev pub lent_all : Verdict → Verdict
   lent_all v = sooner_of (counts_verdict_of f k) (sooner_of (lent_verdict_of f n d) v)
 
-  counts_1 : f.known ≡ false → counts_verdict_of f k ≡ Refused NoPart
+  counts_1 : f.known ≡ false → counts_verdict_of f k ≡ Err NoPart
   unfolding counts_verdict_of
   counts_1 u =
       ap (λ (b : Bool). sooner_of (claim_of (not b) NoPart) (claim_of (not (eqb k (groups_of f))) WrongBuffer)) u
       ∙ given_first NoPart (claim_of (not (eqb k (groups_of f))) WrongBuffer) (later_claim _ (not (eqb k (groups_of f))) WrongBuffer (omega arith))
 
-  pub lent_1 : (v : Verdict) → f.known ≡ false → Later (rank_of NoPart) v → lent_all v ≡ Refused NoPart
+  pub lent_1 : (v : Verdict) → f.known ≡ false → Later (rank_of NoPart) v → lent_all v ≡ Err NoPart
   lent_1 v u h =
-      let a : sooner_of (lent_verdict_of f n d) v ≡ Refused NoPart = ap (λ (w : Verdict). sooner_of w v) (lent_unknown f n d u) ∙ given_first NoPart v h in
-      (λ i. sooner_of (counts_1 u i) (a i)) ∙ given_first NoPart (Refused NoPart) (omega arith)
+      let a : sooner_of (lent_verdict_of f n d) v ≡ Err NoPart = ap (λ (w : Verdict). sooner_of w v) (lent_unknown f n d u) ∙ given_first NoPart v h in
+      (λ i. sooner_of (counts_1 u i) (a i)) ∙ given_first NoPart (Err NoPart) (omega arith)
 
   -- of a part that there is
   known_all : (v : Verdict) → f.known ≡ true
@@ -68,7 +68,7 @@ module _ (f : Facts) (n d k : ℕ) where
   known_all v u = rw u refl
 
 -- 2 goes before 3
-two_first : (b c : Bool) → sooner_of (claim_of b WrongBuffer) (sooner_of (claim_of c WrongBuffer) (Refused WrongEnable)) ≡ Refused WrongEnable
+two_first : (b c : Bool) → sooner_of (claim_of b WrongBuffer) (sooner_of (claim_of c WrongBuffer) (Err WrongEnable)) ≡ Err WrongEnable
 unfolding sooner_of
 two_first true true = refl
 two_first true false = refl
@@ -77,18 +77,18 @@ two_first false false = refl
 
 -- either of two is enough
 one_wrong : (b c : Bool) (v : Verdict) → Later (rank_of WrongBuffer) v → cond b c false ≡ false
-    → sooner_of (claim_of (not b) WrongBuffer) (sooner_of (claim_of (not c) WrongBuffer) v) ≡ Refused WrongBuffer
+    → sooner_of (claim_of (not b) WrongBuffer) (sooner_of (claim_of (not c) WrongBuffer) v) ≡ Err WrongBuffer
 unfolding sooner_of
 one_wrong true true v h e = cc
 one_wrong true false v h e = given_first WrongBuffer v h
 one_wrong false true v h e = given_first WrongBuffer v h
-one_wrong false false v h e = ap (λ (w : Verdict). sooner_of (Refused WrongBuffer) w) (given_first WrongBuffer v h)
+one_wrong false false v h e = ap (λ (w : Verdict). sooner_of (Err WrongBuffer) w) (given_first WrongBuffer v h)
 
 module _ (f : Facts) (n d k : ℕ) (known : f.known ≡ true) where
-  pub lent_2 : lent_all f n d k (Refused WrongEnable) ≡ Refused WrongEnable
-  lent_2 = known_all f n d k (Refused WrongEnable) known ∙ two_first (not (eqb k (groups_of f))) (not (buffers_right_of f n d))
+  pub lent_2 : lent_all f n d k (Err WrongEnable) ≡ Err WrongEnable
+  lent_2 = known_all f n d k (Err WrongEnable) known ∙ two_first (not (eqb k (groups_of f))) (not (buffers_right_of f n d))
 
-  pub lent_3 : (v : Verdict) → Later (rank_of WrongBuffer) v → ((n ≡ f.size) × (d ≡ id_size_of f) × (k ≡ groups_of f) → ⊥) → lent_all f n d k v ≡ Refused WrongBuffer
+  pub lent_3 : (v : Verdict) → Later (rank_of WrongBuffer) v → ((n ≡ f.size) × (d ≡ id_size_of f) × (k ≡ groups_of f) → ⊥) → lent_all f n d k v ≡ Err WrongBuffer
   lent_3 v h w = known_all f n d k v known ∙ one_wrong (eqb k (groups_of f)) (buffers_right_of f n d) v h (wrong (eqb k (groups_of f)) refl)
     where
       wrong : (b : Bool) → eqb k (groups_of f) ≡ b → cond b (buffers_right_of f n d) false ≡ false
@@ -102,20 +102,20 @@ module _ (f : Facts) (n d k : ℕ) (known : f.known ≡ true) where
 -- ---- 1 and 6 of a conversion, before what else is claimed
 
 later_than : (k j : ℕ) (v : Verdict) → k ≤ j → Later j v → Later k v
-later_than k j Fine h g = tt
-later_than k j (Refused r) h g = omega (arith, h, g)
+later_than k j (Ok _) h g = tt
+later_than k j (Err r) h g = omega (arith, h, g)
 
 module _ (known short : Bool) (v : Verdict) (later : Later (rank_of ShortBuffer) v) where
   abbrev pub room_for : Verdict
   room_for = sooner_of (claim_of (not known) NoPart) (sooner_of (claim_of short ShortBuffer) v)
 
-  pub room_1 : known ≡ false → room_for ≡ Refused NoPart
+  pub room_1 : known ≡ false → room_for ≡ Err NoPart
   room_1 u =
       ap (λ (b : Bool). sooner_of (claim_of (not b) NoPart) (sooner_of (claim_of short ShortBuffer) v)) u
       ∙ given_first NoPart (sooner_of (claim_of short ShortBuffer) v)
       (later_sooner (rank_of NoPart) (claim_of short ShortBuffer) v (later_claim (rank_of NoPart) short ShortBuffer (omega arith)) (later_than (rank_of NoPart) (rank_of ShortBuffer) v (omega arith) later))
 
-  pub room_6 : known ≡ true → short ≡ true → room_for ≡ Refused ShortBuffer
+  pub room_6 : known ≡ true → short ≡ true → room_for ≡ Err ShortBuffer
   unfolding sooner_of
   room_6 u s =
       (λ i. sooner_of (claim_of (not (u i)) NoPart) (sooner_of (claim_of (s i) ShortBuffer) v)) ∙ given_first ShortBuffer v later

@@ -1,13 +1,13 @@
 -- The worst that a load answers is what the walk finds, through a save and through both conversions.
 -- Assumes nothing.
+use Rattle.std.specs.Prelude.{Ok, Err}
 use Prim.Native.Nat.{ℕ, zero, suc}
 use mathlib.Core.Path.{◌≡◌, ◌∙◌, refl, sym, ap}
 use mathlib.Core.List.{List, [], ◌∷◌}
 use native.Mathlib.Omega.{arith}
 use lib.ListN.{length, replicate}
 use borrow.Author.Tests.{le-ltb}
-use Rattle.parts.specs.declared.Verdict.{Verdict}
-use Rattle.parts.specs.declared.Verdict.TheVariants.{Fine, Refused}
+use Rattle.parts.specs.Verdict.{Verdict}
 use Rattle.parts.specs.Table.{facts_of, groups_of}
 use Rattle.chip.specs.Memory.{Mem}
 use Rattle.image.specs.Layout.{part_in}
@@ -53,8 +53,8 @@ none_loaded : (l : List ℕ) (enable : ℕ) (m : Mem) (counts : List ℕ) → No
 none_loaded l enable m counts h = go (load_worn_verdict_of l enable (length m.cells) (length m.ident) (length counts))
   where
     go : (v : Verdict) → (kept_at (load_worn_by l m counts v)).worst ≡ most 0 0
-    go Fine = most_none (counts_in (facts_of (part_in l)) l) 0 h
-    go (Refused r) = refl
+    go (Ok _) = most_none (counts_in (facts_of (part_in l)) l) 0 h
+    go (Err r) = refl
 
 plain_none : (l : List ℕ) → Form l → NoneWorn (counts_in (facts_of (part_in l)) l)
 unfolding counts_in
@@ -76,11 +76,11 @@ back_keeps_it l out enable m counts b h =
 abbrev saved : List ℕ
 saved = made_by (saving_worn 0 fresh (all 0) (two 1 0) buffer)
 
-back : (loading_worn saved 0 (all 0) (two 0 0)).answer.verdict ≡ Fine
+back : (loading_worn saved 0 (all 0) (two 0 0)).answer.verdict ≡ Ok tt
 back = ap (λ (x : AfterLoadWorn). x.answer.verdict) (gives_back_worn 0 0 fresh (all 0) (all 0) (two 1 0) (two 0 0) buffer known enabled ranged (fits 0) (fits 0) (counted 1 0) (below 1 0 (omega arith) (omega arith)) (counted 0 0) worn_room).1
 
 module _ (load : LoadingKept) (before : LoadAsBefore load) (finds : LoadFindsIt load) where
-  taken : (load saved 0 (all 0) (two 0 0)).load.answer.verdict ≡ Fine
+  taken : (load saved 0 (all 0) (two 0 0)).load.answer.verdict ≡ Ok tt
   taken = ap (λ (x : AfterLoadWorn). x.answer.verdict) (before saved 0 (all 0) (two 0 0)) ∙ back
 
   one : (load saved 0 (all 0) (two 0 0)).worst ≡ most_of (two 1 0)

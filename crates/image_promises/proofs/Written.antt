@@ -1,5 +1,6 @@
 -- The layout is the one of `worn_image_of`, and what is refused leaves all as it was.
 -- Assumes nothing.
+use Rattle.std.specs.Prelude.{Ok, Err}
 use Prim.Native.Nat.{ℕ}
 use mathlib.Core.Path.{◌≡◌, ◌∙◌, sym, ap, refl, subst}
 use mathlib.Core.Bool.{Bool, true, false}
@@ -10,8 +11,7 @@ use lib.ListN.{length}
 use lib.Seq.{take_all}
 use borrow.Author.Tests.{ltb-true}
 use Rattle.parts.specs.declared.Refusal.{Refusal}
-use Rattle.parts.specs.declared.Verdict.{Verdict}
-use Rattle.parts.specs.declared.Verdict.TheVariants.{Fine, Refused}
+use Rattle.parts.specs.Verdict.{Verdict}
 use Rattle.parts.specs.Table.{facts_of, enable_right_of}
 use Rattle.parts.proofs.Claims.{refused_not}
 use Rattle.parts.specs.Bytes.{AllBelow, word_end}
@@ -37,13 +37,13 @@ use Rattle.image_promises.proofs.Numbers.{opened}
 abbrev pub after : List ℕ → ℕ → List ℕ → Verdict → AfterSave
 after bytes n out v = record { answer = saved_by n v; out = out_by bytes n out v }
 
-pub after_fine : (bytes : List ℕ) (n : ℕ) (out : List ℕ) (v : Verdict) → (after bytes n out v).answer.verdict ≡ Fine → after bytes n out v ≡ wrote bytes n out
-after_fine bytes n out Fine h = refl
-after_fine bytes n out (Refused r) h = refused_not h
+pub after_fine : (bytes : List ℕ) (n : ℕ) (out : List ℕ) (v : Verdict) → (after bytes n out v).answer.verdict ≡ Ok tt → after bytes n out v ≡ wrote bytes n out
+after_fine bytes n out (Ok _) h = refl
+after_fine bytes n out (Err r) h = refused_not h
 
-after_kept : (bytes : List ℕ) (n : ℕ) (out : List ℕ) (v : Verdict) (r : Refusal) → (after bytes n out v).answer.verdict ≡ Refused r → after bytes n out v ≡ kept_out out r
-after_kept bytes n out Fine r h = refused_not (sym h)
-after_kept bytes n out (Refused s) r h = λ i. record { answer = record { verdict = h i; length = 0 }; out = out }
+after_kept : (bytes : List ℕ) (n : ℕ) (out : List ℕ) (v : Verdict) (r : Refusal) → (after bytes n out v).answer.verdict ≡ Err r → after bytes n out v ≡ kept_out out r
+after_kept bytes n out (Ok _) r h = refused_not (sym h)
+after_kept bytes n out (Err s) r h = λ i. record { answer = record { verdict = h i; length = 0 }; out = out }
 
 pub layout_written : LayoutWritten saving_worn
 layout_written part c m counts out h =
@@ -63,10 +63,10 @@ back_keeps l out r h = after_kept (plain_from (facts_of (part_in l)) l) (image_l
 
 -- ---- whatever is read
 
-load_kept : (l : List ℕ) (m : Mem) (counts : List ℕ) (v : Verdict) (r : Refusal) → (load_worn_by l m counts v).answer.verdict ≡ Refused r
-    → load_worn_by l m counts v ≡ record { answer = record { verdict = Refused r; part = part_in l; chip = standby_of (facts_of (part_in l)) false }; stored = m; counts = counts }
-load_kept l m counts Fine r h = refused_not (sym h)
-load_kept l m counts (Refused s) r h =
+load_kept : (l : List ℕ) (m : Mem) (counts : List ℕ) (v : Verdict) (r : Refusal) → (load_worn_by l m counts v).answer.verdict ≡ Err r
+    → load_worn_by l m counts v ≡ record { answer = record { verdict = Err r; part = part_in l; chip = standby_of (facts_of (part_in l)) false }; stored = m; counts = counts }
+load_kept l m counts (Ok _) r h = refused_not (sym h)
+load_kept l m counts (Err s) r h =
     λ i. record { answer = record { verdict = h i; part = part_in l; chip = standby_of (facts_of (part_in l)) false }; stored = m; counts = counts }
 
 pub load_keeps : LoadKeeps loading_worn
@@ -74,15 +74,15 @@ load_keeps l enable m counts r h =
     load_kept l m counts (load_worn_verdict_of l enable (length m.cells) (length m.ident) (length counts)) r h
 
 abbrev pub holding : ℕ → Bool → Mem → List ℕ → AfterLoadWorn
-holding part lock m counts = record { answer = record { verdict = Fine; part = part; chip = standby_of (facts_of part) lock }; stored = m; counts = counts }
+holding part lock m counts = record { answer = record { verdict = Ok tt; part = part; chip = standby_of (facts_of part) lock }; stored = m; counts = counts }
 
 -- what a formed image of either version is read as, where it is not refused
 read_at : (l : List ℕ) (part : ℕ) → part_in l ≡ part → (m : Mem) (counts : List ℕ)
-    → load_worn_by l m counts Fine ≡ holding part (lock_in l) (stored_in (facts_of part) (plain_in (facts_of part) l)) (counts_in (facts_of part) l)
+    → load_worn_by l m counts (Ok tt) ≡ holding part (lock_in l) (stored_in (facts_of part) (plain_in (facts_of part) l)) (counts_in (facts_of part) l)
 read_at l part e m counts = λ i. holding (e i) (lock_in l) (stored_in (facts_of (e i)) (plain_in (facts_of (e i)) l)) (counts_in (facts_of (e i)) l)
 
 module _ (part : ℕ) (lock : Bool) (m : Mem) (t : BuffersFit part m) (old : Mem) (was : List ℕ) where
-  pub read_worn : (counts : List ℕ) → CountsFit part counts → AllBelow word_end counts → load_worn_by (worn_image_of part lock m counts) old was Fine ≡ holding part lock m counts
+  pub read_worn : (counts : List ℕ) → CountsFit part counts → AllBelow word_end counts → load_worn_by (worn_image_of part lock m counts) old was (Ok tt) ≡ holding part lock m counts
   read_worn counts k b =
       read_at (worn_image_of part lock m counts) part (part_of_worn part lock m counts) old was
       ∙ (λ i. holding part (lock_of_worn part lock m counts i) (stored_of_worn part lock m counts t i) (counts_of_worn part lock m counts t k b i))
@@ -94,7 +94,7 @@ module _ (part : ℕ) (lock : Bool) (m : Mem) (t : BuffersFit part m) (old : Mem
   unfolding counts_in version_in image_of
   no_counts = refl
 
-  pub read_plain : load_worn_by (image_of part lock m) old was Fine ≡ holding part lock m (zeros part)
+  pub read_plain : load_worn_by (image_of part lock m) old was (Ok tt) ≡ holding part lock m (zeros part)
   read_plain =
       read_at (image_of part lock m) part (part_of_image part lock m) old was
       ∙ (λ i. holding part (lock_of_image part lock m i) ((ap (stored_in (facts_of part)) whole ∙ stored_of_image part lock m t) i) (no_counts i))
@@ -113,5 +113,5 @@ layout_read part enable lock m old counts was s k b e o w =
     let p : part ≡ part_in l = sym (part_of_worn part lock m counts) in
     let f : WornForm l = record { part = part; lock = lock; stored = m; counts = counts; sane = s; counted = k; below = b; bytes = refl } in
     let fine = accepts_all_worn l enable old was (inr f) (subst (λ (x : ℕ). enable_right_of (facts_of x) enable ≡ true) p e) (subst (λ (x : ℕ). BuffersFit x old) p o) (subst (λ (x : ℕ). CountsFit x was) p w) in
-    let v : load_worn_verdict_of l enable (length old.cells) (length old.ident) (length was) ≡ Fine = sym (load_verdict l _) ∙ fine in
+    let v : load_worn_verdict_of l enable (length old.cells) (length old.ident) (length was) ≡ (Ok tt) = sym (load_verdict l _) ∙ fine in
     ap (load_worn_by l old was) v ∙ read_worn part lock m s.fits old was counts k b

@@ -1,5 +1,6 @@
 -- Savers of another layout or length break the layout; and all wrong ways together.
 -- Assumes nothing.
+use Rattle.std.specs.Prelude.{Ok}
 use Prim.Native.Nat.{ℕ, ◌-◌}
 use mathlib.Core.Path.{◌≡◌, ◌∙◌, sym, ap, refl}
 use mathlib.Core.Bool.{Bool}
@@ -8,7 +9,6 @@ use native.Mathlib.Omega.{arith}
 use lib.ListN.{length, get_or, drop, replicate, length-append}
 use lib.Seq.{drop-append-le}
 use Rattle.parts.specs.declared.Facts.{Facts}
-use Rattle.parts.specs.declared.Verdict.TheVariants.{Fine}
 use Rattle.parts.specs.Table.{facts_of}
 use Rattle.parts.specs.Bytes.{words_of}
 use Rattle.chip.specs.Memory.{Mem}
@@ -29,7 +29,7 @@ module _ (bytes : ℕ → Bool → Mem → List ℕ → List ℕ) (long : Facts 
   abbrev lock : Bool
   lock = fresh.line.core.locked
 
-  judged : save_worn_verdict_of 0 fresh (length (all v).cells) (length (all v).ident) (length (two x 0)) (length buffer) ≡ Fine
+  judged : save_worn_verdict_of 0 fresh (length (all v).cells) (length (all v).ident) (length (two x 0)) (length buffer) ≡ Ok tt
   judged =
       sym (saved_verdict (worn_length_of (facts_of 0)) (save_worn_verdict_of 0 fresh (length (all v).cells) (length (all v).ident) (length (two x 0)) (length buffer)))
       ∙ (save_worn_numbers 0 fresh (all v) (two x 0) buffer).none record { known = omega arith; fits = (fits v, counted x 0); ranged = ranged } worn_room
@@ -38,7 +38,7 @@ module _ (bytes : ℕ → Bool → Mem → List ℕ → List ℕ) (long : Facts 
   same : LayoutWritten (saves_as bytes long) → (long (facts_of 0) ≡ worn_length_of (facts_of 0))
       × (bytes 0 lock (all v) (two x 0) ++ drop (long (facts_of 0)) buffer ≡ worn_image_of 0 lock (all v) (two x 0) ++ drop (worn_length_of (facts_of 0)) buffer)
   same kept =
-      let fine : (saves_as bytes long 0 fresh (all v) (two x 0) buffer).answer.verdict ≡ Fine = saved_verdict (long (facts_of 0)) _ ∙ judged in
+      let fine : (saves_as bytes long 0 fresh (all v) (two x 0) buffer).answer.verdict ≡ (Ok tt) = saved_verdict (long (facts_of 0)) _ ∙ judged in
       let e = kept 0 fresh (all v) (two x 0) buffer fine in
       (rw judged at (ap (λ (r : AfterSave). r.answer.length) e), rw judged at (ap (λ (r : AfterSave). r.out) e))
 

@@ -1,8 +1,7 @@
 -- Each byte of what is written, and of what is read: the layout of `worn_image_of` and no other. What is promised of a writer and a reader together
 -- would let both have another one.
 -- Assumes nothing.
-use Rattle.std.specs.Prelude.{ℕ, ◌+◌, ◌*◌, ◌/◌, ◌%◌, ◌<◌, ◌≤◌, ◌≡◌, Bool, true, List, [], ◌∷◌, ◌++◌, length, get_or, take, drop}
-use Rattle.parts.specs.declared.Verdict.TheVariants.{Fine}
+use Rattle.std.specs.Prelude.{ℕ, ◌+◌, ◌*◌, ◌/◌, ◌%◌, ◌<◌, ◌≤◌, ◌≡◌, Bool, true, List, [], ◌∷◌, ◌++◌, length, get_or, take, drop, Ok}
 use Rattle.parts.specs.Table.{facts_of, enable_right_of}
 use Rattle.parts.specs.Bytes.{flag_of, AllBelow, word_end}
 use Rattle.state.specs.declared.Chip.{Chip}
@@ -16,13 +15,13 @@ use Rattle.image_promises.specs.Form.{SavingWorn, LoadingWorn, Converting, Count
 
 -- these n bytes, and those past them as they were
 abbrev pub wrote : List ℕ → ℕ → List ℕ → AfterSave
-wrote bytes n out = record { answer = record { verdict = Fine; length = n }; out = bytes ++ drop n out }
+wrote bytes n out = record { answer = record { verdict = Ok tt; length = n }; out = bytes ++ drop n out }
 
 -- "adds the counts of §6 after the identification page, high byte first": the bytes and counts as they stand, whatever the chip is doing
 abbrev pub LayoutWritten : SavingWorn → Type 0
 LayoutWritten save =
     (part : ℕ) (c : Chip) (m : Mem) (counts out : List ℕ)
-    → (save part c m counts out).answer.verdict ≡ Fine
+    → (save part c m counts out).answer.verdict ≡ Ok tt
     → save part c m counts out ≡ wrote (worn_image_of part c.line.core.locked m counts) (worn_length_of (facts_of part)) out
 
 abbrev pub LayoutRead : LoadingWorn → Type 0
@@ -35,7 +34,7 @@ LayoutRead load =
     → BuffersFit part old
     → CountsFit part was
     → load (worn_image_of part lock m counts) enable old was
-    ≡ record { answer = record { verdict = Fine; part = part; chip = standby_of (facts_of part) lock }; stored = m; counts = counts }
+    ≡ record { answer = record { verdict = Ok tt; part = part; chip = standby_of (facts_of part) lock }; stored = m; counts = counts }
 
 -- "Version 1 files .. convert to version 2": the same bytes, with all counts zero
 abbrev pub ConvertsThere : Converting → Type 0

@@ -1,10 +1,9 @@
 -- Which refusal a call gives, by plain conditions, each with all earlier ones excluded, and none where none applies: "Refusals: 21 counts would be
 -- lost, after 12" (document 02, §7), beside those of document 01. Said of any functions of the form, so that another order breaks it.
 -- Assumes nothing.
-use Rattle.std.specs.Prelude.{ℕ, ◌<◌, ◌≤◌, ◌≡◌, true, false, List, ◌⊎◌, length}
+use Rattle.std.specs.Prelude.{ℕ, ◌<◌, ◌≤◌, ◌≡◌, true, false, List, ◌⊎◌, length, Ok, Err}
 use Rattle.parts.specs.declared.Refusal.TheVariants.{NoPart, WrongEnable, WrongBuffer, BadState, ShortBuffer, BadImage, CountsLost}
-use Rattle.parts.specs.declared.Verdict.{Verdict}
-use Rattle.parts.specs.declared.Verdict.TheVariants.{Fine, Refused}
+use Rattle.parts.specs.Verdict.{Verdict}
 use Rattle.parts.specs.Table.{facts_of}
 use Rattle.parts.specs.Bytes.{AllBelow}
 use Rattle.state.specs.declared.Chip.{Chip}
@@ -32,11 +31,11 @@ module _ (save : SavingWorn) (part : ℕ) (c : Chip) (m : Mem) (counts out : Lis
   save_worn_verdict = (save part c m counts out).answer.verdict
 
   pub record SaveWornNumber : Type 0 where
-    pub no_part : 5 < part → save_worn_verdict ≡ Refused NoPart
-    pub wrong_buffer : part ≤ 5 → (LentFit part m counts → ⊥) → save_worn_verdict ≡ Refused WrongBuffer
-    pub bad_state : part ≤ 5 → LentFit part m counts → in_range_of (facts_of part) c ≡ false → save_worn_verdict ≡ Refused BadState
-    pub short_buffer : Savable part c m counts → length out < worn_length_of (facts_of part) → save_worn_verdict ≡ Refused ShortBuffer
-    pub none : Savable part c m counts → worn_length_of (facts_of part) ≤ length out → save_worn_verdict ≡ Fine
+    pub no_part : 5 < part → save_worn_verdict ≡ Err NoPart
+    pub wrong_buffer : part ≤ 5 → (LentFit part m counts → ⊥) → save_worn_verdict ≡ Err WrongBuffer
+    pub bad_state : part ≤ 5 → LentFit part m counts → in_range_of (facts_of part) c ≡ false → save_worn_verdict ≡ Err BadState
+    pub short_buffer : Savable part c m counts → length out < worn_length_of (facts_of part) → save_worn_verdict ≡ Err ShortBuffer
+    pub none : Savable part c m counts → worn_length_of (facts_of part) ≤ length out → save_worn_verdict ≡ Ok tt
 
 abbrev pub SaveWornNumbers : SavingWorn → Type 0
 SaveWornNumbers save = (part : ℕ) (c : Chip) (m : Mem) (counts out : List ℕ) → SaveWornNumber save part c m counts out
@@ -55,14 +54,14 @@ module _ (load : LoadingWorn) (l : List ℕ) (enable : ℕ) (m : Mem) (counts : 
   load_worn_verdict = (load l enable m counts).answer.verdict
 
   pub record LoadWornNumber : Type 0 where
-    pub no_part_byte : length l < 6 → load_worn_verdict ≡ Refused BadImage
-    pub no_part : 6 ≤ length l → 5 < part_in l → load_worn_verdict ≡ Refused NoPart
-    pub wrong_enable : 6 ≤ length l → part_in l ≤ 5 → (facts_of (part_in l)).enables ≤ enable → load_worn_verdict ≡ Refused WrongEnable
+    pub no_part_byte : length l < 6 → load_worn_verdict ≡ Err BadImage
+    pub no_part : 6 ≤ length l → 5 < part_in l → load_worn_verdict ≡ Err NoPart
+    pub wrong_enable : 6 ≤ length l → part_in l ≤ 5 → (facts_of (part_in l)).enables ≤ enable → load_worn_verdict ≡ Err WrongEnable
     pub wrong_buffer : 6 ≤ length l → part_in l ≤ 5 → enable < (facts_of (part_in l)).enables → (LentFit (part_in l) m counts → ⊥)
-        → load_worn_verdict ≡ Refused WrongBuffer
+        → load_worn_verdict ≡ Err WrongBuffer
     -- neither of the two forms
-    pub bad_image : Openable l enable m counts → (Form l ⊎ WornForm l → ⊥) → load_worn_verdict ≡ Refused BadImage
-    pub none : Openable l enable m counts → Form l ⊎ WornForm l → load_worn_verdict ≡ Fine
+    pub bad_image : Openable l enable m counts → (Form l ⊎ WornForm l → ⊥) → load_worn_verdict ≡ Err BadImage
+    pub none : Openable l enable m counts → Form l ⊎ WornForm l → load_worn_verdict ≡ Ok tt
 
 abbrev pub LoadWornNumbers : LoadingWorn → Type 0
 LoadWornNumbers load = (l : List ℕ) (enable : ℕ) (m : Mem) (counts : List ℕ) → AllBelow 256 l → LoadWornNumber load l enable m counts
@@ -80,19 +79,19 @@ module _ (convert : Converting) (l out : List ℕ) where
   convert_verdict = (convert l out).answer.verdict
 
   pub record ToWornNumber : Type 0 where
-    pub no_part_byte : length l < 6 → convert_verdict ≡ Refused BadImage
-    pub no_part : 6 ≤ length l → 5 < part_in l → convert_verdict ≡ Refused NoPart
-    pub short_buffer : 6 ≤ length l → part_in l ≤ 5 → length out < worn_length_of (facts_of (part_in l)) → convert_verdict ≡ Refused ShortBuffer
-    pub bad_image : Roomy (worn_length_of (facts_of (part_in l))) l out → (Form l → ⊥) → convert_verdict ≡ Refused BadImage
-    pub none : Roomy (worn_length_of (facts_of (part_in l))) l out → Form l → convert_verdict ≡ Fine
+    pub no_part_byte : length l < 6 → convert_verdict ≡ Err BadImage
+    pub no_part : 6 ≤ length l → 5 < part_in l → convert_verdict ≡ Err NoPart
+    pub short_buffer : 6 ≤ length l → part_in l ≤ 5 → length out < worn_length_of (facts_of (part_in l)) → convert_verdict ≡ Err ShortBuffer
+    pub bad_image : Roomy (worn_length_of (facts_of (part_in l))) l out → (Form l → ⊥) → convert_verdict ≡ Err BadImage
+    pub none : Roomy (worn_length_of (facts_of (part_in l))) l out → Form l → convert_verdict ≡ Ok tt
 
   pub record ToPlainNumber : Type 0 where
-    pub no_part_byte : length l < 6 → convert_verdict ≡ Refused BadImage
-    pub no_part : 6 ≤ length l → 5 < part_in l → convert_verdict ≡ Refused NoPart
-    pub short_buffer : 6 ≤ length l → part_in l ≤ 5 → length out < image_length_of (facts_of (part_in l)) → convert_verdict ≡ Refused ShortBuffer
-    pub bad_image : Roomy (image_length_of (facts_of (part_in l))) l out → (WornForm l → ⊥) → convert_verdict ≡ Refused BadImage
-    pub counts_lost : Roomy (image_length_of (facts_of (part_in l))) l out → (f : WornForm l) → (NoneWorn f.counts → ⊥) → convert_verdict ≡ Refused CountsLost
-    pub none : Roomy (image_length_of (facts_of (part_in l))) l out → (f : WornForm l) → NoneWorn f.counts → convert_verdict ≡ Fine
+    pub no_part_byte : length l < 6 → convert_verdict ≡ Err BadImage
+    pub no_part : 6 ≤ length l → 5 < part_in l → convert_verdict ≡ Err NoPart
+    pub short_buffer : 6 ≤ length l → part_in l ≤ 5 → length out < image_length_of (facts_of (part_in l)) → convert_verdict ≡ Err ShortBuffer
+    pub bad_image : Roomy (image_length_of (facts_of (part_in l))) l out → (WornForm l → ⊥) → convert_verdict ≡ Err BadImage
+    pub counts_lost : Roomy (image_length_of (facts_of (part_in l))) l out → (f : WornForm l) → (NoneWorn f.counts → ⊥) → convert_verdict ≡ Err CountsLost
+    pub none : Roomy (image_length_of (facts_of (part_in l))) l out → (f : WornForm l) → NoneWorn f.counts → convert_verdict ≡ Ok tt
 
 abbrev pub ToWornNumbers : Converting → Type 0
 ToWornNumbers there = (l out : List ℕ) → ToWornNumber there l out

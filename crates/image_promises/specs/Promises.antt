@@ -1,10 +1,9 @@
 -- What is promised of images with counts (document 02, §7), stated over any functions of the form. Ours, which the contracts of `image_worn`
 -- cite, keep it: proofs/Kept.antt, proofs/Converted.antt.
 -- Assumes nothing.
-use Rattle.std.specs.Prelude.{ℕ, ◌≤◌, ◌≡◌, true, false, List, ◌⊎◌, length}
+use Rattle.std.specs.Prelude.{ℕ, ◌≤◌, ◌≡◌, true, false, List, ◌⊎◌, length, Ok, Err}
 use Rattle.parts.specs.declared.Refusal.{Refusal}
 use Rattle.parts.specs.declared.Refusal.TheVariants.{BadImage, CountsLost}
-use Rattle.parts.specs.declared.Verdict.TheVariants.{Fine, Refused}
 use Rattle.parts.specs.Table.{facts_of, enable_right_of}
 use Rattle.parts.specs.Bytes.{AllBelow, word_end}
 use Rattle.state.specs.declared.Chip.{Chip}
@@ -34,9 +33,9 @@ GivesBackWorn save load =
     → AllBelow word_end counts
     → CountsFit part was
     → worn_length_of (facts_of part) ≤ length out
-    → ((save part c m counts out).answer.verdict ≡ Fine)
+    → ((save part c m counts out).answer.verdict ≡ Ok tt)
     × (load (made_by (save part c m counts out)) enable old was
-    ≡ record { answer = record { verdict = Fine; part = part; chip = standby_of (facts_of part) c.line.core.locked }; stored = m; counts = counts })
+    ≡ record { answer = record { verdict = Ok tt; part = part; chip = standby_of (facts_of part) c.line.core.locked }; stored = m; counts = counts })
 
 -- saving what was loaded from version 2 gives the same image, and leaves the bytes past it
 abbrev pub SavesSameWorn : SavingWorn → LoadingWorn → Type 0
@@ -44,7 +43,7 @@ SavesSameWorn save load =
     (l : List ℕ) (enable : ℕ) (old : Mem) (was out : List ℕ)
     → WornForm l
     → let r = load l enable old was in
-    r.answer.verdict ≡ Fine → length l ≤ length out → save r.answer.part r.answer.chip r.stored r.counts out ≡ wrote l (length l) out
+    r.answer.verdict ≡ Ok tt → length l ≤ length out → save r.answer.part r.answer.chip r.stored r.counts out ≡ wrote l (length l) out
 
 -- ---- which images are taken
 
@@ -65,12 +64,12 @@ OldReaderRefuses plain =
     → WornForm l
     → enable_right_of (facts_of (part_in l)) enable ≡ true
     → BuffersFit (part_in l) m
-    → ((plain l enable m).answer.verdict ≡ Refused BadImage) × ((plain l enable m).stored ≡ m)
+    → ((plain l enable m).answer.verdict ≡ Err BadImage) × ((plain l enable m).stored ≡ m)
 
 -- only the two forms are accepted, with any enable and any buffers
 abbrev pub AcceptsOnlyWorn : LoadingWorn → Type 0
 AcceptsOnlyWorn load =
-    (l : List ℕ) (enable : ℕ) (m : Mem) (counts : List ℕ) → AllBelow 256 l → (load l enable m counts).answer.verdict ≡ Fine → Form l ⊎ WornForm l
+    (l : List ℕ) (enable : ℕ) (m : Mem) (counts : List ℕ) → AllBelow 256 l → (load l enable m counts).answer.verdict ≡ Ok tt → Form l ⊎ WornForm l
 
 -- and both are, with an enable and buffers right for the part byte
 abbrev pub AcceptsAllWorn : LoadingWorn → Type 0
@@ -80,13 +79,13 @@ AcceptsAllWorn load =
     → enable_right_of (facts_of (part_in l)) enable ≡ true
     → BuffersFit (part_in l) m
     → CountsFit (part_in l) counts
-    → (load l enable m counts).answer.verdict ≡ Fine
+    → (load l enable m counts).answer.verdict ≡ Ok tt
 
 -- ---- conversions
 
 -- refused: the buffer as it was, and a length of 0
 abbrev pub kept_out : List ℕ → Refusal → AfterSave
-kept_out out r = record { answer = record { verdict = Refused r; length = 0 }; out = out }
+kept_out out r = record { answer = record { verdict = Err r; length = 0 }; out = out }
 
 -- "there and back gives the same bytes": for every image of version 1
 abbrev pub ThereAndBack : Converting → Converting → Type 0
@@ -95,7 +94,7 @@ ThereAndBack there back =
     → Form l
     → worn_length_of (facts_of (part_in l)) ≤ length out
     → length l ≤ length plain
-    → ((there l out).answer.verdict ≡ Fine) × (back (made_by (there l out)) plain ≡ wrote l (length l) plain)
+    → ((there l out).answer.verdict ≡ Ok tt) × (back (made_by (there l out)) plain ≡ wrote l (length l) plain)
 
 -- and for every one of version 2 with all counts zero
 abbrev pub BackAndThere : Converting → Converting → Type 0
@@ -104,12 +103,12 @@ BackAndThere there back =
     → NoneWorn f.counts
     → image_length_of (facts_of (part_in l)) ≤ length plain
     → length l ≤ length out
-    → ((back l plain).answer.verdict ≡ Fine) × (there (made_by (back l plain)) out ≡ wrote l (length l) out)
+    → ((back l plain).answer.verdict ≡ Ok tt) × (there (made_by (back l plain)) out ≡ wrote l (length l) out)
 
 -- "only if all counts are zero", "21 counts would be lost": an image of version 2, where there is room, is converted exactly if they are
 pub record Loses (back : Converting) (l plain : List ℕ) (f : WornForm l) : Type 0 where
-  pub done : NoneWorn f.counts → (back l plain).answer.verdict ≡ Fine
-  pub only : (back l plain).answer.verdict ≡ Fine → NoneWorn f.counts
+  pub done : NoneWorn f.counts → (back l plain).answer.verdict ≡ Ok tt
+  pub only : (back l plain).answer.verdict ≡ Ok tt → NoneWorn f.counts
   pub lost : (NoneWorn f.counts → ⊥) → back l plain ≡ kept_out plain CountsLost
 
 abbrev pub LosesNothing : Converting → Type 0
@@ -120,7 +119,7 @@ abbrev pub ConvertsSame : Converting → LoadingWorn → Type 0
 ConvertsSame convert load =
     (l out : List ℕ) (enable : ℕ) (m : Mem) (counts : List ℕ)
     → AllBelow 256 l
-    → (convert l out).answer.verdict ≡ Fine
+    → (convert l out).answer.verdict ≡ Ok tt
     → load (made_by (convert l out)) enable m counts ≡ load l enable m counts
 
 -- ---- whatever is refused leaves every lent byte and count
@@ -128,19 +127,19 @@ ConvertsSame convert load =
 abbrev pub SaveKeeps : SavingWorn → Type 0
 SaveKeeps save =
     (part : ℕ) (c : Chip) (m : Mem) (counts out : List ℕ) (r : Refusal)
-    → (save part c m counts out).answer.verdict ≡ Refused r
+    → (save part c m counts out).answer.verdict ≡ Err r
     → save part c m counts out ≡ kept_out out r
 
 -- the part byte is told, and an unlocked chip, as by the reader of version 1
 abbrev pub LoadKeeps : LoadingWorn → Type 0
 LoadKeeps load =
     (l : List ℕ) (enable : ℕ) (m : Mem) (counts : List ℕ) (r : Refusal)
-    → (load l enable m counts).answer.verdict ≡ Refused r
+    → (load l enable m counts).answer.verdict ≡ Err r
     → load l enable m counts
-    ≡ record { answer = record { verdict = Refused r; part = part_in l; chip = standby_of (facts_of (part_in l)) false }; stored = m; counts = counts }
+    ≡ record { answer = record { verdict = Err r; part = part_in l; chip = standby_of (facts_of (part_in l)) false }; stored = m; counts = counts }
 
 abbrev pub ConvertKeeps : Converting → Type 0
-ConvertKeeps convert = (l out : List ℕ) (r : Refusal) → (convert l out).answer.verdict ≡ Refused r → convert l out ≡ kept_out out r
+ConvertKeeps convert = (l out : List ℕ) (r : Refusal) → (convert l out).answer.verdict ≡ Err r → convert l out ≡ kept_out out r
 
 pub record RefusedKeeps (save : SavingWorn) (load : LoadingWorn) (there back : Converting) : Type 0 where
   pub saved : SaveKeeps save

@@ -1,9 +1,8 @@
 -- Document 02, §8: every "load and conversion keeps it equal to what the walk would find", of any function that loads as `image_worn::load_worn` does.
 -- Nothing of the worst stands in an image: it is found where the counts are read.
 -- Assumes nothing.
-use Rattle.std.specs.Prelude.{ℕ, ◌≤◌, ◌≡◌, true, List, length}
+use Rattle.std.specs.Prelude.{ℕ, ◌≤◌, ◌≡◌, true, List, length, Ok, Err}
 use Rattle.parts.specs.declared.Refusal.{Refusal}
-use Rattle.parts.specs.declared.Verdict.TheVariants.{Fine, Refused}
 use Rattle.parts.specs.Table.{facts_of, enable_right_of}
 use Rattle.parts.specs.Bytes.{AllBelow, word_end}
 use Rattle.state.specs.declared.Chip.{Chip}
@@ -24,10 +23,10 @@ abbrev pub LoadAsBefore : LoadingKept → Type 0
 LoadAsBefore load = (l : List ℕ) (enable : ℕ) (m : Mem) (counts : List ℕ) → (load l enable m counts).load ≡ loading_worn l enable m counts
 
 pub record LoadFindsIt (load : LoadingKept) : Type 0 where
-  pub found : (l : List ℕ) (enable : ℕ) (m : Mem) (counts : List ℕ) → (load l enable m counts).load.answer.verdict ≡ Fine
+  pub found : (l : List ℕ) (enable : ℕ) (m : Mem) (counts : List ℕ) → (load l enable m counts).load.answer.verdict ≡ Ok tt
       → (load l enable m counts).worst ≡ most_of (load l enable m counts).load.counts
   -- a load is given no worst: refused, it answers group 0 with 0
-  pub refused : (l : List ℕ) (enable : ℕ) (m : Mem) (counts : List ℕ) (r : Refusal) → (load l enable m counts).load.answer.verdict ≡ Refused r
+  pub refused : (l : List ℕ) (enable : ℕ) (m : Mem) (counts : List ℕ) (r : Refusal) → (load l enable m counts).load.answer.verdict ≡ Err r
       → (load l enable m counts).worst ≡ most 0 0
 
 -- who saves its counts and loads them again finds the worst that it held
@@ -48,7 +47,7 @@ SavedWorst save load =
 -- a conversion, of either kind, is of counts that are all zero: loaded before it and after it the worst is group 0 with 0
 abbrev pub ConvertKeepsIt : Converting → LoadingKept → Type 0
 ConvertKeepsIt convert load =
-    (l out : List ℕ) (enable : ℕ) (m : Mem) (counts : List ℕ) → AllBelow 256 l → (convert l out).answer.verdict ≡ Fine
+    (l out : List ℕ) (enable : ℕ) (m : Mem) (counts : List ℕ) → AllBelow 256 l → (convert l out).answer.verdict ≡ Ok tt
     → ((load l enable m counts).worst ≡ most 0 0) × ((load (made_by (convert l out)) enable m counts).worst ≡ most 0 0)
 
 -- ---- wrong ones
@@ -56,12 +55,12 @@ ConvertKeepsIt convert load =
 -- answers group 0 with 0, whatever was loaded
 abbrev pub AnswersZero : LoadingKept → Type 0
 AnswersZero load =
-    (l : List ℕ) (enable : ℕ) (m : Mem) (counts : List ℕ) → (load l enable m counts).load.answer.verdict ≡ Fine → (load l enable m counts).worst ≡ most 0 0
+    (l : List ℕ) (enable : ℕ) (m : Mem) (counts : List ℕ) → (load l enable m counts).load.answer.verdict ≡ Ok tt → (load l enable m counts).worst ≡ most 0 0
 
 -- the worst of the counts that were there before
 abbrev pub AnswersOld : LoadingKept → Type 0
 AnswersOld load =
-    (l : List ℕ) (enable : ℕ) (m : Mem) (counts : List ℕ) → (load l enable m counts).load.answer.verdict ≡ Fine → (load l enable m counts).worst ≡ most_of counts
+    (l : List ℕ) (enable : ℕ) (m : Mem) (counts : List ℕ) → (load l enable m counts).load.answer.verdict ≡ Ok tt → (load l enable m counts).worst ≡ most_of counts
 
 pub record WrongWorst : Type 0 where
   pub zero_breaks : (load : LoadingKept) → LoadAsBefore load → LoadFindsIt load → AnswersZero load → ⊥

@@ -1,9 +1,8 @@
 -- Wrong and idle ways of saving, loading and converting: each breaks a promise (proofs/Wrong.antt, proofs/WrongSaves.antt), whatever else it does.
 -- Assumes nothing.
-use Rattle.std.specs.Prelude.{ℕ, ◌+◌, ◌-◌, ◌%◌, ◌/◌, ◌≤◌, ◌≡◌, Bool, true, List, [], ◌∷◌, ◌++◌, length, get_or, take, replicate}
+use Rattle.std.specs.Prelude.{ℕ, ◌+◌, ◌-◌, ◌%◌, ◌/◌, ◌≤◌, ◌≡◌, Bool, true, List, [], ◌∷◌, ◌++◌, length, get_or, take, replicate, Ok, Err}
 use Rattle.parts.specs.declared.Facts.{Facts}
 use Rattle.parts.specs.declared.Refusal.TheVariants.{BadImage, CountsLost}
-use Rattle.parts.specs.declared.Verdict.TheVariants.{Fine, Refused}
 use Rattle.parts.specs.Table.{facts_of, groups_of, enable_right_of}
 use Rattle.parts.specs.Bytes.{words_of}
 use Rattle.state.specs.declared.Chip.{Chip}
@@ -23,7 +22,7 @@ use Rattle.image_promises.specs.Numbers.{Roomy, ToPlainNumbers}
 -- where the counts that it looks at are right, it is done
 abbrev pub DoneWhere : (List ℕ → Type 0) → Converting → Type 0
 DoneWhere Right back =
-    (l plain : List ℕ) (f : WornForm l) → Right f.counts → image_length_of (facts_of (part_in l)) ≤ length plain → (back l plain).answer.verdict ≡ Fine
+    (l plain : List ℕ) (f : WornForm l) → Right f.counts → image_length_of (facts_of (part_in l)) ≤ length plain → (back l plain).answer.verdict ≡ Ok tt
 
 -- drops counts
 abbrev pub DropsCounts : Converting → Type 0
@@ -41,11 +40,11 @@ LooksAtLow = DoneWhere (λ counts. (n : ℕ) → get_or counts n 0 % 256 ≡ 0)
 abbrev pub LostFirst : Converting → Type 0
 LostFirst back =
     (l plain : List ℕ) → Roomy (image_length_of (facts_of (part_in l))) l plain → (NoneWorn (counts_in (facts_of (part_in l)) l) → ⊥)
-    → (back l plain).answer.verdict ≡ Refused CountsLost
+    → (back l plain).answer.verdict ≡ Err CountsLost
 
 -- a conversion, of either kind, that refuses everything
 abbrev pub RefusesAll : Converting → Type 0
-RefusesAll convert = (l out : List ℕ) → (convert l out).answer.verdict ≡ Refused BadImage
+RefusesAll convert = (l out : List ℕ) → (convert l out).answer.verdict ≡ Err BadImage
 
 -- ---- loaders
 
@@ -62,13 +61,13 @@ TakesShort load =
     → enable_right_of (facts_of part) enable ≡ true
     → BuffersFit part old
     → CountsFit part was
-    → (load (worn_image_of part lock m counts) enable old was).answer.verdict ≡ Fine
+    → (load (worn_image_of part lock m counts) enable old was).answer.verdict ≡ Ok tt
 
 -- a reader of version 1 that takes version 2
 abbrev pub TakesWorn : Loading → Type 0
 TakesWorn plain =
     (l : List ℕ) (enable : ℕ) (m : Mem) → WornForm l → enable_right_of (facts_of (part_in l)) enable ≡ true → BuffersFit (part_in l) m
-    → (plain l enable m).answer.verdict ≡ Fine
+    → (plain l enable m).answer.verdict ≡ Ok tt
 
 -- ---- savers
 

@@ -1,5 +1,6 @@
 -- Laws that the proofs of the code share: counts as bytes and back, the stored part of either version, and what a call that is not refused has.
 -- Assumes nothing.
+use Rattle.std.specs.Prelude.{Ok, Err}
 use Prim.Native.Nat.{ℕ, zero, suc, ◌+◌, ◌-◌, ◌*◌, ◌≤◌, ◌<◌}
 use mathlib.Core.Path.{◌≡◌, ◌∙◌, sym, ap, refl}
 use mathlib.Core.Bool.{Bool, true, false, not, cond, ◌&&◌}
@@ -12,7 +13,6 @@ use lib.Dec.{eqb, ltb}
 use borrow.Author.Tests.{eqb-true, eq-eqb, ne_eqb, ltb-true, ltb-false, lt-ltb}
 use Rattle.parts.specs.declared.Facts.{Facts}
 use Rattle.parts.specs.declared.Refusal.TheVariants.{NoPart, WrongEnable, ShortBuffer, BadImage, CountsLost}
-use Rattle.parts.specs.declared.Verdict.TheVariants.{Fine, Refused}
 use Rattle.parts.specs.Table.{facts_of, groups_of, enable_right_of}
 use Rattle.parts.specs.Sound.{Sound}
 use Rattle.parts.specs.Refusals.{rank_of, claim_of, sooner_of, lent_verdict_of}
@@ -57,6 +57,18 @@ put_step o o₀ s i at e k h l =
     let rest : drop (4 * i + 4) (words_of (take i s) ++ drop (4 * i) o₀) ≡ drop (4 * (i + 1)) o₀ =
     ap (λ (n : ℕ). drop (n + 4) (words_of (take i s) ++ drop (4 * i) o₀)) (sym front) ∙ drop-append-add (words_of (take i s)) (drop (4 * i) o₀) 4 ∙ drop-drop 4 (4 * i) o₀ ∙ ap (λ (n : ℕ). drop n o₀) next in
     sets-eq w o at room ∙ rw (more, e, k, take_at (words_of (take i s)) (drop (4 * i) o₀) (4 * i) front, rest)
+
+mid_sets : (o w : List ℕ) (at k : ℕ) → k ≡ length w → at + length w ≤ length o → take at o ++ (w ++ drop k (drop at o)) ≡ sets o at w
+mid_sets o w at k q r = rw (q, drop-drop (length w) at o) (sym (append_assoc (take at o) w (drop (at + length w) o)) ∙ sym (sets-eq w o at r))
+
+-- a word written over a part of the buffer
+pub put_mid_step : (o o₀ s : List ℕ) (i k : ℕ) (w : List ℕ) → o ≡ words_of (take i s) ++ drop (4 * i) o₀ → i < length s → length o₀ ≡ 4 * length s → k ≡ 4
+    → w ≡ word_of (get_or s i 0) → take (4 * i) o ++ (w ++ drop k (drop (4 * i) o)) ≡ words_of (take (i + 1) s) ++ drop (4 * (i + 1)) o₀
+put_mid_step o o₀ s i k w e h l q x =
+    let front : length (words_of (take i s)) ≡ 4 * i = words_length (take i s) ∙ simp length-take (omega arith) in
+    let long : length o ≡ length o₀ = ap (λ (t : List ℕ). length t) e ∙ simp (length-append, length-drop) (omega (arith, front)) in
+    let room : 4 * i + 4 ≤ length o = omega arith in
+    ap (λ (v : List ℕ). take (4 * i) o ++ (v ++ drop k (drop (4 * i) o))) x ∙ mid_sets o (word_of (get_or s i 0)) (4 * i) k q room ∙ put_step o o₀ s i (4 * i) e refl h l
 
 pub put_end : (o o₀ s : List ℕ) (i : ℕ) → o ≡ words_of (take i s) ++ drop (4 * i) o₀ → length s ≤ i → length o₀ ≡ 4 * length s → o ≡ words_of s
 put_end o o₀ s i e h l =
@@ -284,7 +296,7 @@ pub lost_same : (f : Facts) (l : List ℕ)
     ≡ sooner_of (claim_of (not (worn_formed_of f l)) BadImage) (claim_of (not (all_zero_of (counts_in f l))) CountsLost)
 lost_same f l = by (worn_formed_of f l) refl
   where
-    first : (b : Bool) → sooner_of (Refused BadImage) (claim_of b CountsLost) ≡ Refused BadImage
+    first : (b : Bool) → sooner_of (Err BadImage) (claim_of b CountsLost) ≡ Err BadImage
     first b = given_first BadImage (claim_of b CountsLost) (later_claim (rank_of BadImage) b CountsLost (omega arith))
 
     same : worn_formed_of f l ≡ true → all_below_of 1 true (drop (image_length_of f) l) ≡ all_zero_of (counts_in f l)
@@ -295,15 +307,15 @@ lost_same f l = by (worn_formed_of f l) refl
     by : (x : Bool) → worn_formed_of f l ≡ x
         → sooner_of (claim_of (not x) BadImage) (claim_of (not (all_below_of 1 true (drop (image_length_of f) l))) CountsLost)
         ≡ sooner_of (claim_of (not x) BadImage) (claim_of (not (all_zero_of (counts_in f l))) CountsLost)
-    by true e = ap (λ (b : Bool). sooner_of Fine (claim_of (not b) CountsLost)) (same e)
+    by true e = ap (λ (b : Bool). sooner_of (Ok tt) (claim_of (not b) CountsLost)) (same e)
     by false e = first (not (all_below_of 1 true (drop (image_length_of f) l))) ∙ sym (first (not (all_zero_of (counts_in f l))))
 
 pub record CanSaveWorn (part : ℕ) (c : Chip) (n d k room : ℕ) : Type 0 where
-  pub plain : save_verdict_of part c n d room ≡ Fine
+  pub plain : save_verdict_of part c n d room ≡ Ok tt
   pub counts : k ≡ groups_of (facts_of part)
   pub fits : worn_length_of (facts_of part) ≤ room
 
-pub save_worn_fine : (part : ℕ) (c : Chip) (n d k room : ℕ) → save_worn_verdict_of part c n d k room ≡ Fine → CanSaveWorn part c n d k room
+pub save_worn_fine : (part : ℕ) (c : Chip) (n d k room : ℕ) → save_worn_verdict_of part c n d k room ≡ Ok tt → CanSaveWorn part c n d k room
 unfolding save_worn_verdict_of
 save_worn_fine part c n d k room h =
     let (counted, r) = sooner_fine (counts_verdict_of (facts_of part) k) _ h in
@@ -316,7 +328,7 @@ pub record CanLoadWorn (part : ℕ) (l : List ℕ) (n d k : ℕ) : Type 0 where
   pub counts : k ≡ groups_of (facts_of part)
   pub either : either_formed_of part l ≡ true
 
-pub load_worn_fine : (l : List ℕ) (enable n d k : ℕ) → load_worn_verdict_of l enable n d k ≡ Fine → CanLoadWorn (part_in l) l n d k
+pub load_worn_fine : (l : List ℕ) (enable n d k : ℕ) → load_worn_verdict_of l enable n d k ≡ Ok tt → CanLoadWorn (part_in l) l n d k
 unfolding load_worn_verdict_of judged_worn_of image_length_of
 load_worn_fine l enable n d k h =
     let f = facts_of (part_in l) in
@@ -326,7 +338,7 @@ load_worn_fine l enable n d k h =
     let b = buffers_are f n d (lent_fine f n d lent).1 in
     record { cells = b.0; stored = omega (arith, b.0, b.1); counts = counts_fine f k counted; either = right_fine _ BadImage form }
 
-pub to_worn_fine : (l : List ℕ) (room : ℕ) → to_worn_verdict_of l room ≡ Fine
+pub to_worn_fine : (l : List ℕ) (room : ℕ) → to_worn_verdict_of l room ≡ Ok tt
     → (length l ≡ image_length_of (facts_of (part_in l))) × (worn_length_of (facts_of (part_in l)) ≤ room)
 unfolding to_worn_verdict_of
 to_worn_fine l room h =
@@ -335,7 +347,7 @@ to_worn_fine l room h =
     let (short, form) = sooner_fine (claim_of (ltb room (worn_length_of f)) ShortBuffer) (claim_of (not (formed_of f l)) BadImage) r in
     ((formed_is 1 (image_length_of f) f l (right_fine _ BadImage form)).long, ltb-false room (worn_length_of f) (claim_fine _ ShortBuffer short))
 
-pub to_plain_fine : (l : List ℕ) (room : ℕ) → to_plain_verdict_of l room ≡ Fine
+pub to_plain_fine : (l : List ℕ) (room : ℕ) → to_plain_verdict_of l room ≡ Ok tt
     → (image_length_of (facts_of (part_in l)) ≤ length l) × (image_length_of (facts_of (part_in l)) ≤ room)
 unfolding to_plain_verdict_of worn_length_of
 to_plain_fine l room h =

@@ -1,9 +1,8 @@
 -- What the four functions answer and leave, for refused input too (document 02, §7): "Refusals: 21 counts would be lost, after 12".
 -- Assumes nothing.
-use Rattle.std.specs.Prelude.{ℕ, Bool, true, not, cond, List, length, ltb}
+use Rattle.std.specs.Prelude.{ℕ, Bool, true, not, cond, List, length, ltb, Ok, Err}
 use Rattle.parts.specs.declared.Refusal.TheVariants.{NoPart, WrongEnable, ShortBuffer, BadImage, CountsLost}
-use Rattle.parts.specs.declared.Verdict.{Verdict}
-use Rattle.parts.specs.declared.Verdict.TheVariants.{Fine, Refused}
+use Rattle.parts.specs.Verdict.{Verdict}
 use Rattle.parts.specs.Table.{facts_of, enable_right_of}
 use Rattle.parts.specs.Refusals.{claim_of, sooner_of, lent_verdict_of}
 use Rattle.state.specs.declared.Chip.{Chip}
@@ -47,11 +46,11 @@ judged_worn_of l enable n d k =
     (claim_of (not (either_formed_of (part_in l) l)) BadImage)))
 
 unfoldable pub load_worn_verdict_of : List ℕ → ℕ → ℕ → ℕ → ℕ → Verdict
-load_worn_verdict_of l enable n d k = cond (ltb (length l) 6) (Refused BadImage) (judged_worn_of l enable n d k)
+load_worn_verdict_of l enable n d k = cond (ltb (length l) 6) (Err BadImage) (judged_worn_of l enable n d k)
 
 abbrev pub worn_mem : List ℕ → Mem → Verdict → Mem
-worn_mem l m Fine = stored_in (facts_of (part_in l)) (plain_in (facts_of (part_in l)) l)
-worn_mem l m (Refused r) = m
+worn_mem l m (Ok _) = stored_in (facts_of (part_in l)) (plain_in (facts_of (part_in l)) l)
+worn_mem l m (Err r) = m
 
 pub record AfterLoadWorn : Type 0 where
   pub answer : Loaded
@@ -80,7 +79,7 @@ loading_kept l enable m counts = kept_at (loading_worn l enable m counts)
 
 unfoldable pub to_worn_verdict_of : List ℕ → ℕ → Verdict
 to_worn_verdict_of l room =
-    cond (ltb (length l) 6) (Refused BadImage)
+    cond (ltb (length l) 6) (Err BadImage)
     (sooner_of (claim_of (not (facts_of (part_in l)).known) NoPart)
     (sooner_of (claim_of (ltb room (worn_length_of (facts_of (part_in l)))) ShortBuffer)
     (claim_of (not (formed_of (facts_of (part_in l)) l)) BadImage)))
@@ -97,7 +96,7 @@ to_worn_of l out =
 
 unfoldable pub to_plain_verdict_of : List ℕ → ℕ → Verdict
 to_plain_verdict_of l room =
-    cond (ltb (length l) 6) (Refused BadImage)
+    cond (ltb (length l) 6) (Err BadImage)
     (sooner_of (claim_of (not (facts_of (part_in l)).known) NoPart)
     (sooner_of (claim_of (ltb room (image_length_of (facts_of (part_in l)))) ShortBuffer)
     (sooner_of (claim_of (not (worn_formed_of (facts_of (part_in l)) l)) BadImage)

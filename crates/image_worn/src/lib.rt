@@ -2,7 +2,7 @@
 // them and made into one. Nobody has to check first.
 #![tactic(auto)]
 
-ghost use Rattle.std.specs.Prelude.{◌≡◌, true, ◌++◌, ◌+◌, ◌*◌, ◌<◌, ◌≤◌, length, drop, replicate};
+ghost use Rattle.std.specs.Prelude.{◌≡◌, true, ◌++◌, ◌+◌, ◌*◌, ◌<◌, ◌≤◌, length, drop, Ok, Err};
 ghost use Rattle.parts.specs.Bytes.{all_below_of, words_of};
 ghost use Rattle.parts.specs.Table.{facts_of, groups_of};
 ghost use Rattle.chip.specs.Memory.{mem};
@@ -46,6 +46,15 @@ pub fn worn_length(part: u8) -> usize
     n + 4 * k
 }
 
+fn refused(r: Refusal) -> Saved
+    ensures { result ≡ record { verdict = Err r; length = 0 } }
+{
+    Saved {
+        verdict: Err(r),
+        length: 0,
+    }
+}
+
 // ---- saving
 
 fn save_verdict(part: u8, chip: Chip, n: usize, d: usize, k: usize, room: usize) -> Verdict
@@ -63,16 +72,10 @@ fn put_counts(counts: &[u32], out: &mut [u8])
     requires { length out.old ≡ 4 * length counts.now }
     ensures { out.new ≡ words_of counts.now }
 {
-    let mut to = 0;
-    let mut i = 0;
-    while i < counts.len() {
-        let w = parts::word(counts[i] as usize);
-        out[to] = w[0];
-        out[to + 1] = w[1];
-        out[to + 2] = w[2];
-        out[to + 3] = w[3];
-        to += 4;
-        i += 1;
+    for (i, count) in counts.iter().enumerate() {
+        let to = 4 * i;
+        let w = parts::word(*count as usize);
+        out[to..to + 4].copy_from_slice(&w);
     }
 }
 
@@ -102,32 +105,27 @@ pub fn save_worn(
     ensures bytes { out.new
         ≡ (saving_worn part chip (mem array.now id.now) counts.now out.old).out }
 {
-    let verdict = save_verdict(part, chip, array.len(), id.len(), counts.len(), out.len());
-    match verdict {
-        Verdict::Fine => {
+    match save_verdict(part, chip, array.len(), id.len(), counts.len(), out.len()) {
+        Ok(()) => {
             image::save(part, chip, array, id, out);
             put_worn(part, counts, out);
             Saved {
-                verdict: Verdict::Fine,
+                verdict: Ok(()),
                 length: worn_length(part),
             }
         }
-        Verdict::Refused(r) => Saved {
-            verdict: Verdict::Refused(r),
-            length: 0,
-        },
+        Err(r) => refused(r),
     }
 }
 
 // ---- loading
 
+#[tactic(auto, unfolding(crate::specs::Calls::either_formed_of))]
 fn either_formed(part: u8, image: &[u8]) -> bool
     ensures { result ≡ either_formed_of part image.now }
 {
-    if image::formed(PLAIN, image::image_length(part), part, image) {
-        return true;
-    }
-    image::formed(WORN, worn_length(part), part, image)
+    image::formed(PLAIN, image::image_length(part), part, image)
+        || image::formed(WORN, worn_length(part), part, image)
 }
 
 // Which refusal an image is given that holds its part byte.
@@ -149,7 +147,7 @@ fn load_verdict(image: &[u8], enable: u8, n: usize, d: usize, k: usize) -> Verdi
     ensures { result ≡ load_worn_verdict_of image.now enable n d k }
 {
     if image.len() < 6 {
-        return Verdict::Refused(Refusal::BadImage);
+        return Err(Refusal::BadImage);
     }
     judged(image, enable, n, d, k)
 }
@@ -170,27 +168,14 @@ fn take_counts(bytes: &[u8], counts: &mut [u32])
     requires { length bytes.now ≡ 4 * length counts.old }
     ensures { counts.new ≡ words_in (length counts.old) bytes.now }
 {
-    let mut from = 0;
-    let mut i = 0;
-    while i < counts.len() {
-        counts[i] = parts::joined(
+    for (i, count) in counts.iter_mut().enumerate() {
+        let from = 4 * i;
+        *count = parts::joined(
             bytes[from],
             bytes[from + 1],
             bytes[from + 2],
             bytes[from + 3],
         ) as u32;
-        from += 4;
-        i += 1;
-    }
-}
-
-fn clear_counts(counts: &mut [u32])
-    ensures { counts.new ≡ replicate (length counts.old) 0 }
-{
-    let mut i = 0;
-    while i < counts.len() {
-        counts[i] = 0;
-        i += 1;
     }
 }
 
@@ -203,7 +188,7 @@ fn load_counts(part: u8, image: &[u8], counts: &mut [u32])
     if parts::byte_at(image, VERSION) == WORN {
         take_counts(&image[n..], counts);
     } else {
-        clear_counts(counts);
+        counts.fill(0);
     }
 }
 
@@ -226,31 +211,30 @@ pub fn load_worn(
     ensures worst { result.worst
         ≡ (loading_kept image.now enable (mem array.old id.old) counts.old).worst }
 {
-    let verdict = load_verdict(image, enable, array.len(), id.len(), counts.len());
     let part = image::part_in(image);
-    match verdict {
-        Verdict::Fine => {
+    match load_verdict(image, enable, array.len(), id.len(), counts.len()) {
+        Ok(()) => {
             let lock = image::lock_in(image);
             fill(part, image, array, id);
             load_counts(part, image, counts);
             let loaded = Loaded {
-                verdict: Verdict::Fine,
-                part: part,
+                verdict: Ok(()),
+                part,
                 chip: chip::standby(part, lock),
             };
             LoadedWorn {
-                loaded: loaded,
+                loaded,
                 worst: wear::worst::most_of(counts),
             }
         }
-        Verdict::Refused(r) => {
+        Err(r) => {
             let loaded = Loaded {
-                verdict: Verdict::Refused(r),
-                part: part,
+                verdict: Err(r),
+                part,
                 chip: chip::standby(part, false),
             };
             LoadedWorn {
-                loaded: loaded,
+                loaded,
                 worst: Most { group: 0, count: 0 },
             }
         }
@@ -263,26 +247,15 @@ fn to_worn_verdict(image: &[u8], room: usize) -> Verdict
     ensures { result ≡ to_worn_verdict_of image.now room }
 {
     if image.len() < 6 {
-        return Verdict::Refused(Refusal::BadImage);
+        return Err(Refusal::BadImage);
     }
     let part = image::part_in(image);
     let f = parts::facts_of(part);
-    let known = f.known;
     let right = image::formed(PLAIN, image::image_length(part), part, image);
-    let unknown = parts::claim(!known, Refusal::NoPart);
+    let unknown = parts::claim(!f.known, Refusal::NoPart);
     let short = parts::claim(room < worn_length(part), Refusal::ShortBuffer);
     let form = parts::claim(!right, Refusal::BadImage);
     parts::sooner(unknown, parts::sooner(short, form))
-}
-
-fn clear(out: &mut [u8])
-    ensures { out.new ≡ replicate (length out.old) 0 }
-{
-    let mut i = 0;
-    while i < out.len() {
-        out[i] = 0;
-        i += 1;
-    }
 }
 
 fn write_worn(part: u8, image: &[u8], out: &mut [u8])
@@ -293,7 +266,7 @@ fn write_worn(part: u8, image: &[u8], out: &mut [u8])
     let end = worn_length(part);
     parts::copy(out, 0, image);
     out[VERSION] = WORN;
-    clear(&mut out[n..end]);
+    out[n..end].fill(0);
 }
 
 // An image of version 1 as one of version 2, with all counts zero.
@@ -301,20 +274,16 @@ pub fn to_worn(image: &[u8], out: &mut [u8]) -> Saved
     ensures answer { result ≡ (to_worn_of image.now out.old).answer }
     ensures bytes { out.new ≡ (to_worn_of image.now out.old).out }
 {
-    let verdict = to_worn_verdict(image, out.len());
     let part = image::part_in(image);
-    match verdict {
-        Verdict::Fine => {
+    match to_worn_verdict(image, out.len()) {
+        Ok(()) => {
             write_worn(part, image, out);
             Saved {
-                verdict: Verdict::Fine,
+                verdict: Ok(()),
                 length: worn_length(part),
             }
         }
-        Verdict::Refused(r) => Saved {
-            verdict: Verdict::Refused(r),
-            length: 0,
-        },
+        Err(r) => refused(r),
     }
 }
 
@@ -325,24 +294,20 @@ fn unworn(part: u8, image: &[u8]) -> bool
     ensures { result ≡ all_below_of 1 true (drop (image_length_of (facts_of part)) image.now) }
 {
     let n = image::image_length(part);
-    if n <= image.len() {
-        return parts::all_below(1, &image[n..]);
-    }
-    true
+    image.len() < n || parts::all_below(1, &image[n..])
 }
 
 fn to_plain_verdict(image: &[u8], room: usize) -> Verdict
     ensures { result ≡ to_plain_verdict_of image.now room }
 {
     if image.len() < 6 {
-        return Verdict::Refused(Refusal::BadImage);
+        return Err(Refusal::BadImage);
     }
     let part = image::part_in(image);
     let f = parts::facts_of(part);
-    let known = f.known;
     let right = image::formed(WORN, worn_length(part), part, image);
     let fresh = unworn(part, image);
-    let unknown = parts::claim(!known, Refusal::NoPart);
+    let unknown = parts::claim(!f.known, Refusal::NoPart);
     let short = parts::claim(room < image::image_length(part), Refusal::ShortBuffer);
     let form = parts::claim(!right, Refusal::BadImage);
     let lost = parts::claim(!fresh, Refusal::CountsLost);
@@ -363,19 +328,15 @@ pub fn to_plain(image: &[u8], out: &mut [u8]) -> Saved
     ensures answer { result ≡ (to_plain_of image.now out.old).answer }
     ensures bytes { out.new ≡ (to_plain_of image.now out.old).out }
 {
-    let verdict = to_plain_verdict(image, out.len());
     let part = image::part_in(image);
-    match verdict {
-        Verdict::Fine => {
+    match to_plain_verdict(image, out.len()) {
+        Ok(()) => {
             write_plain(part, image, out);
             Saved {
-                verdict: Verdict::Fine,
+                verdict: Ok(()),
                 length: image::image_length(part),
             }
         }
-        Verdict::Refused(r) => Saved {
-            verdict: Verdict::Refused(r),
-            length: 0,
-        },
+        Err(r) => refused(r),
     }
 }

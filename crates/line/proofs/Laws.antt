@@ -7,14 +7,11 @@ use native.Mathlib.Omega.{arith}
 use mathlib.Core.Bool.{Bool}
 use Rattle.parts.specs.declared.Facts.{Facts}
 use Rattle.parts.specs.Bytes.{flag_of}
-use Rattle.line.specs.declared.Core.{Core}
 use Rattle.line.specs.declared.Line.{Line}
 use Rattle.line.specs.declared.Recv.{Recv}
-use Rattle.line.specs.declared.Target.{Target}
-use Rattle.line.specs.declared.Target.TheVariants.{Array, Ident}
-use Rattle.line.specs.declared.Phase.TheVariants.{Receive, Send}
+use Rattle.line.specs.declared.Phase.TheVariants.{Receive}
 use Rattle.line.specs.declared.Act.TheVariants.{Keep}
-use Rattle.line.specs.Rules.{received_of, receive_act_of, receive_level_of, sent_of, send_level_of, moved_of, before_of}
+use Rattle.line.specs.Rules.{received_of, receive_act_of, receive_level_of, send_level_of, before_of}
 
 -- a page of a number below a whole number of pages lies below it too
 pub page_room : (whole P c : ℕ) → 0 < P → whole ≡ whole / P * P → c < whole → c / P * P + P ≤ whole
@@ -33,24 +30,6 @@ pub received_bit : (f : Facts) (en : ℕ) (l : Line) (v : Bool) (r : Recv) (n : 
 unfolding received_of receive_act_of receive_level_of
 received_bit f en l v r zero h = absurd (omega arith)
 received_bit f en l v r (suc k) h = (rw one_less, refl, refl)
-
-pub sent_bit : (f : Facts) (l : Line) (v : Bool) (t : Target) (n : ℕ) → 0 < n
-    → sent_of f l v t n ≡ record { core = moved_of f l.core t (n - 1); phase = Send t; left = n - 1; shift = l.shift }
-unfolding sent_of
-sent_bit f l v t zero h = absurd (omega arith)
-sent_bit f l v t (suc k) h = rw one_less
-
-pub moved_not : (f : Facts) (c : Core) (t : Target) (n : ℕ) → 0 < n → moved_of f c t n ≡ c
-unfolding moved_of
-moved_not f c Array zero h = absurd (omega arith)
-moved_not f c Ident zero h = absurd (omega arith)
-moved_not f c Array (suc k) h = refl
-moved_not f c Ident (suc k) h = refl
-
-pub send_bit : (b n : ℕ) → 0 < n → send_level_of b n ≡ b / 2 ^ (n - 1) % 2
-unfolding send_level_of
-send_bit b zero h = absurd (omega arith)
-send_bit b (suc k) h = rw one_less
 
 -- past the eighth bit of a byte there is none
 pub send_past : (b n : ℕ) → b < 256 → 8 < n → send_level_of b n ≡ 0

@@ -2,7 +2,7 @@
 -- The state after an event never depends on what is stored, so an event has separate answers: the line after it (`next_of`),
 -- what becomes of the latches (`act_of`), the level (`level_of`) and the cycles begun (`begun_of`).
 -- Assumes nothing.
-use Rattle.std.specs.Prelude.{ℕ, zero, suc, ◌+◌, ◌-◌, ◌*◌, ◌/◌, ◌%◌, ◌^◌, Bool, true, false, not, cond, ◌&&◌, ◌||◌, eqb}
+use Rattle.std.specs.Prelude.{ℕ, zero, suc, ◌+◌, ◌-◌, ◌*◌, ◌/◌, ◌%◌, ◌^◌, Bool, true, false, not, cond, ◌&&◌, ◌||◌, eqb, Option, None, Some}
 use Rattle.parts.specs.declared.Facts.{Facts}
 use Rattle.parts.specs.declared.ArrayAddress.{ArrayAddress}
 use Rattle.parts.specs.declared.IdLocation.{IdLocation}
@@ -26,10 +26,6 @@ use Rattle.line.specs.declared.Line.{Line}
 use Rattle.line.specs.declared.Act.{Act}
 use Rattle.line.specs.declared.Act.TheVariants.{Keep, Drop, Put}
 use Rattle.line.specs.declared.After.{After}
-use Rattle.line.specs.declared.Selected.{Selected}
-use Rattle.line.specs.declared.Selected.TheVariants.{Miss, Hit}
-use Rattle.line.specs.declared.CycleAsked.{CycleAsked}
-use Rattle.line.specs.declared.CycleAsked.TheVariants.{NoCycle, For}
 use Rattle.line.specs.declared.LineMove.{LineMove}
 
 -- ---- small changes
@@ -73,12 +69,12 @@ onward_of f c = (before_of f.page c + 1) % f.size
 unfoldable pub enabled_of : Facts → ℕ → ℕ → Bool
 enabled_of f enable b = cond f.wide (eqb (b / 2 % 8) enable) true
 
-unfoldable pub named_of : Facts → ℕ → Selected
+unfoldable pub named_of : Facts → ℕ → Option (Target × Bool)
 named_of f b =
-    cond (eqb (b / 16) 10) (Hit Array (eqb (b % 2) 1)) (cond (eqb (b / 16) 11) (cond f.ident (Hit Ident (eqb (b % 2) 1)) Miss) Miss)
+    cond (eqb (b / 16) 10) (Some (Array, (eqb (b % 2) 1))) (cond (eqb (b / 16) 11) (cond f.ident (Some (Ident, (eqb (b % 2) 1))) None) None)
 
-unfoldable pub decode_of : Facts → ℕ → ℕ → Selected
-decode_of f enable b = cond (enabled_of f enable b) (named_of f b) Miss
+unfoldable pub decode_of : Facts → ℕ → ℕ → Option (Target × Bool)
+decode_of f enable b = cond (enabled_of f enable b) (named_of f b) None
 
 -- what the address starts with: A10..A8 of an array write on a part with one address byte
 unfoldable pub address_start_of : Facts → Target → ℕ → Recv
@@ -86,10 +82,10 @@ address_start_of f Array b = cond f.wide (AddressHigh Array) (AddressLow Array (
 address_start_of f Ident b = cond f.wide (AddressHigh Ident) (AddressLow Ident 0)
 
 -- a match is acknowledged; otherwise the chip releases until the next Start
-unfoldable pub selected_of : Facts → Core → ℕ → Selected → After
-selected_of f c b Miss = goes c Idle Keep
-selected_of f c b (Hit t true) = goes c (Send t) Keep
-selected_of f c b (Hit t false) = goes c (Receive (address_start_of f t b)) Keep
+unfoldable pub selected_of : Facts → Core → ℕ → Option (Target × Bool) → After
+selected_of f c b None = goes c Idle Keep
+selected_of f c b (Some (t, true)) = goes c (Send t) Keep
+selected_of f c b (Some (t, false)) = goes c (Receive (address_start_of f t b)) Keep
 
 -- ---- rule 2: address
 
@@ -228,35 +224,35 @@ start_act_of (Busy y) = Keep
 -- ---- rule 6: Stop
 
 -- the cycle that a Stop directly after this byte's acknowledge begins
-unfoldable pub asks_of : Recv → CycleAsked
-asks_of Select = NoCycle
-asks_of (AddressHigh t) = NoCycle
-asks_of (AddressLow t high) = NoCycle
-asks_of (Fill t true) = For (Writing t)
-asks_of (Fill t false) = NoCycle
-asks_of LockByte = NoCycle
-asks_of (LockTaken true) = For Locking
-asks_of (LockTaken false) = NoCycle
+unfoldable pub asks_of : Recv → Option Cycle
+asks_of Select = None
+asks_of (AddressHigh t) = None
+asks_of (AddressLow t high) = None
+asks_of (Fill t true) = Some (Writing t)
+asks_of (Fill t false) = None
+asks_of LockByte = None
+asks_of (LockTaken true) = Some Locking
+asks_of (LockTaken false) = None
 
 -- directly after an acknowledge, and the pin not high since the Start
 unfoldable pub placed_of : Line → Bool
 placed_of l = eqb l.left 8 && not l.core.inhibited
 
-abbrev pub due_of : Bool → CycleAsked → CycleAsked
+abbrev pub due_of : Bool → Option Cycle → Option Cycle
 due_of true a = a
-due_of false a = NoCycle
+due_of false a = None
 
-abbrev pub stopped_by_lem : Core → CycleAsked → Line
-stopped_by_lem c NoCycle = at c Idle
-stopped_by_lem c (For y) = at c (Busy y)
+abbrev pub stopped_by_lem : Core → Option Cycle → Line
+stopped_by_lem c None = at c Idle
+stopped_by_lem c (Some y) = at c (Busy y)
 
-abbrev pub stop_act_by : CycleAsked → Act
-stop_act_by NoCycle = Drop
-stop_act_by (For y) = Keep
+abbrev pub stop_act_by : Option Cycle → Act
+stop_act_by None = Drop
+stop_act_by (Some y) = Keep
 
-abbrev pub begun_by : CycleAsked → ℕ
-begun_by NoCycle = 0
-begun_by (For y) = 1
+abbrev pub begun_by : Option Cycle → ℕ
+begun_by None = 0
+begun_by (Some y) = 1
 
 unfoldable pub stopped_of : Line → Phase → Line
 stopped_of l Idle = at l.core Idle

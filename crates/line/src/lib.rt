@@ -36,6 +36,7 @@ pub enum Recv {
     LockTaken(bool),
 }
 
+// Either kind has what it is for: no value that may be missing.
 #[derive(Clone, Copy)]
 pub enum Cycle {
     Writing(Target),
@@ -85,160 +86,139 @@ pub struct After {
     pub act: Act,
 }
 
-// What a select byte names, and whether it asks for a read.
-#[derive(Clone, Copy)]
-pub enum Selected {
-    Miss,
-    Hit(Target, bool),
-}
-
-#[derive(Clone, Copy)]
-pub enum CycleAsked {
-    NoCycle,
-    For(Cycle),
-}
-
 #[derive(Clone, Copy)]
 pub struct LineMove {
     pub line: Line,
     pub act: Act,
-    // 0 pulls low, 1 releases, 2 no level.
+    // 0 pulls low, 1 releases, 2 no level: numbers, as the C interface has them and `level_of` says.
     pub level: u8,
+    // How many cycles begin: 0 or 1, as the C interface counts them.
     pub cycles: u8,
 }
 
 pub fn is_high(pin: Pin) -> bool
     ensures { result ≡ is_high pin }
 {
-    match pin {
-        Pin::Absent => false,
-        Pin::Low => false,
-        Pin::High => true,
-        Pin::Floating => false,
-    }
+    matches!(pin, Pin::High)
 }
 
 fn at_phase(core: Core, phase: Phase) -> Line
     ensures { result ≡ at core phase }
 {
     Line {
-        core: core,
-        phase: phase,
+        core,
+        phase,
         left: 8,
         shift: 0,
     }
 }
 
+// A part goes from function to function as its number, and each looks its facts up: with the facts in its place, 16 functions here would have to
+// require `Sound f`, which `facts_of` gives to each that asks.
+
 // ---- the page rule
 
 // Rule 3, where a page write turns back: the next place in the page, and behind the page's last place its first.
+#[tactic(auto, unfolding(crate::specs::Rules::roll_of))]
 fn rolled(part: u8, counter: u16) -> u16
     ensures { result ≡ roll_of (facts_of part).page counter }
 {
-    let f = parts::facts_of(part);
-    let p = f.page;
-    let c = counter as usize;
+    let p = parts::facts_of(part).page;
+    let c = usize::from(counter);
     let base = c / p * p;
     (base + (c + 1) % p) as u16
 }
 
 // The place before the counter in its page, rolled over.
+#[tactic(auto, unfolding(crate::specs::Rules::before_of))]
 fn before(part: u8, counter: u16) -> usize
     ensures { result ≡ before_of (facts_of part).page counter }
 {
-    let f = parts::facts_of(part);
-    let p = f.page;
-    let c = counter as usize;
+    let p = parts::facts_of(part).page;
+    let c = usize::from(counter);
     c / p * p + (c + (p - 1)) % p
 }
 
+#[tactic(auto, unfolding(crate::specs::Rules::onward_of))]
 fn onward(part: u8, counter: u16) -> u16
     ensures { result ≡ onward_of (facts_of part) counter }
 {
-    let f = parts::facts_of(part);
-    let size = f.size;
     let last = before(part, counter);
-    ((last + 1) % size) as u16
+    ((last + 1) % parts::facts_of(part).size) as u16
 }
 
 // ---- rule 1
 
-fn named(part: u8, byte: u8) -> Selected
+#[tactic(auto, unfolding(crate::specs::Rules::named_of))]
+// What a select byte names, and whether it asks for a read.
+fn named(part: u8, byte: u8) -> Option<(Target, bool)>
     ensures { result ≡ named_of (facts_of part) byte }
 {
     let f = parts::facts_of(part);
     if byte / 16 == 10 {
-        return Selected::Hit(Target::Array, byte % 2 == 1);
+        return Some((Target::Array, byte % 2 == 1));
     }
     if byte / 16 == 11 {
         if f.ident {
-            return Selected::Hit(Target::Ident, byte % 2 == 1);
+            return Some((Target::Ident, byte % 2 == 1));
         }
-        return Selected::Miss;
+        return None;
     }
-    Selected::Miss
+    None
 }
 
-fn decode(part: u8, enable: u8, byte: u8) -> Selected
+#[tactic(auto, unfolding(crate::specs::Rules::decode_of))]
+fn decode(part: u8, enable: u8, byte: u8) -> Option<(Target, bool)>
     ensures { result ≡ decode_of (facts_of part) enable byte }
 {
     let on = enabled(part, enable, byte);
     if on {
         return named(part, byte);
     }
-    Selected::Miss
+    None
 }
 
+#[tactic(auto, unfolding(crate::specs::Rules::enabled_of))]
 fn enabled(part: u8, enable: u8, byte: u8) -> bool
     ensures { result ≡ enabled_of (facts_of part) enable byte }
 {
-    let f = parts::facts_of(part);
-    if f.wide {
-        return byte / 2 % 8 == enable;
-    }
-    true
+    !parts::facts_of(part).wide || byte / 2 % 8 == enable
 }
 
+#[tactic(auto, unfolding(crate::specs::Rules::address_start_of))]
 fn first(part: u8, target: Target, byte: u8) -> Recv
     ensures { result ≡ address_start_of (facts_of part) target byte }
 {
-    let f = parts::facts_of(part);
+    let wide = parts::facts_of(part).wide;
     match target {
-        Target::Array => {
-            if f.wide {
-                return Recv::AddressHigh(Target::Array);
-            }
-            Recv::AddressLow(Target::Array, byte / 2 % 8)
-        }
-        Target::Ident => {
-            if f.wide {
-                return Recv::AddressHigh(Target::Ident);
-            }
-            Recv::AddressLow(Target::Ident, 0)
-        }
+        Target::Array if wide => Recv::AddressHigh(Target::Array),
+        Target::Array => Recv::AddressLow(Target::Array, byte / 2 % 8),
+        Target::Ident if wide => Recv::AddressHigh(Target::Ident),
+        Target::Ident => Recv::AddressLow(Target::Ident, 0),
     }
 }
 
-fn select(part: u8, core: Core, byte: u8, heard: Selected) -> After
+#[tactic(auto, unfolding(crate::specs::Rules::selected_of))]
+fn select(part: u8, core: Core, byte: u8, heard: Option<(Target, bool)>) -> After
     ensures { result ≡ selected_of (facts_of part) core byte heard }
 {
     match heard {
-        Selected::Miss => After {
-            core: core,
+        None => After {
+            core,
             phase: Phase::Idle,
             act: Act::Keep,
         },
-        Selected::Hit(t, read) => {
+        Some((t, read)) => {
             if read {
                 return After {
-                    core: core,
+                    core,
                     phase: Phase::Send(t),
                     act: Act::Keep,
                 };
             }
             let r = first(part, t, byte);
             After {
-                core: core,
+                core,
                 phase: Phase::Receive(r),
                 act: Act::Keep,
             }
@@ -252,7 +232,7 @@ fn select(part: u8, core: Core, byte: u8, heard: Selected) -> After
 fn address(high: u8, low: u8) -> usize
     ensures { result ≡ high * 256 + low }
 {
-    (high as usize) * 256 + (low as usize)
+    usize::from(u16::from_be_bytes([high, low]))
 }
 
 // Bits above the array size are ignored.
@@ -260,90 +240,77 @@ fn array_address(part: u8, a: usize) -> ArrayAddress
     ensures value { result ≡ array_address_of (facts_of part) a }
     ensures range { result.0 < 65536 }
 {
-    let f = parts::facts_of(part);
-    let size = f.size;
-    let n = a % size;
-    ArrayAddress(n)
+    ArrayAddress(a % parts::facts_of(part).size)
 }
 
 fn location(part: u8, a: usize) -> IdLocation
     ensures value { result ≡ location_of (facts_of part) a }
     ensures range { result.0 < 65536 }
 {
-    let f = parts::facts_of(part);
-    let p = f.page;
-    let n = a % p;
-    IdLocation(n)
+    IdLocation(a % parts::facts_of(part).page)
 }
 
 fn asks_lock(part: u8, a: usize) -> bool
     ensures { result ≡ asks_lock_of (facts_of part) a }
 {
-    let f = parts::facts_of(part);
-    let weight = f.lock;
-    a / weight % 2 == 1
+    a / parts::facts_of(part).lock % 2 == 1
 }
 
+#[tactic(auto, unfolding(crate::specs::Rules::load_array_of))]
 fn load_array(core: Core, a: ArrayAddress) -> After
     requires { a.0 < 65536 }
     ensures { result ≡ load_array_of core a }
 {
-    let n = a.0 as u16;
     After {
-        core: Core { counter: n, ..core },
+        core: Core {
+            counter: a.0 as u16,
+            ..core
+        },
         phase: Phase::Receive(Recv::Fill(Target::Array, false)),
         act: Act::Drop,
     }
 }
 
+#[tactic(auto, unfolding(crate::specs::Rules::load_id_of))]
 fn load_id(core: Core, at: IdLocation, lock: bool) -> After
     requires { at.0 < 65536 }
     ensures { result ≡ load_id_of core at lock }
 {
-    let n = at.0 as u16;
-    if lock {
-        return After {
-            core: Core { counter: n, ..core },
-            phase: Phase::Receive(Recv::LockByte),
-            act: Act::Drop,
-        };
-    }
+    let core = Core {
+        counter: at.0 as u16,
+        ..core
+    };
+    let recv = if lock {
+        Recv::LockByte
+    } else {
+        Recv::Fill(Target::Ident, false)
+    };
     After {
-        core: Core { counter: n, ..core },
-        phase: Phase::Receive(Recv::Fill(Target::Ident, false)),
+        core,
+        phase: Phase::Receive(recv),
         act: Act::Drop,
     }
 }
 
+#[tactic(auto, unfolding(crate::specs::Rules::loaded_of))]
 fn load(part: u8, core: Core, target: Target, a: usize) -> After
     ensures { result ≡ loaded_of (facts_of part) core target a }
 {
     match target {
-        Target::Array => {
-            let at = array_address(part, a);
-            load_array(core, at)
-        }
-        Target::Ident => {
-            let at = location(part, a);
-            let lock = asks_lock(part, a);
-            load_id(core, at, lock)
-        }
+        Target::Array => load_array(core, array_address(part, a)),
+        Target::Ident => load_id(core, location(part, a), asks_lock(part, a)),
     }
 }
 
 // ---- rules 3, 4, 5
 
+#[tactic(auto, unfolding(crate::specs::Rules::refuses_of))]
 fn refuses(core: Core, target: Target) -> bool
     ensures { result ≡ refuses_of core target }
 {
     match target {
         Target::Array => core.inhibited,
-        Target::Ident => {
-            if core.inhibited {
-                return true;
-            }
-            core.locked
-        }
+        Target::Ident => core.inhibited || core.locked,
     }
 }
 
@@ -351,68 +318,64 @@ fn give_up(core: Core) -> After
     ensures { result ≡ given_up core }
 {
     After {
-        core: core,
+        core,
         phase: Phase::Idle,
         act: Act::Drop,
     }
 }
 
+#[tactic(auto, unfolding(crate::specs::Rules::latched_of))]
 fn latch(part: u8, core: Core, target: Target, byte: u8) -> After
     ensures { result ≡ latched_of (facts_of part) core target byte }
 {
-    let f = parts::facts_of(part);
-    let p = f.page;
+    let p = parts::facts_of(part).page;
     let c = core.counter;
     let n = rolled(part, c);
     After {
         core: Core { counter: n, ..core },
         phase: Phase::Receive(Recv::Fill(target, true)),
-        act: Act::Put(c as usize % p, byte),
+        act: Act::Put(usize::from(c) % p, byte),
     }
 }
 
+#[tactic(auto, unfolding(crate::specs::Rules::filled_of))]
 fn fill(part: u8, core: Core, target: Target, byte: u8) -> After
     ensures { result ≡ filled_of (facts_of part) core target byte }
 {
-    let no = refuses(core, target);
-    if no {
-        return give_up(core);
+    if refuses(core, target) {
+        give_up(core)
+    } else {
+        latch(part, core, target, byte)
     }
-    latch(part, core, target, byte)
 }
 
+#[tactic(auto, unfolding(crate::specs::Rules::locked_by_of))]
 fn lock(core: Core, byte: u8) -> After
     ensures { result ≡ locked_by_of core byte }
 {
-    let no = refuses(core, Target::Ident);
-    if no {
+    if refuses(core, Target::Ident) {
         return give_up(core);
     }
     After {
-        core: core,
+        core,
         phase: Phase::Receive(Recv::LockTaken(byte / 2 % 2 == 1)),
         act: Act::Keep,
     }
 }
 
 // What a whole received byte does.
+#[tactic(auto, unfolding(crate::specs::Rules::taken_of))]
 fn take(part: u8, enable: u8, core: Core, recv: Recv, byte: u8) -> After
     ensures { result ≡ taken_of (facts_of part) enable core recv byte }
 {
     match recv {
-        Recv::Select => {
-            let heard = decode(part, enable, byte);
-            select(part, core, byte, heard)
-        }
+        Recv::Select => select(part, core, byte, decode(part, enable, byte)),
         Recv::AddressHigh(t) => After {
-            core: core,
+            core,
             phase: Phase::Receive(Recv::AddressLow(t, byte)),
             act: Act::Keep,
         },
-        Recv::AddressLow(t, high) => {
-            let a = address(high, byte);
-            load(part, core, t, a)
-        }
+        Recv::AddressLow(t, high) => load(part, core, t, address(high, byte)),
         Recv::Fill(t, _) => fill(part, core, t, byte),
         Recv::LockByte => lock(core, byte),
         Recv::LockTaken(_) => give_up(core),
@@ -426,12 +389,11 @@ fn released(phase: Phase) -> u8
 {
     match phase {
         Phase::Idle => 1,
-        Phase::Receive(_) => 0,
-        Phase::Send(_) => 0,
-        Phase::Busy(_) => 0,
+        Phase::Receive(_) | Phase::Send(_) | Phase::Busy(_) => 0,
     }
 }
 
+#[tactic(auto, unfolding(crate::specs::Rules::received_of, crate::specs::Rules::receive_act_of, crate::specs::Rules::receive_level_of))]
 fn receive(part: u8, enable: u8, line: Line, recv: Recv, value: bool) -> LineMove
     ensures { result
         ≡ record {
@@ -442,30 +404,21 @@ fn receive(part: u8, enable: u8, line: Line, recv: Recv, value: bool) -> LineMov
           cycles = 0;
         } }
 {
-    let left = line.left;
-    let core = line.core;
-    let shift = line.shift;
-    if left == 0 {
-        let a = take(part, enable, core, recv, shift);
-        let phase = a.phase;
-        let kept = a.core;
-        let act = a.act;
-        let level = released(phase);
-        let next = at_phase(kept, phase);
+    if line.left == 0 {
+        let after = take(part, enable, line.core, recv, line.shift);
         return LineMove {
-            line: next,
-            act: act,
-            level: level,
+            line: at_phase(after.core, after.phase),
+            act: after.act,
+            level: released(after.phase),
             cycles: 0,
         };
     }
-    let bit = parts::flag(value);
     LineMove {
         line: Line {
-            core: core,
             phase: Phase::Receive(recv),
-            left: left - 1,
-            shift: shift % 128 * 2 + bit,
+            left: line.left - 1,
+            shift: line.shift % 128 * 2 + parts::flag(value),
+            ..line
         },
         act: Act::Keep,
         level: 1,
@@ -474,81 +427,69 @@ fn receive(part: u8, enable: u8, line: Line, recv: Recv, value: bool) -> LineMov
 }
 
 // The counter after a bit was sent: it moves at the eighth.
+#[tactic(auto, unfolding(crate::specs::Rules::moved_of))]
 fn count_on(part: u8, core: Core, target: Target, left: u8) -> Core
     ensures { result ≡ moved_of (facts_of part) core target left }
 {
-    if left == 0 {
-        let f = parts::facts_of(part);
-        let size = f.size;
-        let p = f.page;
-        let c = core.counter as usize;
-        match target {
-            Target::Array => {
-                return Core {
-                    counter: ((c + 1) % size) as u16,
-                    ..core
-                };
-            }
-            Target::Ident => {
-                return Core {
-                    counter: ((c + 1) % p) as u16,
-                    ..core
-                };
-            }
-        }
+    if left != 0 {
+        return core;
     }
-    core
+    let f = parts::facts_of(part);
+    let next = usize::from(core.counter) + 1;
+    match target {
+        Target::Array => Core {
+            counter: (next % f.size) as u16,
+            ..core
+        },
+        Target::Ident => Core {
+            counter: (next % f.page) as u16,
+            ..core
+        },
+    }
 }
 
+#[tactic(auto, unfolding(crate::specs::Rules::send_level_of))]
 fn bit_at(byte: u8, left: u8) -> u8
     ensures { result ≡ send_level_of byte left }
 {
     if left == 0 {
-        return 1;
+        1
+    } else if left <= 8 {
+        (byte >> (left - 1)) % 2
+    } else {
+        0
     }
-    if left <= 8 {
-        return (byte >> (left - 1)) % 2;
-    }
-    0
 }
 
 // A clock of a byte that is sent.
+#[tactic(auto, unfolding(crate::specs::Rules::sent_of))]
 pub fn send(part: u8, line: Line, target: Target, byte: u8, value: bool) -> LineMove
     ensures { result
         ≡ record { line = sent_of (facts_of part) line value target line.left; act = Act.Keep; level = send_level_of byte line.left; cycles = 0 } }
 {
-    let left = line.left;
-    let core = line.core;
-    let shift = line.shift;
-    let level = bit_at(byte, left);
-    if left == 0 {
-        if value {
-            let gone = at_phase(core, Phase::Idle);
-            return LineMove {
-                line: gone,
-                act: Act::Keep,
-                level: level,
-                cycles: 0,
-            };
-        }
-        let on = at_phase(core, Phase::Send(target));
+    let level = bit_at(byte, line.left);
+    if line.left == 0 {
+        let next = if value {
+            Phase::Idle
+        } else {
+            Phase::Send(target)
+        };
         return LineMove {
-            line: on,
+            line: at_phase(line.core, next),
             act: Act::Keep,
-            level: level,
+            level,
             cycles: 0,
         };
     }
-    let kept = count_on(part, core, target, left - 1);
     LineMove {
         line: Line {
-            core: kept,
+            core: count_on(part, line.core, target, line.left - 1),
             phase: Phase::Send(target),
-            left: left - 1,
-            shift: shift,
+            left: line.left - 1,
+            ..line
         },
         act: Act::Keep,
-        level: level,
+        level,
         cycles: 0,
     }
 }
@@ -557,13 +498,14 @@ fn release(line: Line) -> LineMove
     ensures { result ≡ record { line = line; act = Act.Keep; level = 1; cycles = 0 } }
 {
     LineMove {
-        line: line,
+        line,
         act: Act::Keep,
         level: 1,
         cycles: 0,
     }
 }
 
+#[tactic(auto, unfolding(crate::specs::Rules::clocked_of, crate::specs::Rules::clock_act_of, crate::specs::Rules::clock_level_of))]
 fn clock(part: u8, enable: u8, line: Line, byte: u8, value: bool) -> LineMove
     ensures { result
         ≡ record {
@@ -574,12 +516,10 @@ fn clock(part: u8, enable: u8, line: Line, byte: u8, value: bool) -> LineMove
           cycles = 0;
         } }
 {
-    let phase = line.phase;
-    match phase {
-        Phase::Idle => release(line),
+    match line.phase {
+        Phase::Idle | Phase::Busy(_) => release(line),
         Phase::Receive(r) => receive(part, enable, line, r, value),
         Phase::Send(t) => send(part, line, t, byte, value),
-        Phase::Busy(_) => release(line),
     }
 }
 
@@ -589,8 +529,8 @@ fn quiet(line: Line, act: Act) -> LineMove
     ensures { result ≡ quietly line act }
 {
     LineMove {
-        line: line,
-        act: act,
+        line,
+        act,
         level: 2,
         cycles: 0,
     }
@@ -599,73 +539,66 @@ fn quiet(line: Line, act: Act) -> LineMove
 fn open(core: Core) -> LineMove
     ensures { result ≡ quietly (opened core) Act.Drop }
 {
-    let pin = core.pin;
-    let high = is_high(pin);
     let marked = Core {
-        inhibited: high,
+        inhibited: is_high(core.pin),
         ..core
     };
-    let line = at_phase(marked, Phase::Receive(Recv::Select));
-    quiet(line, Act::Drop)
+    quiet(at_phase(marked, Phase::Receive(Recv::Select)), Act::Drop)
 }
 
+#[tactic(auto, unfolding(crate::specs::Rules::started_of, crate::specs::Rules::start_act_of))]
 fn start(line: Line) -> LineMove
     ensures { result ≡ quietly (started_of line line.phase) (start_act_of line.phase) }
 {
-    let phase = line.phase;
-    let core = line.core;
-    match phase {
-        Phase::Idle => open(core),
-        Phase::Receive(_) => open(core),
-        Phase::Send(_) => open(core),
+    match line.phase {
+        Phase::Idle | Phase::Receive(_) | Phase::Send(_) => open(line.core),
         Phase::Busy(_) => quiet(line, Act::Keep),
     }
 }
 
-fn asks(recv: Recv) -> CycleAsked
+#[tactic(auto, unfolding(crate::specs::Rules::asks_of))]
+fn asks(recv: Recv) -> Option<Cycle>
     ensures { result ≡ asks_of recv }
 {
     match recv {
-        Recv::Select => CycleAsked::NoCycle,
-        Recv::AddressHigh(_) => CycleAsked::NoCycle,
-        Recv::AddressLow(_, _) => CycleAsked::NoCycle,
+        Recv::Select => None,
+        Recv::AddressHigh(_) => None,
+        Recv::AddressLow(_, _) => None,
         Recv::Fill(t, acked) => {
             if acked {
-                return CycleAsked::For(Cycle::Writing(t));
+                return Some(Cycle::Writing(t));
             }
-            CycleAsked::NoCycle
+            None
         }
-        Recv::LockByte => CycleAsked::NoCycle,
+        Recv::LockByte => None,
         Recv::LockTaken(on) => {
             if on {
-                return CycleAsked::For(Cycle::Locking);
+                return Some(Cycle::Locking);
             }
-            CycleAsked::NoCycle
+            None
         }
     }
 }
 
+#[tactic(auto, unfolding(crate::specs::Rules::placed_of))]
 fn placed(line: Line) -> bool
     ensures { result ≡ placed_of line }
 {
-    let core = line.core;
-    if line.left == 8 {
-        return !core.inhibited;
-    }
-    false
+    line.left == 8 && !line.core.inhibited
 }
 
 // The cycle that a Stop begins while a byte is received.
-fn due(line: Line, recv: Recv) -> CycleAsked
+fn due(line: Line, recv: Recv) -> Option<Cycle>
     ensures { result ≡ due_of (placed_of line) (asks_of recv) }
 {
     let well = placed(line);
     if well {
         return asks(recv);
     }
-    CycleAsked::NoCycle
+    None
 }
 
+#[tactic(auto, unfolding(crate::specs::Rules::stopped_of, crate::specs::Rules::stop_act_of, crate::specs::Rules::stop_begun_of))]
 fn stop_receiving(line: Line, recv: Recv) -> LineMove
     ensures { result
         ≡ record {
@@ -679,11 +612,11 @@ fn stop_receiving(line: Line, recv: Recv) -> LineMove
     let core = line.core;
     let asked = due(line, recv);
     match asked {
-        CycleAsked::NoCycle => {
+        None => {
             let next = at_phase(core, Phase::Idle);
             quiet(next, Act::Drop)
         }
-        CycleAsked::For(cycle) => {
+        Some(cycle) => {
             let next = at_phase(core, Phase::Busy(cycle));
             LineMove {
                 line: next,
@@ -698,37 +631,35 @@ fn stop_receiving(line: Line, recv: Recv) -> LineMove
 fn rest(core: Core) -> LineMove
     ensures { result ≡ quietly (at core Phase.Idle) Act.Drop }
 {
-    let next = at_phase(core, Phase::Idle);
-    quiet(next, Act::Drop)
+    quiet(at_phase(core, Phase::Idle), Act::Drop)
 }
 
+#[tactic(auto, unfolding(crate::specs::Rules::stopped_of, crate::specs::Rules::stop_act_of, crate::specs::Rules::stop_begun_of))]
 fn stop(line: Line) -> LineMove
     ensures { result
         ≡ record { line = stopped_of line line.phase; act = stop_act_of line line.phase; level = 2; cycles = stop_begun_of line line.phase } }
 {
-    let phase = line.phase;
-    let core = line.core;
-    match phase {
-        Phase::Idle => rest(core),
+    match line.phase {
+        Phase::Idle | Phase::Send(_) => rest(line.core),
         Phase::Receive(r) => stop_receiving(line, r),
-        Phase::Send(_) => rest(core),
         Phase::Busy(_) => quiet(line, Act::Keep),
     }
 }
 
+#[tactic(auto, unfolding(crate::specs::Rules::ended_by_of))]
 fn end_writing(part: u8, core: Core, target: Target) -> LineMove
     ensures { result ≡ quietly (ended_by_of (facts_of part) core (Cycle.Writing target)) Act.Drop }
 {
     match target {
-        Target::Array => {
-            let c = core.counter;
-            let n = onward(part, c);
-            rest(Core { counter: n, ..core })
-        }
+        Target::Array => rest(Core {
+            counter: onward(part, core.counter),
+            ..core
+        }),
         Target::Ident => rest(core),
     }
 }
 
+#[tactic(auto, unfolding(crate::specs::Rules::ended_by_of))]
 fn end_cycle(part: u8, core: Core, cycle: Cycle) -> LineMove
     ensures { result ≡ quietly (ended_by_of (facts_of part) core cycle) Act.Drop }
 {
@@ -741,53 +672,42 @@ fn end_cycle(part: u8, core: Core, cycle: Cycle) -> LineMove
     }
 }
 
+#[tactic(auto, unfolding(crate::specs::Rules::ended_of, crate::specs::Rules::end_act_of))]
 fn end(part: u8, line: Line) -> LineMove
     ensures { result ≡ quietly (ended_of (facts_of part) line line.phase) (end_act_of line.phase) }
 {
-    let phase = line.phase;
-    let core = line.core;
-    match phase {
-        Phase::Idle => quiet(line, Act::Keep),
-        Phase::Receive(_) => quiet(line, Act::Keep),
-        Phase::Send(_) => quiet(line, Act::Keep),
-        Phase::Busy(y) => end_cycle(part, core, y),
+    match line.phase {
+        Phase::Idle | Phase::Receive(_) | Phase::Send(_) => quiet(line, Act::Keep),
+        Phase::Busy(y) => end_cycle(part, line.core, y),
     }
 }
 
 fn mark(line: Line, pin: Pin, inhibited: bool) -> Line
     ensures { result ≡ marked line pin inhibited }
 {
-    let core = line.core;
-    let next = Core {
-        pin: pin,
-        inhibited: inhibited,
-        ..core
-    };
-    Line { core: next, ..line }
+    Line {
+        core: Core {
+            pin,
+            inhibited,
+            ..line.core
+        },
+        ..line
+    }
 }
 
 fn mark_in_transfer(line: Line, pin: Pin) -> Line
     ensures { result ≡ marked_in line pin }
 {
-    let core = line.core;
-    if core.inhibited {
-        return mark(line, pin, true);
-    }
-    let high = is_high(pin);
-    mark(line, pin, high)
+    mark(line, pin, line.core.inhibited || is_high(pin))
 }
 
+#[tactic(auto, unfolding(crate::specs::Rules::pinned_of))]
 fn set_pin(line: Line, pin: Pin) -> Line
     ensures { result ≡ pinned_of line pin line.phase }
 {
-    let phase = line.phase;
-    let core = line.core;
-    let before = core.inhibited;
-    match phase {
-        Phase::Idle => mark(line, pin, before),
-        Phase::Receive(_) => mark_in_transfer(line, pin),
-        Phase::Send(_) => mark_in_transfer(line, pin),
-        Phase::Busy(_) => mark(line, pin, before),
+    match line.phase {
+        Phase::Idle | Phase::Busy(_) => mark(line, pin, line.core.inhibited),
+        Phase::Receive(_) | Phase::Send(_) => mark_in_transfer(line, pin),
     }
 }
 
@@ -814,13 +734,12 @@ fn lock_at_reset(loss: Loss, lock: bool, phase: Phase) -> bool
     ensures { result ≡ lock_at_reset loss lock phase }
 {
     match phase {
-        Phase::Idle => lock,
-        Phase::Receive(_) => lock,
-        Phase::Send(_) => lock,
+        Phase::Idle | Phase::Receive(_) | Phase::Send(_) => lock,
         Phase::Busy(y) => lock_cut(loss, lock, y),
     }
 }
 
+#[tactic(auto, unfolding(crate::specs::Rules::reset_of))]
 fn reset(loss: Loss, core: Core, phase: Phase) -> Line
     ensures { result ≡ reset_of loss core phase }
 {
@@ -834,6 +753,7 @@ fn reset(loss: Loss, core: Core, phase: Phase) -> Line
 }
 
 // One event; `byte` is the byte at the counter.
+#[tactic(auto, unfolding(crate::specs::Rules::move_of, crate::specs::Rules::next_of, crate::specs::Rules::act_of, crate::specs::Rules::level_of, crate::specs::Rules::begun_of))]
 pub fn advance(part: u8, enable: u8, line: Line, byte: u8, event: Event) -> LineMove
     ensures { result ≡ move_of (facts_of part) enable line byte event }
 {
@@ -842,24 +762,10 @@ pub fn advance(part: u8, enable: u8, line: Line, byte: u8, event: Event) -> Line
         Event::Start => start(line),
         Event::Stop => stop(line),
         Event::Ends => end(part, line),
-        Event::PinLow => {
-            let next = set_pin(line, Pin::Low);
-            quiet(next, Act::Keep)
-        }
-        Event::PinHigh => {
-            let next = set_pin(line, Pin::High);
-            quiet(next, Act::Keep)
-        }
-        Event::PinFloat => {
-            let next = set_pin(line, Pin::Floating);
-            quiet(next, Act::Keep)
-        }
-        Event::Reset(loss) => {
-            let core = line.core;
-            let phase = line.phase;
-            let next = reset(loss, core, phase);
-            quiet(next, Act::Drop)
-        }
+        Event::PinLow => quiet(set_pin(line, Pin::Low), Act::Keep),
+        Event::PinHigh => quiet(set_pin(line, Pin::High), Act::Keep),
+        Event::PinFloat => quiet(set_pin(line, Pin::Floating), Act::Keep),
+        Event::Reset(loss) => quiet(reset(loss, line.core, line.phase), Act::Drop),
         Event::Unknown => quiet(line, Act::Keep),
     }
 }

@@ -1,5 +1,6 @@
 -- A look that is not refused finds its page whole in its buffer, whatever P is.
 -- Assumes nothing.
+use Rattle.std.specs.Prelude.{Ok}
 use mathlib.Core.Path.{◌≡◌, refl, ◌∙◌}
 use Prim.Native.Nat.{ℕ, ◌+◌, ◌*◌, ◌/◌, ◌<◌, ◌≤◌}
 use mathlib.Core.Bool.{Bool, true, false, cond}
@@ -9,7 +10,6 @@ use lib.Dec.{eqb}
 use borrow.Author.Tests.{leb-false, eqb-true, not-false}
 use Rattle.parts.specs.declared.Facts.{Facts}
 use Rattle.parts.specs.declared.Refusal.TheVariants.{Beyond}
-use Rattle.parts.specs.declared.Verdict.TheVariants.{Fine}
 use Rattle.parts.specs.Table.{facts_of, id_size_of, buffers_right_of}
 use Rattle.parts.specs.Refusals.{claim_of, lent_verdict_of}
 use Rattle.parts.proofs.Laws.{sound}
@@ -43,7 +43,7 @@ pub record Accepted (f : Facts) (array id : ℕ) (place : Place) : Type 0 where
   pub id_right : id ≡ id_size_of f
   pub inside : outside_of f place ≡ false
 
-pub accepted : (part array id : ℕ) (place : Place) → look_refusal_of part array id place ≡ Fine → Accepted (facts_of part) array id place
+pub accepted : (part array id : ℕ) (place : Place) → look_refusal_of part array id place ≡ Ok tt → Accepted (facts_of part) array id place
 unfolding look_refusal_of
 accepted part array id place h =
     let f = facts_of part in
@@ -57,7 +57,7 @@ accepted part array id place h =
       inside = claim_fine (outside_of f place) Beyond t.1;
     }
 
-pub room : (part array id : ℕ) (place : Place) → look_refusal_of part array id place ≡ Fine → Room (facts_of part) array id place
+pub room : (part array id : ℕ) (place : Place) → look_refusal_of part array id place ≡ Ok tt → Room (facts_of part) array id place
 unfolding id_size_of
 room part array id (Array a) h =
     let f = facts_of part in

@@ -1,5 +1,6 @@
 -- The promises of `specs/Promise.antt` are kept by the definitions that the contracts cite.
 -- Assumes nothing.
+use Rattle.std.specs.Prelude.{Ok, Err}
 use mathlib.Core.Path.{◌≡◌, refl, ◌∙◌, ap}
 use mathlib.Core.Bool.{true}
 use mathlib.Core.List.{List, []}
@@ -12,8 +13,7 @@ use borrow.Author.Tests.{le-leb, lt-leb}
 use Rattle.parts.specs.declared.ArrayAddress.{ArrayAddress}
 use Rattle.parts.specs.declared.Refusal.{Refusal}
 use Rattle.parts.specs.declared.Refusal.TheVariants.{NoPart, WrongBuffer, Beyond}
-use Rattle.parts.specs.declared.Verdict.{Verdict}
-use Rattle.parts.specs.declared.Verdict.TheVariants.{Fine, Refused}
+use Rattle.parts.specs.Verdict.{Verdict}
 use Rattle.parts.specs.Table.{facts_of}
 use Rattle.parts.specs.Refusals.{rank_of, verdict_number_of, claim_of, sooner_of, lent_verdict_of}
 use Rattle.parts.proofs.Laws.{known, unknown, fine, buffers_right_lem, buffers_wrong}
@@ -32,14 +32,14 @@ unfolding look_refusal_of sooner_of
 lent part array id place k l = rw (fine_lent (facts_of part) array id k (buffers_right_lem (facts_of part) array id l.0 l.1))
 
 -- a look within the array, and one at an identification page that is there, are not refused
-in_array_lem : (part array id : ℕ) (a : ArrayAddress) → (facts_of part).known ≡ true → Lengths part array id → a.0 < (facts_of part).size → look_refusal_of part array id (Array a) ≡ Fine
+in_array_lem : (part array id : ℕ) (a : ArrayAddress) → (facts_of part).known ≡ true → Lengths part array id → a.0 < (facts_of part).size → look_refusal_of part array id (Array a) ≡ Ok tt
 in_array_lem part array id a k l low = rw (lent part array id (Array a) k l, lt-leb (facts_of part).size a.0 low)
 
-is_there : (part array id : ℕ) → (facts_of part).known ≡ true → Lengths part array id → (facts_of part).ident ≡ true → look_refusal_of part array id Ident ≡ Fine
+is_there : (part array id : ℕ) → (facts_of part).known ≡ true → Lengths part array id → (facts_of part).ident ≡ true → look_refusal_of part array id Ident ≡ Ok tt
 is_there part array id k l i = rw (lent part array id Ident k l, i)
 
 -- 1 and 3 go before 7
-before_7 : (part array id : ℕ) (place : Place) (r : Refusal) → rank_of r ≤ rank_of Beyond → lent_verdict_of (facts_of part) array id ≡ Refused r → look_refusal_of part array id place ≡ Refused r
+before_7 : (part array id : ℕ) (place : Place) (r : Refusal) → rank_of r ≤ rank_of Beyond → lent_verdict_of (facts_of part) array id ≡ Err r → look_refusal_of part array id place ≡ Err r
 unfolding look_refusal_of
 before_7 part array id place r low h = rw h (given_first r _ (later_claim _ (outside_of (facts_of part) place) Beyond low))
 
@@ -56,7 +56,7 @@ refuses_rightly = record {
 -- ---- where it lies
 
 module _ (part array id : ℕ) where
-  span_fine : (place : Place) → look_refusal_of part array id place ≡ Fine → look_span_of part array id place ≡ page_span_of (facts_of part) place
+  span_fine : (place : Place) → look_refusal_of part array id place ≡ Ok tt → look_span_of part array id place ≡ page_span_of (facts_of part) place
   unfolding look_span_of
   span_fine place h = rw h
 
@@ -65,8 +65,8 @@ module _ (part array id : ℕ) where
   span_refused place h = empty (look_refusal_of part array id place) h
     where
       empty : (v : Verdict) → 0 < verdict_number_of v → shown_span_of v (page_span_of (facts_of part) place) ≡ of_array 0 0
-      empty Fine z = absurd (omega arith)
-      empty (Refused r) z = refl
+      empty (Ok _) z = absurd (omega arith)
+      empty (Err r) z = refl
 
 pub lies_in_buffer : LiesInBuffer look_refusal_of look_span_of
 unfolding page_start_of
@@ -91,11 +91,11 @@ module _ (P a : ℕ) (array : List ℕ) where
   }
 
 module _ (part : ℕ) (array id : List ℕ) where
-  looked_array : (a : ArrayAddress) → look_refusal_of part (length array) (length id) (Array a) ≡ Fine → look_of part array id (Array a) ≡ take (facts_of part).page (drop (a.0 / (facts_of part).page * (facts_of part).page) array)
+  looked_array : (a : ArrayAddress) → look_refusal_of part (length array) (length id) (Array a) ≡ Ok tt → look_of part array id (Array a) ≡ take (facts_of part).page (drop (a.0 / (facts_of part).page * (facts_of part).page) array)
   unfolding look_of page_start_of
   looked_array a h = rw (span_fine part (length array) (length id) (Array a) h)
 
-  looked_ident : look_refusal_of part (length array) (length id) Ident ≡ Fine → look_of part array id Ident ≡ id
+  looked_ident : look_refusal_of part (length array) (length id) Ident ≡ Ok tt → look_of part array id Ident ≡ id
   unfolding look_of
   looked_ident h = rw (span_fine part (length array) (length id) Ident h) (take_all (facts_of part).page id (le_of_eq (room part (length array) (length id) Ident h)))
 
@@ -103,14 +103,14 @@ module _ (part : ℕ) (array id : List ℕ) where
   unfolding look_of
   looked_refused place h = rw (span_refused part (length array) (length id) place h)
 
-  page_shown : (a : ArrayAddress) → look_refusal_of part (length array) (length id) (Array a) ≡ Fine → IsPage (facts_of part).page a.0 array (look_of part array id (Array a))
+  page_shown : (a : ArrayAddress) → look_refusal_of part (length array) (length id) (Array a) ≡ Ok tt → IsPage (facts_of part).page a.0 array (look_of part array id (Array a))
   unfolding page_start_of
   page_shown a h =
       let r = room part (length array) (length id) (Array a) h in
       rw (looked_array a h) (is_page_lem (facts_of part).page a.0 array r.0 r.1)
 
   -- an address in the same page is in the array too
-  page_shared : (a b : ArrayAddress) → look_refusal_of part (length array) (length id) (Array a) ≡ Fine → b.0 / (facts_of part).page ≡ a.0 / (facts_of part).page → look_of part array id (Array b) ≡ look_of part array id (Array a)
+  page_shared : (a b : ArrayAddress) → look_refusal_of part (length array) (length id) (Array a) ≡ Ok tt → b.0 / (facts_of part).page ≡ a.0 / (facts_of part).page → look_of part array id (Array b) ≡ look_of part array id (Array a)
   unfolding page_start_of
   page_shared a b h e =
       let P = (facts_of part).page in

@@ -1,6 +1,7 @@
 -- The promises leave no choice: two looks that keep them give the same numbers and show the same bytes, refused or not.
 -- Looks that do nothing, or show other bytes than the page, break them.
 -- Assumes nothing.
+use Rattle.std.specs.Prelude.{Err}
 use mathlib.Core.Path.{◌≡◌, refl, sym, ◌∙◌}
 use mathlib.Core.Bool.{Bool, true, false}
 use mathlib.Core.List.{List, []}
@@ -13,7 +14,6 @@ use lib.ListN.{length, take, drop, replicate, length-replicate}
 use borrow.Author.Tests.{leb-true, leb-false}
 use Rattle.parts.specs.declared.ArrayAddress.{ArrayAddress}
 use Rattle.parts.specs.declared.Refusal.TheVariants.{Beyond}
-use Rattle.parts.specs.declared.Verdict.TheVariants.{Refused}
 use Rattle.parts.specs.Table.{facts_of, id_size_of, buffers_right_of}
 use Rattle.parts.specs.Refusals.{verdict_number_of}
 use Rattle.parts.proofs.Laws.{buffers_right_lem}
@@ -83,7 +83,7 @@ ident = replicate 16 0
 abbrev at : ℕ → ArrayAddress
 at a = record { 0 = a }
 
-pub all_refused : RefusesRightly (λ part array id place. Refused Beyond) → ⊥
+pub all_refused : RefusesRightly (λ part array id place. Err Beyond) → ⊥
 unfolding facts_of id_size_of
 all_refused R = let z : ◌≡◌ {A = ℕ} 7 0 = R.in_array 0 2048 16 (at 0) (omega arith) (refl, refl) (omega arith) in omega arith
 

@@ -1,11 +1,10 @@
 -- "A page can be looked at, by an array address in it or as the identification page: it is shown as the part of that
 -- lent buffer, array or identification, uncopied." "A refused look at a page shows an empty part."
 -- Assumes nothing.
-use Rattle.std.specs.Prelude.{ℕ, ◌+◌, ◌*◌, ◌/◌, ◌<◌, ◌≤◌, ◌≡◌, Bool, not, List, leb, length, take, drop}
+use Rattle.std.specs.Prelude.{ℕ, ◌+◌, ◌*◌, ◌/◌, ◌<◌, ◌≤◌, ◌≡◌, Bool, not, List, leb, length, take, drop, Ok, Err}
 use Rattle.parts.specs.declared.Facts.{Facts}
 use Rattle.parts.specs.declared.Refusal.TheVariants.{Beyond}
-use Rattle.parts.specs.declared.Verdict.{Verdict}
-use Rattle.parts.specs.declared.Verdict.TheVariants.{Fine, Refused}
+use Rattle.parts.specs.Verdict.{Verdict}
 use Rattle.parts.specs.Table.{facts_of}
 use Rattle.parts.specs.Refusals.{claim_of, sooner_of, lent_verdict_of}
 use Rattle.page.specs.declared.Place.{Place}
@@ -36,8 +35,8 @@ page_span_of f Ident = of_ident 0 f.page
 
 -- the empty part is the array's, at its start: document 01 does not say which
 abbrev pub shown_span_of : Verdict → Span → Span
-shown_span_of Fine page = page
-shown_span_of (Refused r) page = of_array 0 0
+shown_span_of (Ok _) page = page
+shown_span_of (Err r) page = of_array 0 0
 
 -- what is stored has no say in it
 unfoldable pub look_span_of : ℕ → ℕ → ℕ → Place → Span

@@ -3,7 +3,7 @@
 -- Assumes nothing.
 use Rattle.std.specs.Prelude.{ℕ, ◌+◌, ◌*◌, ◌/◌, ◌%◌, ◌<◌, ◌≤◌, ◌≡◌, true, false, List, [], length, take, drop, get_or}
 use Rattle.parts.specs.declared.ArrayAddress.{ArrayAddress}
-use Rattle.parts.specs.declared.Verdict.{Verdict}
+use Rattle.parts.specs.Verdict.{Verdict}
 use Rattle.parts.specs.Table.{facts_of, id_size_of}
 use Rattle.parts.specs.Refusals.{verdict_number_of}
 use Rattle.page.specs.declared.Place.{Place}

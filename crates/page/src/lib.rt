@@ -7,6 +7,7 @@ ghost use Rattle.page.specs.Look.{outside_of, look_refusal_of, page_start_of, pa
 use parts::{ArrayAddress, Facts, Refusal, Verdict};
 
 // "by an array address in it or as the identification page": a chip has one such page at most, so no location is asked for.
+// (An enum and no Option: `Ident` is a place too, and none that is missing.)
 #[derive(Clone, Copy)]
 pub enum Place {
     Array(ArrayAddress),
@@ -24,16 +25,19 @@ fn outside(f: Facts, place: Place) -> bool
 }
 
 // Whether a look is refused, and why: it takes what `look` takes.
+#[tactic(auto, unfolding(crate::specs::Look::look_refusal_of))]
 pub fn look_refusal(part: u8, array: &[u8], id: &[u8], place: Place) -> Verdict
     ensures { result ≡ look_refusal_of part (length array.now) (length id.now) place }
 {
     let f = parts::facts_of(part);
-    let lent = parts::lent_verdict(f, array.len(), id.len());
-    let beyond = outside(f, place);
-    parts::sooner(lent, parts::claim(beyond, Refusal::Beyond))
+    parts::sooner(
+        parts::lent_verdict(f, array.len(), id.len()),
+        parts::claim(outside(f, place), Refusal::Beyond),
+    )
 }
 
 // Where the page of p bytes that holds address a starts.
+#[tactic(auto, unfolding(crate::specs::Look::page_start_of))]
 fn page_start(p: usize, a: usize) -> usize
     requires { 0 < p }
     ensures { result ≡ page_start_of p a }
@@ -47,8 +51,7 @@ fn array_page(s: &[u8], p: usize, a: usize) -> &[u8]
     ensures uncopied { result.ref_ptr ≡ (s.entry.ref_ptr.0, page_start_of p a + s.entry.ref_ptr.1) }
 {
     let from = page_start(p, a);
-    let to = from + p;
-    &s[from..to]
+    &s[from..from + p]
 }
 
 // The page at a place that `look_refusal` does not refuse.
@@ -64,14 +67,14 @@ fn page<'a>(f: Facts, array: &'a [u8], id: &'a [u8], place: Place) -> &'a [u8]
 }
 
 // The page at a place, as a part of one of the lent buffers; an empty part where the look is refused.
+#[tactic(auto, unfolding(crate::specs::Look::look_of, crate::specs::Look::look_span_of))]
 pub fn look<'a>(part: u8, array: &'a [u8], id: &'a [u8], place: Place) -> &'a [u8]
     ensures result_value { result.now ≡ look_of part array.now id.now place }
     ensures uncopied { result.ref_ptr
         ≡ span_at (look_span_of part (length array.now) (length id.now) place) array.entry.ref_ptr id.entry.ref_ptr }
 {
-    let verdict = look_refusal(part, array, id, place);
-    match verdict {
-        Verdict::Fine => page(parts::facts_of(part), array, id, place),
-        Verdict::Refused(_) => &array[..0],
+    match look_refusal(part, array, id, place) {
+        Ok(()) => page(parts::facts_of(part), array, id, place),
+        Err(_) => &array[..0],
     }
 }

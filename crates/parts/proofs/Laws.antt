@@ -1,5 +1,6 @@
 -- Laws of the part table, of a verdict's number, of events and buffers.
 -- Assumes nothing.
+use Rattle.std.specs.Prelude.{Ok, Err}
 use mathlib.Core.Path.{◌≡◌, refl, sym, ap, ◌∙◌}
 use Prim.Native.Nat.{ℕ, zero, suc, ◌%◌, ◌<◌, ◌≤◌}
 use mathlib.Core.Bool.{Bool, true, false, cond}
@@ -17,8 +18,7 @@ use Rattle.parts.specs.Events.{event_with, event_of}
 use Rattle.parts.specs.Sound.{Sound, OneOrder}
 use Rattle.parts.specs.declared.Refusal.{Refusal}
 use Rattle.parts.specs.declared.Refusal.TheVariants.{NoPart, WrongEnable, WrongBuffer, BadState, BadEvent, ShortBuffer, Beyond, BadLimit, NoSelect, NoData, PollsUsed, BadImage, TooMany, NoFirst, NoSecond, BadRecord, BadSum, Misplaced, NoEnd, BadSample, CountsLost}
-use Rattle.parts.specs.declared.Verdict.{Verdict}
-use Rattle.parts.specs.declared.Verdict.TheVariants.{Fine, Refused}
+use Rattle.parts.specs.Verdict.{Verdict}
 use Rattle.parts.specs.Refusals.{number_of, rank_of, verdict_number_of}
 
 -- both ways of a test, each with what the test said
@@ -99,11 +99,11 @@ entered CountsLost = (omega arith, refl)
 pub one_order : OneOrder
 one_order r s e = (entered r).1 ∙ ap (λ (k : ℕ). k % 100) e ∙ sym (entered s).1
 
-pub fine : (v : Verdict) → verdict_number_of v ≡ 0 → v ≡ Fine
-fine Fine h = refl
-fine (Refused r) h = absurd (omega (arith, (entered r).0))
+pub fine : (v : Verdict) → verdict_number_of v ≡ 0 → v ≡ Ok tt
+fine (Ok _) h = refl
+fine (Err r) h = absurd (omega (arith, (entered r).0))
 
-pub passed : (b : Bool) (r : Refusal) (v : Verdict) → cond b (Refused r) v ≡ Fine → (b ≡ false) × (v ≡ Fine)
+pub passed : (b : Bool) (r : Refusal) (v : Verdict) → cond b (Err r) v ≡ Ok tt → (b ≡ false) × (v ≡ Ok tt)
 passed true r v h = let z : ◌≡◌ {A = ℕ} 0 1 = cc in absurd (omega arith)
 passed false r v h = (refl, h)
 

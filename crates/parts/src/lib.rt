@@ -15,7 +15,8 @@ pub struct ArrayAddress(pub usize);
 #[derive(Clone, Copy)]
 pub struct IdLocation(pub usize);
 
-// A part's name: its letters, and zeros behind them.
+// A part's name: its letters, and zeros behind them. The array stands beside its length since `name_of` hands back both (its clause `range`), and a
+// library without a heap owns no text of another length.
 #[derive(Clone, Copy)]
 pub struct Name {
     pub bytes: [u8; 11],
@@ -25,7 +26,7 @@ pub struct Name {
 // What the part table says of a part, beside its name.
 #[derive(Clone, Copy)]
 pub struct Facts {
-    // Whether there is such a part.
+    // Whether there is such a part. A flag and no Option, since `facts_of` answers for every number and refusal 1 is claimed from it: `lent_verdict_of`.
     pub known: bool,
     // Bytes of the array.
     pub size: usize,
@@ -55,10 +56,7 @@ struct Part {
 fn named(bytes: [u8; 11], length: usize) -> Name
     ensures { result ≡ record { bytes = bytes; length = length } }
 {
-    Name {
-        bytes: bytes,
-        length: length,
-    }
+    Name { bytes, length }
 }
 
 fn row(
@@ -76,15 +74,15 @@ fn row(
 {
     Facts {
         known: true,
-        size: size,
-        page: page,
-        wide: wide,
-        ident: ident,
-        pin: pin,
-        enables: enables,
-        lock: lock,
-        group: group,
-        coded: coded,
+        size,
+        page,
+        wide,
+        ident,
+        pin,
+        enables,
+        lock,
+        group,
+        coded,
     }
 }
 
@@ -141,23 +139,26 @@ fn table(part: u8) -> Part
     }
 }
 
+// A part is a number, and so is an enable: the C interface hands on any, and refusals 1 and 2 are for those that are none (`lent_verdict_of`,
+// `enable_right_of`).
+#[tactic(auto, unfolding(crate::specs::Table::facts_of))]
 pub fn facts_of(part: u8) -> Facts
     ensures value { result ≡ facts_of part }
     ensures range { Sound result }
 {
-    let found = table(part);
-    found.facts
+    table(part).facts
 }
 
+#[tactic(auto, unfolding(crate::specs::Table::name_of))]
 pub fn name_of(part: u8) -> Name
     ensures value { result ≡ name_of part }
     ensures range { (result.length ≤ 11) × (length result.bytes ≡ 11) }
 {
-    let row = table(part);
-    row.name
+    table(part).name
 }
 
 // The bytes of a part's identification page: 0 where there is no such page.
+#[tactic(auto, unfolding(crate::specs::Table::id_size_of))]
 pub fn id_size(f: Facts) -> usize
     ensures { result ≡ id_size_of f }
 {
@@ -165,29 +166,29 @@ pub fn id_size(f: Facts) -> usize
 }
 
 // Refusal 3 does not apply: the lengths of the lent array and identification buffer are the part's.
+#[tactic(auto, unfolding(crate::specs::Table::buffers_right_of))]
 pub fn buffers_right(f: Facts, array: usize, id: usize) -> bool
     ensures { result ≡ buffers_right_of f array id }
 {
-    let own = id_size(f);
-    if array == f.size {
-        return id == own;
-    }
-    false
+    array == f.size && id == id_size(f)
 }
 
+#[tactic(auto, unfolding(crate::specs::Table::address_bytes_of))]
 pub fn address_bytes(f: Facts) -> usize
     ensures { result ≡ address_bytes_of f }
 {
     if f.wide { 2 } else { 1 }
 }
 
+#[tactic(auto, unfolding(crate::specs::Table::enable_right_of))]
 pub fn enable_right(f: Facts, enable: u8) -> bool
     ensures { result ≡ enable_right_of f enable }
 {
     enable < f.enables
 }
 
-// What a reset finds where it cuts a cycle (document 02, §5).
+// What a reset finds where it cuts a cycle (document 02, §5). An enum and no `Option<bool>`: `Some(true)` would say neither that a page is lent nor
+// what the flag is.
 #[derive(Clone, Copy)]
 pub enum Loss {
     // The old contents, and no lock: no page is lent.
@@ -210,7 +211,9 @@ pub enum Event {
     Unknown,
 }
 
-// The event of a code; a reset comes with the loss that the call was given.
+// The event of a code; a reset comes with the loss that the call was given. The C interface's runs take codes, and a code that is none is an event
+// too, which leaves a chip as it was: `event_with` of specs/Events.
+#[tactic(auto, unfolding(crate::specs::Events::event_with))]
 pub fn event_with(loss: Loss, code: u8) -> Event
     ensures { result ≡ event_with loss code }
 {
@@ -229,19 +232,11 @@ pub fn event_with(loss: Loss, code: u8) -> Event
 }
 
 // Whether a part takes an event of this code.
+#[tactic(auto, unfolding(crate::specs::Events::event_right_of))]
 pub fn event_right(pin: bool, code: u8) -> bool
     ensures { result ≡ event_right_of pin code }
 {
-    if 8 < code {
-        return false;
-    }
-    if pin {
-        return true;
-    }
-    if code < 5 {
-        return true;
-    }
-    code == 8
+    code <= 8 && (pin || code < 5 || code == 8)
 }
 
 // The bytes of the page that is lent for a loss of power: 0 for the old contents.
@@ -254,47 +249,27 @@ pub fn loss_size(f: Facts, loss: Loss) -> usize
     }
 }
 
-// Whether each byte is below a limit. One test a byte and no way out: the usual case of a longer look.
+// Whether each byte is below a limit. A fold and no `all`: one test a byte and no way out, the usual case of a longer look.
 pub fn all_below(limit: u8, bytes: &[u8]) -> bool
     ensures { result ≡ all_below_of limit true bytes.now }
 {
-    let mut low = true;
-    let mut i = 0;
-    while i < bytes.len() {
-        low = low & (bytes[i] < limit);
-        i += 1;
-    }
-    low
-}
-
-fn least(a: usize, b: usize) -> usize
-    ensures { result ≡ cond (ltb a b) a b }
-{
-    if a < b { a } else { b }
+    bytes.iter().fold(true, |low, b| low & (*b < limit))
 }
 
 // The byte of a buffer, and 0 beyond its end.
 pub fn byte_at(s: &[u8], at: usize) -> u8
     ensures { result ≡ get_or s.now at 0 }
 {
-    if at < s.len() {
-        return s[at];
-    }
-    0
+    if at < s.len() { s[at] } else { 0 }
 }
 
 // As many of the bytes as there is room for, from a place on.
 pub fn copy(out: &mut [u8], at: usize, bytes: &[u8])
     ensures { out.new ≡ copied_of out.old at bytes.now }
 {
-    if out.len() < at {
-        return;
-    }
-    let n = least(bytes.len(), out.len() - at);
-    let mut i = 0;
-    while i < n {
-        out[at + i] = bytes[i];
-        i += 1;
+    if at <= out.len() {
+        let n = bytes.len().min(out.len() - at);
+        out[at..at + n].copy_from_slice(&bytes[..n]);
     }
 }
 
@@ -302,19 +277,7 @@ pub fn copy(out: &mut [u8], at: usize, bytes: &[u8])
 pub fn word(x: usize) -> [u8; 4]
     ensures { result ≡ word_of x }
 {
-    [
-        (x / 16777216 % 256) as u8,
-        (x / 65536 % 256) as u8,
-        (x / 256 % 256) as u8,
-        (x % 256) as u8,
-    ]
-}
-
-fn wide(x: u8) -> usize
-    ensures value { result ≡ x }
-    ensures range { result < 256 }
-{
-    x as usize
+    ((x % 4294967296) as u32).to_be_bytes()
 }
 
 // Four bytes as a number, the high one first.
@@ -322,26 +285,22 @@ pub fn joined(a: u8, b: u8, c: u8, d: u8) -> usize
     ensures value { result ≡ word_joined_of a b c d }
     ensures range { result < word_end }
 {
-    wide(a) * 16777216 + wide(b) * 65536 + wide(c) * 256 + wide(d)
+    u32::from_be_bytes([a, b, c, d]) as usize
 }
 
 // One more, where `on`; a count stays at the top of its 32 bits.
+#[tactic(auto, unfolding(crate::specs::Bytes::up_of))]
 pub fn up(n: u32, on: bool) -> u32
     ensures { result ≡ up_of n on }
 {
-    if on {
-        if n < 4294967295 {
-            return n + 1;
-        }
-    }
-    n
+    if on { n.saturating_add(1) } else { n }
 }
 
 // A flag, or the level of a clock, as a number.
 pub fn flag(on: bool) -> u8
     ensures { result ≡ flag_of on }
 {
-    if on { 1 } else { 0 }
+    u8::from(on)
 }
 
 #[derive(Clone, Copy)]
@@ -377,43 +336,37 @@ pub enum Refusal {
     CountsLost,
 }
 
-// The place that a refusal tells: of 5 the event's, of 9, 14 and 15 the page, of 10 the data byte's, of 16 to 19 the line, of 20 the sample's.
-#[derive(Clone, Copy)]
-pub enum Spot {
-    Nowhere,
-    At(usize),
-}
-
 // What document 01 says of a refusal: the number that is answered; its rank: of two refusals that apply to a call, the one of lower
-// rank is given; and the place.
+// rank is given; and the place that it tells: of 5 the event's, of 9, 14 and 15 the page, of 10 the data byte's, of 16 to 19 the line, of 20 the
+// sample's.
 #[derive(Clone, Copy)]
-struct Entry(pub u8, pub u16, pub Spot);
+struct Entry(pub u8, pub u16, pub Option<usize>);
 
 fn entry_of(r: Refusal) -> Entry
     ensures { result ≡ entry_of r }
 {
     match r {
-        Refusal::NoPart => Entry(1, 1001, Spot::Nowhere),
-        Refusal::WrongEnable => Entry(2, 2002, Spot::Nowhere),
-        Refusal::WrongBuffer => Entry(3, 3003, Spot::Nowhere),
-        Refusal::BadState => Entry(4, 4004, Spot::Nowhere),
-        Refusal::BadEvent(k) => Entry(5, 5005, Spot::At(k)),
-        Refusal::ShortBuffer => Entry(6, 6006, Spot::Nowhere),
-        Refusal::Beyond => Entry(7, 7007, Spot::Nowhere),
-        Refusal::BadLimit => Entry(8, 8008, Spot::Nowhere),
-        Refusal::NoSelect(p) => Entry(9, 9009, Spot::At(p)),
-        Refusal::NoData(i) => Entry(10, 10010, Spot::At(i)),
-        Refusal::PollsUsed => Entry(11, 11011, Spot::Nowhere),
-        Refusal::BadImage => Entry(12, 12012, Spot::Nowhere),
-        Refusal::TooMany => Entry(13, 4513, Spot::Nowhere),
-        Refusal::NoFirst(p) => Entry(14, 14014, Spot::At(p)),
-        Refusal::NoSecond(p) => Entry(15, 15015, Spot::At(p)),
-        Refusal::BadRecord(n) => Entry(16, 16016, Spot::At(n)),
-        Refusal::BadSum(n) => Entry(17, 17017, Spot::At(n)),
-        Refusal::Misplaced(n) => Entry(18, 18018, Spot::At(n)),
-        Refusal::NoEnd(n) => Entry(19, 19019, Spot::At(n)),
-        Refusal::BadSample(k) => Entry(20, 4020, Spot::At(k)),
-        Refusal::CountsLost => Entry(21, 21021, Spot::Nowhere),
+        Refusal::NoPart => Entry(1, 1001, None),
+        Refusal::WrongEnable => Entry(2, 2002, None),
+        Refusal::WrongBuffer => Entry(3, 3003, None),
+        Refusal::BadState => Entry(4, 4004, None),
+        Refusal::BadEvent(k) => Entry(5, 5005, Some(k)),
+        Refusal::ShortBuffer => Entry(6, 6006, None),
+        Refusal::Beyond => Entry(7, 7007, None),
+        Refusal::BadLimit => Entry(8, 8008, None),
+        Refusal::NoSelect(p) => Entry(9, 9009, Some(p)),
+        Refusal::NoData(i) => Entry(10, 10010, Some(i)),
+        Refusal::PollsUsed => Entry(11, 11011, None),
+        Refusal::BadImage => Entry(12, 12012, None),
+        Refusal::TooMany => Entry(13, 4513, None),
+        Refusal::NoFirst(p) => Entry(14, 14014, Some(p)),
+        Refusal::NoSecond(p) => Entry(15, 15015, Some(p)),
+        Refusal::BadRecord(n) => Entry(16, 16016, Some(n)),
+        Refusal::BadSum(n) => Entry(17, 17017, Some(n)),
+        Refusal::Misplaced(n) => Entry(18, 18018, Some(n)),
+        Refusal::NoEnd(n) => Entry(19, 19019, Some(n)),
+        Refusal::BadSample(k) => Entry(20, 4020, Some(k)),
+        Refusal::CountsLost => Entry(21, 21021, None),
     }
 }
 
@@ -421,48 +374,39 @@ fn entry_of(r: Refusal) -> Entry
 pub fn number(r: Refusal) -> u8
     ensures { result ≡ number_of r }
 {
-    let e = entry_of(r);
-    e.0
+    entry_of(r).0
 }
 
 fn rank(r: Refusal) -> u16
     ensures { result ≡ rank_of r }
 {
-    let e = entry_of(r);
-    e.1
+    entry_of(r).1
 }
 
-#[derive(Clone, Copy)]
-pub enum Verdict {
-    Fine,
-    Refused(Refusal),
-}
+// Whether a call is refused, and why.
+pub type Verdict = Result<(), Refusal>;
 
 // 0 where nothing is refused, else the refusal's number.
 pub fn verdict_number(verdict: Verdict) -> u8
     ensures { result ≡ verdict_number_of verdict }
 {
     match verdict {
-        Verdict::Fine => 0,
-        Verdict::Refused(refusal) => number(refusal),
+        Ok(()) => 0,
+        Err(refusal) => number(refusal),
     }
 }
 
 // The place that a refusal carries: whoever tells it reads it here.
-pub fn spot_of(r: Refusal) -> Spot
+pub fn spot_of(r: Refusal) -> Option<usize>
     ensures { result ≡ spot_of r }
 {
-    let e = entry_of(r);
-    e.2
+    entry_of(r).2
 }
 
-fn place_told(spot: Spot) -> usize
+fn place_told(spot: Option<usize>) -> usize
     ensures { result ≡ place_told spot }
 {
-    match spot {
-        Spot::Nowhere => 0,
-        Spot::At(k) => k,
-    }
+    spot.unwrap_or(0)
 }
 
 // The place that a verdict tells; 0 where it tells none.
@@ -470,8 +414,8 @@ pub fn verdict_place(verdict: Verdict) -> usize
     ensures { result ≡ verdict_place_of verdict }
 {
     match verdict {
-        Verdict::Fine => 0,
-        Verdict::Refused(refusal) => place_told(spot_of(refusal)),
+        Ok(()) => 0,
+        Err(refusal) => place_told(spot_of(refusal)),
     }
 }
 
@@ -479,46 +423,38 @@ pub fn verdict_place(verdict: Verdict) -> usize
 pub fn claim(wrong: bool, r: Refusal) -> Verdict
     ensures { result ≡ claim_of wrong r }
 {
-    if wrong {
-        return Verdict::Refused(r);
-    }
-    Verdict::Fine
+    if wrong { Err(r) } else { Ok(()) }
 }
 
 // Of two verdicts the one that is given: the order of document 01.
+#[tactic(auto, unfolding(crate::specs::Refusals::sooner_of))]
 pub fn sooner(a: Verdict, b: Verdict) -> Verdict
     ensures { result ≡ sooner_of a b }
 {
-    let Verdict::Refused(r) = a else {
+    let Err(r) = a else {
         return b;
     };
-    let Verdict::Refused(s) = b else {
+    let Err(s) = b else {
         return a;
     };
-    let x = rank(r);
-    let y = rank(s);
-    if y < x {
-        return b;
-    }
-    a
+    if rank(s) < rank(r) { b } else { a }
 }
 
 // Refusals 1 and 3: no such part, or lent buffers that are not the part's.
+#[tactic(auto, unfolding(crate::specs::Refusals::lent_verdict_of))]
 pub fn lent_verdict(f: Facts, array: usize, id: usize) -> Verdict
     ensures { result ≡ lent_verdict_of f array id }
 {
-    let known = f.known;
-    let lent = buffers_right(f, array, id);
     sooner(
-        claim(!known, Refusal::NoPart),
-        claim(!lent, Refusal::WrongBuffer),
+        claim(!f.known, Refusal::NoPart),
+        claim(!buffers_right(f, array, id), Refusal::WrongBuffer),
     )
 }
 
 // Refusal 3, for the page that is lent for a loss of power.
+#[tactic(auto, unfolding(crate::specs::Refusals::loss_verdict_of))]
 pub fn loss_verdict(f: Facts, loss: Loss, page: usize) -> Verdict
     ensures { result ≡ loss_verdict_of f loss page }
 {
-    let wanted = loss_size(f, loss);
-    claim(page != wanted, Refusal::WrongBuffer)
+    claim(page != loss_size(f, loss), Refusal::WrongBuffer)
 }

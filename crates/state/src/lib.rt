@@ -32,175 +32,133 @@ pub struct Chip {
     pub latch: [u16; 64],
 }
 
+// A part is its number here too, as in the crate line.
 fn empty_from(latch: [u16; 64], from: usize) -> bool
     requires { from ≤ 64 }
     ensures { result ≡ empty_of (drop from latch) }
 {
-    let mut i = from;
-    while i < 64 {
-        if latch[i] < 256 {
-            return false;
-        }
-        i += 1;
-    }
-    true
+    latch[from..].iter().all(|x| 256 <= *x)
 }
 
+#[tactic(auto, unfolding(crate::specs::Range::marks_right_of))]
 fn marks_right(part: u8, latch: [u16; 64]) -> bool
     ensures { result ≡ marks_right_of (facts_of part) latch }
 {
-    let f = parts::facts_of(part);
-    let p = f.page;
-    empty_from(latch, p)
+    empty_from(latch, parts::facts_of(part).page)
 }
 
+#[tactic(auto, unfolding(crate::specs::Range::pin_right_of))]
 fn pin_right(part: u8, pin: Pin) -> bool
     ensures { result ≡ pin_right_of (facts_of part) pin }
 {
-    let f = parts::facts_of(part);
+    let has = parts::facts_of(part).pin;
     match pin {
-        Pin::Absent => !f.pin,
-        Pin::Low => f.pin,
-        Pin::High => f.pin,
-        Pin::Floating => f.pin,
+        Pin::Absent => !has,
+        Pin::Low | Pin::High | Pin::Floating => has,
     }
 }
 
+#[tactic(auto, unfolding(crate::specs::Range::mark_right_of))]
 fn mark_right(core: Core) -> bool
     ensures { result ≡ mark_right_of core }
 {
-    let pin = core.pin;
-    let high = line::is_high(pin);
-    if high {
-        return core.inhibited;
-    }
-    true
+    !line::is_high(core.pin) || core.inhibited
 }
 
+#[tactic(auto, unfolding(crate::specs::Range::target_right_of))]
 fn target_right(part: u8, target: Target) -> bool
     ensures { result ≡ target_right_of (facts_of part) target }
 {
-    let f = parts::facts_of(part);
     match target {
         Target::Array => true,
-        Target::Ident => f.ident,
+        Target::Ident => parts::facts_of(part).ident,
     }
 }
 
+#[tactic(auto, unfolding(crate::specs::Range::lock_right_of))]
 fn lock_right(part: u8, core: Core) -> bool
     ensures { result ≡ lock_right_of (facts_of part) core }
 {
-    let f = parts::facts_of(part);
-    if core.locked {
-        return f.ident;
-    }
-    true
+    !core.locked || parts::facts_of(part).ident
 }
 
+#[tactic(auto, unfolding(crate::specs::Range::location_right_of))]
 fn location_right(part: u8, core: Core, target: Target) -> bool
     ensures { result ≡ location_right_of (facts_of part) core target }
 {
     let f = parts::facts_of(part);
-    let p = f.page;
     match target {
         Target::Array => true,
-        Target::Ident => {
-            if f.ident {
-                return (core.counter as usize) < p;
-            }
-            false
-        }
+        Target::Ident => f.ident && usize::from(core.counter) < f.page,
     }
 }
 
+#[tactic(auto, unfolding(crate::specs::Range::last_right_of))]
 fn last_right(part: u8, core: Core, latch: [u16; 64]) -> bool
     ensures { result ≡ last_right_of (facts_of part) core latch }
 {
-    let f = parts::facts_of(part);
-    let p = f.page;
-    let c = core.counter as usize;
-    let place = (c + (p - 1)) % p;
+    let p = parts::facts_of(part).page;
+    let place = (usize::from(core.counter) + (p - 1)) % p;
     latch[place] < 256
 }
 
+#[tactic(auto, unfolding(crate::specs::Range::acked_right_of))]
 fn acked_right(part: u8, core: Core, latch: [u16; 64], left: u8, acked: bool) -> bool
     ensures { result ≡ acked_right_of (facts_of part) core latch left acked }
 {
-    if acked {
-        if left == 8 {
-            return last_right(part, core, latch);
-        }
-        return true;
-    }
-    true
+    !acked || left != 8 || last_right(part, core, latch)
 }
 
+#[tactic(auto, unfolding(crate::specs::Range::open_right_of))]
 fn open_right(core: Core, latch: [u16; 64], target: Target) -> bool
     ensures { result ≡ open_right_of core latch target }
 {
     match target {
         Target::Array => true,
-        Target::Ident => {
-            if core.locked {
-                return empty_from(latch, 0);
-            }
-            true
-        }
+        Target::Ident => !core.locked || empty_from(latch, 0),
     }
 }
 
+#[tactic(auto, unfolding(crate::specs::Range::fill_right_of))]
 fn fill_right(part: u8, core: Core, latch: [u16; 64], left: u8, target: Target, acked: bool) -> bool
     ensures { result ≡ fill_right_of (facts_of part) core latch left target acked }
 {
-    let located = location_right(part, core, target);
-    if located {
-        let followed = acked_right(part, core, latch, left, acked);
-        if followed {
-            return open_right(core, latch, target);
-        }
-        return false;
-    }
-    false
+    location_right(part, core, target)
+        && acked_right(part, core, latch, left, acked)
+        && open_right(core, latch, target)
 }
 
+#[tactic(auto, unfolding(crate::specs::Range::unlocked_right_of))]
 fn unlocked_right(part: u8, core: Core) -> bool
     ensures { result ≡ unlocked_right_of (facts_of part) core }
 {
-    let located = location_right(part, core, Target::Ident);
-    if located {
-        return !core.locked;
-    }
-    false
+    location_right(part, core, Target::Ident) && !core.locked
 }
 
+#[tactic(auto, unfolding(crate::specs::Range::recv_right_of))]
 fn recv_right(part: u8, core: Core, latch: [u16; 64], left: u8, recv: Recv) -> bool
     ensures { result ≡ recv_right_of (facts_of part) core latch left recv }
 {
     match recv {
         Recv::Select => true,
-        Recv::AddressHigh(t) => target_right(part, t),
-        Recv::AddressLow(t, _) => target_right(part, t),
+        Recv::AddressHigh(t) | Recv::AddressLow(t, _) => target_right(part, t),
         Recv::Fill(t, acked) => fill_right(part, core, latch, left, t, acked),
         Recv::LockByte => location_right(part, core, Target::Ident),
         Recv::LockTaken(_) => unlocked_right(part, core),
     }
 }
 
+#[tactic(auto, unfolding(crate::specs::Range::writing_right_of))]
 fn writing_right(part: u8, core: Core, latch: [u16; 64], target: Target) -> bool
     ensures { result ≡ writing_right_of (facts_of part) core latch target }
 {
     match target {
         Target::Array => last_right(part, core, latch),
-        Target::Ident => {
-            let open = unlocked_right(part, core);
-            if open {
-                return last_right(part, core, latch);
-            }
-            false
-        }
+        Target::Ident => unlocked_right(part, core) && last_right(part, core, latch),
     }
 }
 
+#[tactic(auto, unfolding(crate::specs::Range::cycle_right_of))]
 fn cycle_right(part: u8, core: Core, latch: [u16; 64], cycle: Cycle) -> bool
     ensures { result ≡ cycle_right_of (facts_of part) core latch cycle }
 {
@@ -210,64 +168,40 @@ fn cycle_right(part: u8, core: Core, latch: [u16; 64], cycle: Cycle) -> bool
     }
 }
 
+#[tactic(auto, unfolding(crate::specs::Range::phase_right_of))]
 fn phase_right(part: u8, core: Core, latch: [u16; 64], left: u8, phase: Phase) -> bool
     ensures { result ≡ phase_right_of (facts_of part) core latch left phase }
 {
     match phase {
         Phase::Idle => true,
-        Phase::Receive(r) => {
-            let marked = mark_right(core);
-            if marked {
-                return recv_right(part, core, latch, left, r);
-            }
-            false
-        }
-        Phase::Send(t) => {
-            let marked = mark_right(core);
-            if marked {
-                return target_right(part, t);
-            }
-            false
-        }
+        Phase::Receive(r) => mark_right(core) && recv_right(part, core, latch, left, r),
+        Phase::Send(t) => mark_right(core) && target_right(part, t),
         Phase::Busy(y) => cycle_right(part, core, latch, y),
     }
 }
 
+#[tactic(auto, unfolding(crate::specs::Range::rest_right_of))]
 fn rest_right(part: u8, core: Core, latch: [u16; 64], left: u8, phase: Phase) -> bool
     ensures { result ≡ Rattle.state.specs.Range.rest_right_of (facts_of part) core latch left phase }
 {
-    let pin = core.pin;
-    let pinned = pin_right(part, pin);
-    if pinned {
-        let locked = lock_right(part, core);
-        if locked {
-            return phase_right(part, core, latch, left, phase);
-        }
-        return false;
-    }
-    false
+    pin_right(part, core.pin)
+        && lock_right(part, core)
+        && phase_right(part, core, latch, left, phase)
 }
 
 // Whether a chip of this part may be in this state.
+#[tactic(auto, unfolding(crate::specs::Range::in_range_of))]
 pub fn in_range(part: u8, chip: Chip) -> bool
     ensures { result ≡ in_range_of (facts_of part) chip }
 {
-    let f = parts::facts_of(part);
-    let size = f.size;
-    let line = chip.line;
-    let latch = chip.latch;
-    let core = line.core;
-    let phase = line.phase;
-    let left = line.left;
-    if size <= core.counter as usize {
-        return false;
-    }
-    if 8 < left {
-        return false;
-    }
-    let marks = marks_right(part, latch);
-    if marks {
-        return rest_right(part, core, latch, left, phase);
-    }
-    false
+    let Line {
+        core,
+        phase,
+        left,
+        ..
+    } = chip.line;
+    usize::from(core.counter) < parts::facts_of(part).size
+        && left <= 8
+        && marks_right(part, chip.latch)
+        && rest_right(part, core, chip.latch, left, phase)
 }

@@ -36,16 +36,6 @@ each_end g xs d s i h e q =
     let short : length d ≤ i = omega (arith, e) in
     q ∙ rw (take_all xs i h, drop_of_length-le d short, append-nil)
 
-copy_suc : (s d : List ℕ) (i : ℕ) → i < length s → i < length d → set (take i s ++ drop i d) i (get_or s i 0) ≡ take (suc i) s ++ drop (suc i) d
-copy_suc [] d i h k = absurd (not-suc-le-zero h)
-copy_suc (x ∷ s) [] i h k = absurd (not-suc-le-zero k)
-copy_suc (x ∷ s) (y ∷ d) zero h k = refl
-copy_suc (x ∷ s) (y ∷ d) (suc i) h k = ap (λ (t : List ℕ). x ∷ t) (copy_suc s d i (le_of_suc-le-suc h) (le_of_suc-le-suc k))
-
--- a turn of the copy: one byte more is over
-pub copy_turn : (s d : List ℕ) (i : ℕ) → i < length s → i < length d → set (take i s ++ drop i d) i (get_or s i 0) ≡ take (i + 1) s ++ drop (i + 1) d
-copy_turn s d i h k = rw add-one (copy_suc s d i h k)
-
 -- what is not done yet is as it was
 pub each_ahead : (g : ℕ → ℕ) (xs : List ℕ) (i : ℕ) → get_or (each_of g (take i xs) ++ drop i xs) i 0 ≡ get_or xs i 0
 each_ahead g [] zero = refl

@@ -1,5 +1,6 @@
 -- What is printed, and the number of a call, by document 01's conditions and in its order.
 -- Assumes nothing.
+use Rattle.std.specs.Prelude.{Ok, Err}
 use Prim.Native.Nat.{ℕ, zero, suc, ◌+◌, ◌<◌, ◌≤◌}
 use mathlib.Core.Path.{◌≡◌, refl, sym, ap, ◌∙◌}
 use mathlib.Core.Bool.{Bool, true, false, not}
@@ -13,8 +14,7 @@ use lib.Seq.{take_at}
 use borrow.Author.Tests.{lt-ltb, le-ltb}
 use Rattle.parts.specs.declared.Refusal.{Refusal}
 use Rattle.parts.specs.declared.Refusal.TheVariants.{NoPart, WrongEnable, BadEvent, TooMany}
-use Rattle.parts.specs.declared.Verdict.{Verdict}
-use Rattle.parts.specs.declared.Verdict.TheVariants.{Fine, Refused}
+use Rattle.parts.specs.Verdict.{Verdict}
 use Rattle.parts.specs.Table.{facts_of, enable_right_of}
 use Rattle.parts.specs.Events.{event_right_of}
 use Rattle.parts.specs.Refusals.{rank_of, claim_of, sooner_of}
@@ -39,13 +39,13 @@ prints t out lines e =
 -- ---- the scan for 5
 
 scan_at : (pin : Bool) (s k : ℕ) (xs : List ℕ) → k < length xs → ((j : ℕ) → j < k → event_right_of pin (code_of (get_or xs j 0)) ≡ true)
-    → event_right_of pin (code_of (get_or xs k 0)) ≡ false → scan_of pin s (codes_of xs) ≡ Refused (BadEvent (s + k))
+    → event_right_of pin (code_of (get_or xs k 0)) ≡ false → scan_of pin s (codes_of xs) ≡ Err (BadEvent (s + k))
 scan_at pin s k [] h t b = absurd (omega arith)
-scan_at pin s zero (x ∷ xs) h t b = rw b (ap (λ (n : ℕ). Refused (BadEvent n)) (omega arith))
+scan_at pin s zero (x ∷ xs) h t b = rw b (ap (λ (n : ℕ). Err (BadEvent n)) (omega arith))
 scan_at pin s (suc k) (x ∷ xs) h t b =
-    rw (t 0 (omega arith)) (scan_at pin (suc s) k xs (le_of_suc-le-suc h) (λ j i. t (suc j) (omega (arith, i))) b ∙ ap (λ (n : ℕ). Refused (BadEvent n)) (omega arith))
+    rw (t 0 (omega arith)) (scan_at pin (suc s) k xs (le_of_suc-le-suc h) (λ j i. t (suc j) (omega (arith, i))) b ∙ ap (λ (n : ℕ). Err (BadEvent n)) (omega arith))
 
-scan_clean : (pin : Bool) (s : ℕ) (xs : List ℕ) → ((j : ℕ) → j < length xs → event_right_of pin (code_of (get_or xs j 0)) ≡ true) → scan_of pin s (codes_of xs) ≡ Fine
+scan_clean : (pin : Bool) (s : ℕ) (xs : List ℕ) → ((j : ℕ) → j < length xs → event_right_of pin (code_of (get_or xs j 0)) ≡ true) → scan_of pin s (codes_of xs) ≡ Ok tt
 scan_clean pin s [] t = refl
 scan_clean pin s (x ∷ xs) t = rw (t 0 (omega arith)) (scan_clean pin (suc s) xs (λ j h. t (suc j) (omega (arith, h))))
 
@@ -68,7 +68,7 @@ module _ (part en : ℕ) (xs : List ℕ) where
   later k h =
       later_sooner k many scan (later_claim k (ltb 32768 (length xs)) TooMany h) (scan_later k (facts_of part).pin 0 (codes_of xs) (omega (arith, h)))
 
-  verdict_1 : 5 < part → verdict ≡ Refused NoPart
+  verdict_1 : 5 < part → verdict ≡ Err NoPart
   verdict_1 h =
       sym (claimed_letters part en xs)
       ∙ ap (λ (b : Bool). sooner_of (claim_of (not b) NoPart) (sooner_of enable (sooner_of many scan))) (unknown part h)
@@ -81,7 +81,7 @@ module _ (part en : ℕ) (xs : List ℕ) where
   known_part k =
       sym (claimed_letters part en xs) ∙ ap (λ (b : Bool). sooner_of (claim_of (not b) NoPart) (sooner_of enable (sooner_of many scan))) (known part k)
 
-  verdict_2 : part ≤ 5 → (facts_of part).enables ≤ en → verdict ≡ Refused WrongEnable
+  verdict_2 : part ≤ 5 → (facts_of part).enables ≤ en → verdict ≡ Err WrongEnable
   unfolding enable_right_of
   verdict_2 k h =
       known_part k ∙ ap (λ (b : Bool). sooner_of (claim_of (not b) WrongEnable) (sooner_of many scan)) (le-ltb en (facts_of part).enables h)
@@ -92,7 +92,7 @@ module _ (part en : ℕ) (xs : List ℕ) where
   unfolding enable_right_of sooner_of
   enabled k h = known_part k ∙ ap (λ (b : Bool). sooner_of (claim_of (not b) WrongEnable) (sooner_of many scan)) (lt-ltb en (facts_of part).enables h)
 
-  verdict_13 : part ≤ 5 → en < (facts_of part).enables → 32768 < length xs → verdict ≡ Refused TooMany
+  verdict_13 : part ≤ 5 → en < (facts_of part).enables → 32768 < length xs → verdict ≡ Err TooMany
   verdict_13 k h l =
       enabled k h ∙ ap (λ (b : Bool). sooner_of (claim_of b TooMany) scan) (lt-ltb 32768 (length xs) l)
       ∙ given_first TooMany scan (scan_later (rank_of TooMany) (facts_of part).pin 0 (codes_of xs) (omega arith))
@@ -111,11 +111,11 @@ module _ (t : List ℕ) where
   abbrev e : ℕ
   e = enable_named t
 
-  refused_text : (r : Refusal) → head_right_of t ≡ true → traced_verdict_of p e (codes_of (letters_of t)) ≡ Refused r → trace_of t ≡ refusal_text_of r
+  refused_text : (r : Refusal) → head_right_of t ≡ true → traced_verdict_of p e (codes_of (letters_of t)) ≡ Err r → trace_of t ≡ refusal_text_of r
   unfolding traced_of
   refused_text r h v = trace_right t h ∙ rw v refl
 
-  answered_text : head_right_of t ≡ true → traced_verdict_of p e (codes_of (letters_of t)) ≡ Fine → trace_of t ≡ ran_text_of p e (codes_of (letters_of t))
+  answered_text : head_right_of t ≡ true → traced_verdict_of p e (codes_of (letters_of t)) ≡ Ok tt → trace_of t ≡ ran_text_of p e (codes_of (letters_of t))
   unfolding traced_of
   answered_text h v = trace_right t h ∙ rw v refl
 
@@ -154,7 +154,7 @@ trace_numbers t out =
       bad_event = λ k s i r b.
           let n = s.named in
           prints t out _
-          (refused_text t (BadEvent k) n.head (few part en xs n.known n.enabled s.few ∙ scan_at (facts_of part).pin 0 k xs i r b ∙ ap (λ (x : ℕ). Refused (BadEvent x)) (omega arith))
+          (refused_text t (BadEvent k) n.head (few part en xs n.known n.enabled s.few ∙ scan_at (facts_of part).pin 0 k xs i r b ∙ ap (λ (x : ℕ). Err (BadEvent x)) (omega arith))
           ∙ line_5 k);
       answered = λ s r.
           let n = s.named in

@@ -2,7 +2,7 @@
 -- numbers': 1 2 13 5), and which call is refused with 6. Said of any function from a text and a lent buffer, so that another order breaks it.
 -- Assumes nothing.
 use Rattle.std.specs.Prelude.{ℕ, ◌-◌, ◌<◌, ◌≤◌, ◌≡◌, Bool, true, false, cond, List, [], ◌++◌, length, get_or, take}
-use Rattle.parts.specs.declared.Verdict.{Verdict}
+use Rattle.parts.specs.Verdict.{Verdict}
 use Rattle.parts.specs.Table.{facts_of}
 use Rattle.parts.specs.Events.{event_right_of}
 use Rattle.parts.specs.Refusals.{verdict_number_of, is_fine}

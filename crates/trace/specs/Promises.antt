@@ -1,8 +1,7 @@
 -- What the trace program may rely on, and the example that document 01 prints.
 -- Assumes nothing.
-use Rattle.std.specs.Prelude.{ℕ, ◌≤◌, ◌≡◌, List, [], ◌∷◌, ◌++◌, length, take}
-use Rattle.parts.specs.declared.Verdict.{Verdict}
-use Rattle.parts.specs.declared.Verdict.TheVariants.{Fine, Refused}
+use Rattle.std.specs.Prelude.{ℕ, ◌≤◌, ◌≡◌, List, [], ◌∷◌, ◌++◌, length, take, Ok, Err}
+use Rattle.parts.specs.Verdict.{Verdict}
 use Rattle.trace.specs.declared.Judged.{Judged}
 use Rattle.trace.specs.Trace.{newline, part_word, cycles_word, codes_of, letters_of, ran_text_of, refusal_text_of, text_judged_of, trace_of}
 
@@ -13,8 +12,8 @@ ReadsNoFurther = (t : List ℕ) → 32774 ≤ length t → trace_of t ≡ trace_
 
 -- what is printed of a text that is judged so: the refusal, or the lines of a run from delivery
 abbrev pub foretold : List ℕ → Judged → Verdict → List ℕ
-foretold t j Fine = ran_text_of j.part j.enable (codes_of (letters_of t))
-foretold t j (Refused r) = refusal_text_of r
+foretold t j (Ok _) = ran_text_of j.part j.enable (codes_of (letters_of t))
+foretold t j (Err r) = refusal_text_of r
 
 -- who judges a text, before any run, knows what `trace` will print; of any judge
 abbrev pub PrintsAsJudged : (List ℕ → Judged) → Type 0
@@ -22,7 +21,7 @@ PrintsAsJudged judge = (t : List ℕ) → trace_of t ≡ foretold t (judge t) (j
 
 -- one that refuses nothing does not
 abbrev pub trusting : List ℕ → Judged
-trusting t = record { part = (text_judged_of t).part; enable = (text_judged_of t).enable; verdict = Fine }
+trusting t = record { part = (text_judged_of t).part; enable = (text_judged_of t).enable; verdict = Ok tt }
 
 abbrev pub TrustingBreaks : Type 0
 TrustingBreaks = PrintsAsJudged trusting → ⊥

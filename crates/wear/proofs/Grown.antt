@@ -1,6 +1,7 @@
 -- The walk finds the one most worn group; and where counts only grow, the worse of the worst before and of the most worn group that went on is the
 -- worst after. Laws over any lists of numbers: no part, no group size and no width is in them.
 -- Assumes nothing.
+use Rattle.std.specs.Prelude.{Ok}
 use Prim.Native.Nat.{ℕ, zero, suc, ◌+◌, ◌-◌, ◌<◌, ◌≤◌}
 use mathlib.Core.Path.{◌≡◌, ◌∙◌, refl, sym, ap, subst, subst⁻¹}
 use mathlib.Core.Bool.{Bool, true, false, cond, ◌&&◌}
@@ -12,7 +13,6 @@ use lib.ListN.{length, get_or, set, take, drop, replicate, length-drop, get_or-e
 use lib.Seq.{get_or-take, get_or-drop, length-take-le}
 use borrow.Author.Tests.{lt-ltb, le-ltb, le-leb, lt-leb, ltb-true, ltb-false, eqb-true, eq-eqb, ne_eqb}
 use Rattle.parts.specs.declared.Refusal.TheVariants.{BadState}
-use Rattle.parts.specs.declared.Verdict.TheVariants.{Fine}
 use Rattle.parts.proofs.Tests.{and_both}
 use Rattle.parts.proofs.Claims.{right_fine}
 use Rattle.parts.specs.Bytes.{all_below_of}
@@ -122,7 +122,7 @@ unfolding born_out_of
 born_is counts w e =
     rw (e, eq-eqb (most_of counts).group (most_of counts).group refl, eq-eqb (most_of counts).count (most_of counts).count refl) refl
 
-pub born_fine : (counts : List ℕ) (w : Most) → worst_verdict_of counts w ≡ Fine → w ≡ most_of counts
+pub born_fine : (counts : List ℕ) (w : Most) → worst_verdict_of counts w ≡ Ok tt → w ≡ most_of counts
 unfolding worst_verdict_of
 born_fine counts w h = born_yes counts w (right_fine (born_out_of counts w) BadState h)
 

@@ -1,5 +1,6 @@
 -- Laws that the proofs of the code share: walks along the counts, and a run from one end of a cycle to the next.
 -- Assumes nothing.
+use Rattle.std.specs.Prelude.{Ok}
 use Prim.Native.Nat.{ℕ, suc, ◌+◌, ◌-◌, ◌*◌, ◌≤◌, ◌<◌}
 use mathlib.Core.Path.{◌≡◌, ◌∙◌, refl, sym, ap, subst⁻¹}
 use mathlib.Core.Bool.{Bool, true, false, not, cond}
@@ -14,7 +15,6 @@ use lib.Seq.{drop-cons, take-suc-set, drop-set-lt, take_all, set-get_or, set_out
 use borrow.Author.Tests.{eqb-true, lt-ltb, le-ltb}
 use Rattle.parts.specs.declared.Facts.{Facts}
 use Rattle.parts.specs.declared.Refusal.TheVariants.{NoPart, WrongBuffer}
-use Rattle.parts.specs.declared.Verdict.TheVariants.{Fine}
 use Rattle.parts.specs.Table.{groups_of}
 use Rattle.parts.specs.Sound.{Sound}
 use Rattle.parts.specs.Refusals.{claim_of, sooner_of}
@@ -69,6 +69,9 @@ grew_bump counts at on after e = subst⁻¹ (Grew counts) e (grew_set counts at 
 -- where no count went on
 pub later_none : (best : Most) (k : List ℕ) → later_of best (raised_of k k) ≡ best
 later_none best k = ap (later_of best) (raised_same k) ∙ rw (le-ltb best.count 0 (omega arith)) refl
+
+-- what a count that goes on changes, and one that does not
+pub ruleset kept = (set_out, set-get_or, raised_set, later_none)
 
 -- what was raised so far stands below the group at `at`, if anything was
 abbrev pub Low : ℕ → Most → Type 0
@@ -170,7 +173,7 @@ join_end xs ys i h = rw (drop_of_length-le xs h, take_all i xs h) (append-nil xs
 
 -- ---- what a count buffer that is not refused has
 
-pub counts_fine : (f : Facts) (n : ℕ) → counts_verdict_of f n ≡ Fine → n ≡ groups_of f
+pub counts_fine : (f : Facts) (n : ℕ) → counts_verdict_of f n ≡ Ok tt → n ≡ groups_of f
 unfolding counts_verdict_of
 counts_fine f n h = eqb-true n (groups_of f) (right_fine _ WrongBuffer (sooner_fine (claim_of (not f.known) NoPart) _ h).1)
 
@@ -178,7 +181,7 @@ pub groups_few : (f : Facts) → Sound f → groups_of f ≤ 32768
 unfolding groups_of
 groups_few f s = omega (arith, div-le_self f.size f.group, s.size_most)
 
-pub join_fine : (f : Facts) (n k : ℕ) → sooner_of (counts_verdict_of f n) (counts_verdict_of f k) ≡ Fine → n ≡ k
+pub join_fine : (f : Facts) (n k : ℕ) → sooner_of (counts_verdict_of f n) (counts_verdict_of f k) ≡ Ok tt → n ≡ k
 join_fine f n k h =
     let r = sooner_fine (counts_verdict_of f n) (counts_verdict_of f k) h in
     counts_fine f n r.0 ∙ sym (counts_fine f k r.1)

@@ -1,10 +1,9 @@
 -- What the public functions answer and leave, for refused input too: "Refusals: 3 also for a count buffer of another length" (document 02, §6).
 -- Assumes nothing.
-use Rattle.std.specs.Prelude.{ℕ, not, cond, List, length, eqb}
+use Rattle.std.specs.Prelude.{ℕ, not, cond, List, length, eqb, Ok, Err}
 use Rattle.parts.specs.declared.Facts.{Facts}
 use Rattle.parts.specs.declared.Refusal.TheVariants.{NoPart, WrongBuffer}
-use Rattle.parts.specs.declared.Verdict.{Verdict}
-use Rattle.parts.specs.declared.Verdict.TheVariants.{Fine, Refused}
+use Rattle.parts.specs.Verdict.{Verdict}
 use Rattle.parts.specs.Table.{facts_of, groups_of}
 use Rattle.parts.specs.Refusals.{claim_of, sooner_of}
 use Rattle.state.specs.declared.Chip.{Chip}
@@ -32,8 +31,8 @@ abbrev pub wear_verdict : ℕ → ℕ → PowerCut → Chip → Mem → List ℕ
 wear_verdict part enable w c m counts es a = sooner_of (counts_verdict_of (facts_of part) (length counts)) (run_verdict part enable w c m es a)
 
 abbrev pub counts_by : List ℕ → List ℕ → Verdict → List ℕ
-counts_by worn counts Fine = worn
-counts_by worn counts (Refused r) = counts
+counts_by worn counts (Ok _) = worn
+counts_by worn counts (Err r) = counts
 
 -- what a call answers and leaves: all that a run of the chip does, and the counts
 pub record WearLeft : Type 0 where
@@ -88,8 +87,8 @@ found_of part counts = found_by counts (counts_verdict_of (facts_of part) (lengt
 -- ---- what is told of the counts: refusals 1, 3
 
 abbrev pub report_by : List ℕ → Verdict → Reported
-report_by counts Fine = record { verdict = Fine; total = sum_of counts; group = (most_of counts).group; count = (most_of counts).count }
-report_by counts (Refused r) = record { verdict = Refused r; total = 0; group = 0; count = 0 }
+report_by counts (Ok _) = record { verdict = Ok tt; total = sum_of counts; group = (most_of counts).group; count = (most_of counts).count }
+report_by counts (Err r) = record { verdict = Err r; total = 0; group = 0; count = 0 }
 
 abbrev pub report_of : ℕ → List ℕ → Reported
 report_of part counts = report_by counts (counts_verdict_of (facts_of part) (length counts))

@@ -1,10 +1,9 @@
 -- Document 02, §8: "Store it, number and count, beside the counts; every write, cut, load and conversion keeps it equal to what the walk would find."
 -- The walk is `most_of` (Report.antt). "4 also for a stored worst that the counts don't bear out".
 -- Assumes nothing.
-use Rattle.std.specs.Prelude.{ℕ, suc, ◌<◌, ◌≤◌, ◌≡◌, Bool, not, cond, ◌&&◌, List, [], ◌∷◌, length, get_or, eqb, ltb}
+use Rattle.std.specs.Prelude.{ℕ, suc, ◌<◌, ◌≤◌, ◌≡◌, Bool, not, cond, ◌&&◌, List, [], ◌∷◌, length, get_or, eqb, ltb, Ok, Err}
 use Rattle.parts.specs.declared.Refusal.TheVariants.{BadState}
-use Rattle.parts.specs.declared.Verdict.{Verdict}
-use Rattle.parts.specs.declared.Verdict.TheVariants.{Fine, Refused}
+use Rattle.parts.specs.Verdict.{Verdict}
 use Rattle.parts.specs.Refusals.{claim_of}
 use Rattle.wear.specs.declared.Most.{Most}
 use Rattle.wear.specs.Report.{most, most_of}
@@ -28,8 +27,8 @@ worst_verdict_of counts w = claim_of (not (born_out_of counts w)) BadState
 
 -- what a call answers that was given the worst w and left these counts: a refused one gives back what it was given
 abbrev pub worst_by : Most → List ℕ → Verdict → Most
-worst_by w counts Fine = most_of counts
-worst_by w counts (Refused r) = w
+worst_by w counts (Ok _) = most_of counts
+worst_by w counts (Err r) = w
 
 -- ---- for who raises counts and holds no worst
 

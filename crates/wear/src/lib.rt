@@ -4,11 +4,10 @@
 
 pub mod worst;
 
-ghost use Rattle.std.specs.Prelude.{◌≡◌, cond, ◌+◌, ◌≤◌, length, ltb};
+ghost use Rattle.std.specs.Prelude.{◌≡◌, cond, ◌+◌, ◌≤◌, length, ltb, Ok, Err};
 ghost use Rattle.parts.specs.Table.{facts_of};
 ghost use Rattle.parts.specs.Bytes.{topped};
 ghost use Rattle.parts.specs.Refusals.{sooner_of};
-ghost use Rattle.parts.specs.declared.Verdict.TheVariants.{Fine};
 ghost use Rattle.chip.specs.Memory.{mem, chip};
 ghost use Rattle.chip.specs.Model.{cut_by, ours_with};
 ghost use Rattle.chip.specs.Calls.{run_by, run_mem, run_answers, run_verdict_of};
@@ -23,7 +22,7 @@ use parts::{Loss, Refusal, Verdict};
 use state::Chip;
 
 // A group and its count.
-#[derive(Clone, Copy)]
+#[derive(Clone, Copy, Default)]
 pub struct Most {
     pub group: usize,
     pub count: u32,
@@ -37,14 +36,14 @@ pub struct Worn {
     pub most: Most,
 }
 
-// What the walk along the counts finds; 0 and 0 where the call is refused.
+// What the walk along the counts finds; 0 and 0 where the call is refused (`found_of`), so the verdict stands beside it.
 #[derive(Clone, Copy)]
 pub struct Found {
     pub verdict: Verdict,
     pub worst: Most,
 }
 
-// The sum of the counts, and the group with most; 0, 0 and 0 where the call is refused.
+// The sum of the counts, and the group with most; 0, 0 and 0 where the call is refused (`report_of`), so the verdict stands beside them.
 #[derive(Clone, Copy)]
 pub struct Reported {
     pub verdict: Verdict,
@@ -54,17 +53,13 @@ pub struct Reported {
     pub count: u32,
 }
 
-const TOP: u32 = 4294967295;
-
 // How many counts a part has; 0 where there is no such part.
+#[tactic(auto, unfolding(crate::specs::Calls::group_count_of, parts::specs::Table::groups_of))]
 pub fn groups(part: u8) -> usize
     ensures { result ≡ group_count_of (facts_of part) }
 {
     let f = parts::facts_of(part);
-    if f.known {
-        return f.size / f.group;
-    }
-    0
+    if f.known { f.size / f.group } else { 0 }
 }
 
 // ---- one cycle
@@ -73,26 +68,22 @@ pub fn groups(part: u8) -> usize
 fn none() -> Most
     ensures { result ≡ most 0 0 }
 {
-    Most { group: 0, count: 0 }
+    Most::default()
 }
 
 // A group that is not touched costs nothing. Those of a page come in their order, so only strictly more takes the place of what was most.
+#[tactic(auto, using(crate::proofs::Laws::kept), unfolding(crate::specs::Wear::bumped_of, parts::specs::Bytes::up_of))]
 fn bump(counts: &mut [u32], at: usize, on: bool, best: Most) -> Most
     ensures counts { counts.new ≡ bumped_of counts.old at on }
     ensures raised { result ≡ cond on (later_of best (raised_of counts.old counts.new)) best }
 {
-    if !on {
-        return best;
+    if on && at < counts.len() && counts[at] < u32::MAX {
+        let count = counts[at] + 1;
+        counts[at] = count;
+        more(best, at, count)
+    } else {
+        best
     }
-    if counts.len() <= at {
-        return best;
-    }
-    let x = counts[at];
-    if x < TOP {
-        counts[at] = x + 1;
-        return more(best, at, x + 1);
-    }
-    best
 }
 
 // The groups of the counter's page, each once if it was touched.
@@ -105,15 +96,14 @@ fn mark_page(part: u8, counter: u16, latch: &[u16], counts: &mut [u32]) -> Most
     let n = f.page / g;
     let first = chip::page_start(part, counter) / g;
     let mut best = none();
-    let mut j = 0;
-    while j < n {
+    for j in 0..n {
         let touched = chip::latched(latch, j * g, g);
         best = bump(counts, first + j, touched, best);
-        j += 1;
     }
     best
 }
 
+#[tactic(auto, using(crate::proofs::Grown::raised_same), unfolding(crate::specs::Wear::target_worn_of))]
 fn mark_target(part: u8, counter: u16, latch: &[u16], target: Target, counts: &mut [u32]) -> Most
     ensures counts { counts.new ≡ target_worn_of (facts_of part) counter latch.now counts.old target }
     ensures raised { result ≡ raised_of counts.old counts.new }
@@ -124,6 +114,7 @@ fn mark_target(part: u8, counter: u16, latch: &[u16], target: Target, counts: &m
     }
 }
 
+#[tactic(auto, using(crate::proofs::Grown::raised_same), unfolding(crate::specs::Wear::cycle_worn_of))]
 fn mark_cycle(part: u8, counter: u16, latch: &[u16], cycle: Cycle, counts: &mut [u32]) -> Most
     ensures counts { counts.new ≡ cycle_worn_of (facts_of part) counter latch.now counts.old cycle }
     ensures raised { result ≡ raised_of counts.old counts.new }
@@ -135,18 +126,14 @@ fn mark_cycle(part: u8, counter: u16, latch: &[u16], cycle: Cycle, counts: &mut 
 }
 
 // Whatever the chip is doing: its line and its latches.
+#[tactic(auto, using(crate::proofs::Grown::raised_same), unfolding(crate::specs::Wear::closed_in))]
 fn mark_line(part: u8, line: Line, latch: &[u16], counts: &mut [u32]) -> Most
     ensures counts { counts.new ≡ closed_of (facts_of part) (chip line latch.now) counts.old }
     ensures raised { result ≡ raised_of counts.old counts.new }
 {
-    let phase = line.phase;
-    let core = line.core;
-    let counter = core.counter;
-    match phase {
-        Phase::Idle => none(),
-        Phase::Receive(_) => none(),
-        Phase::Send(_) => none(),
-        Phase::Busy(y) => mark_cycle(part, counter, latch, y, counts),
+    match line.phase {
+        Phase::Idle | Phase::Receive(_) | Phase::Send(_) => none(),
+        Phase::Busy(y) => mark_cycle(part, line.core.counter, latch, y, counts),
     }
 }
 
@@ -156,22 +143,20 @@ pub fn mark(part: u8, chip: Chip, counts: &mut [u32]) -> Most
     ensures counts { counts.new ≡ closed_of (facts_of part) chip counts.old }
     ensures raised { result ≡ raised_of counts.old counts.new }
 {
-    let line = chip.line;
-    let latch = chip.latch;
-    mark_line(part, line, &latch, counts)
+    mark_line(part, chip.line, &chip.latch, counts)
 }
 
 // ---- refusals
 
 // Refusals 1 and 3, of a count buffer.
+#[tactic(auto, unfolding(crate::specs::Calls::counts_verdict_of, parts::specs::Table::groups_of))]
 pub fn counts_verdict(part: u8, n: usize) -> Verdict
     ensures { result ≡ counts_verdict_of (facts_of part) n }
 {
     let f = parts::facts_of(part);
     let wanted = f.size / f.group;
-    let known = f.known;
     parts::sooner(
-        parts::claim(!known, Refusal::NoPart),
+        parts::claim(!f.known, Refusal::NoPart),
         parts::claim(n != wanted, Refusal::WrongBuffer),
     )
 }
@@ -183,11 +168,11 @@ fn note(part: u8, line: Line, latch: &[u16], code: u8, counts: &mut [u32], best:
     ensures counts { counts.new ≡ our_counter (facts_of part) (chip line latch.now) counts.old code }
     ensures raised { result ≡ worse_of best (raised_of counts.old counts.new) }
 {
-    let closes = chip::closes(code);
-    if closes {
-        return worst::worse(best, mark_line(part, line, latch, counts));
+    if chip::closes(code) {
+        worst::worse(best, mark_line(part, line, latch, counts))
+    } else {
+        worst::worse(best, none())
     }
-    worst::worse(best, none())
 }
 
 // From one end of a cycle to the next.
@@ -204,12 +189,12 @@ fn go(
     answers: &mut [u8],
 ) -> Worn
     requires { (length events.now ≤ 32768) × (length events.now ≤ length answers.old) }
-    ensures answer { result.ran ≡ run_by (ours_with (cut_by loss page.now) (facts_of part) enable) chip events.now Verdict.Fine }
+    ensures answer { result.ran ≡ run_by (ours_with (cut_by loss page.now) (facts_of part) enable) chip events.now (Ok tt) }
     ensures stored { mem array.new id.new
-        ≡ run_mem (ours_with (cut_by loss page.now) (facts_of part) enable) chip (mem array.old id.old) events.now Verdict.Fine }
+        ≡ run_mem (ours_with (cut_by loss page.now) (facts_of part) enable) chip (mem array.old id.old) events.now (Ok tt) }
     ensures levels { answers.new
         ≡ run_answers (ours_with (cut_by loss page.now) (facts_of part) enable) chip (mem array.old id.old) events.now
-        answers.old Verdict.Fine }
+        answers.old (Ok tt) }
     ensures counts { counts.new
         ≡ worn_by our_counter (ours_with (cut_by loss page.now) (facts_of part) enable) (facts_of part) chip counts.old events.now }
     ensures raised { result.most ≡ raised_of counts.old counts.new }
@@ -219,6 +204,7 @@ fn go(
     let mut best = none();
     let mut cycles: usize = 0;
     let mut i = 0;
+    // Not by ones: `pass` says how many events it took.
     while i < events.len() {
         best = note(part, line, &latch, events[i], counts, best);
         let p = chip::pass(
@@ -233,38 +219,28 @@ fn go(
             &events[i..],
             &mut answers[i..],
         );
-        let next = p.line;
-        line = next;
+        line = p.line;
         latch = p.latch;
         cycles += p.cycles;
         i += p.at;
     }
     let ran = Ran {
-        verdict: Verdict::Fine,
-        cycles: cycles,
-        chip: Chip {
-            line: line,
-            latch: latch,
-        },
+        verdict: Ok(()),
+        cycles,
+        chip: Chip { line, latch },
     };
-    Worn {
-        ran: ran,
-        most: best,
-    }
+    Worn { ran, most: best }
 }
 
 fn refused(r: Refusal, chip: Chip, most: Most) -> Worn
-    ensures { (result.ran ≡ record { verdict = Verdict.Refused r; cycles = 0; chip = chip }) × (result.most ≡ most) }
+    ensures { (result.ran ≡ record { verdict = Err r; cycles = 0; chip = chip }) × (result.most ≡ most) }
 {
     let ran = Ran {
-        verdict: Verdict::Refused(r),
+        verdict: Err(r),
         cycles: 0,
-        chip: chip,
+        chip,
     };
-    Worn {
-        ran: ran,
-        most: most,
-    }
+    Worn { ran, most }
 }
 
 // The refusals of `chip::run`, and 3 for the counts too.
@@ -328,10 +304,10 @@ pub fn go_on(
         answers.len(),
     );
     match verdict {
-        Verdict::Fine => go(
+        Ok(()) => go(
             part, enable, loss, page, chip, array, id, counts, events, answers,
         ),
-        Verdict::Refused(r) => refused(r, chip, none()),
+        Err(r) => refused(r, chip, none()),
     }
 }
 
@@ -380,17 +356,16 @@ pub fn run(
     );
     let verdict = parts::sooner(borne, judged);
     match verdict {
-        Verdict::Fine => {
+        Ok(()) => {
             let gone = go(
                 part, enable, loss, page, chip, array, id, counts, events, answers,
             );
-            let ran = gone.ran;
             Worn {
-                ran: ran,
+                ran: gone.ran,
                 most: worst::worse(worst, gone.most),
             }
         }
-        Verdict::Refused(r) => refused(r, chip, worst),
+        Err(r) => refused(r, chip, worst),
     }
 }
 
@@ -402,12 +377,12 @@ pub fn worst_of(part: u8, counts: &[u32]) -> Found
 {
     let verdict = counts_verdict(part, counts.len());
     match verdict {
-        Verdict::Fine => Found {
-            verdict: Verdict::Fine,
+        Ok(()) => Found {
+            verdict: Ok(()),
             worst: worst::most_of(counts),
         },
-        Verdict::Refused(r) => Found {
-            verdict: Verdict::Refused(r),
+        Err(r) => Found {
+            verdict: Err(r),
             worst: none(),
         },
     }
@@ -420,30 +395,25 @@ fn more(best: Most, group: usize, count: u32) -> Most
     ensures { result ≡ cond (ltb best.count count) (most group count) best }
 {
     if best.count < count {
-        return Most {
-            group: group,
-            count: count,
-        };
+        Most { group, count }
+    } else {
+        best
     }
-    best
 }
 
 fn walk(counts: &[u32]) -> Reported
     requires { length counts.now ≤ 32768 }
-    ensures { result ≡ report_by counts.now Verdict.Fine }
+    ensures { result ≡ report_by counts.now (Ok tt) }
 {
     let mut total: u64 = 0;
-    let mut best = Most { group: 0, count: 0 };
-    let mut i = 0;
-    while i < counts.len() {
-        let x = counts[i];
+    let mut best = none();
+    for (i, &x) in counts.iter().enumerate() {
         total += x as u64;
         best = more(best, i, x);
-        i += 1;
     }
     Reported {
-        verdict: Verdict::Fine,
-        total: total,
+        verdict: Ok(()),
+        total,
         group: best.group,
         count: best.count,
     }
@@ -455,9 +425,9 @@ pub fn report(part: u8, counts: &[u32]) -> Reported
 {
     let verdict = counts_verdict(part, counts.len());
     match verdict {
-        Verdict::Fine => walk(counts),
-        Verdict::Refused(r) => Reported {
-            verdict: Verdict::Refused(r),
+        Ok(()) => walk(counts),
+        Err(r) => Reported {
+            verdict: Err(r),
             total: 0,
             group: 0,
             count: 0,
@@ -467,23 +437,13 @@ pub fn report(part: u8, counts: &[u32]) -> Reported
 
 // ---- two heaps of traces
 
-fn add(x: u32, y: u32) -> u32
-    ensures { result ≡ topped (x + y) }
-{
-    if TOP - x < y {
-        return TOP;
-    }
-    x + y
-}
-
 fn join_all(counts: &mut [u32], more: &[u32])
     requires { length counts.old ≡ length more.now }
     ensures { counts.new ≡ joined_of counts.old more.now }
 {
-    let mut i = 0;
-    while i < counts.len() {
-        counts[i] = add(counts[i], more[i]);
-        i += 1;
+    // By the index: nothing is known of what is written through a `zip` of `iter_mut`.
+    for i in 0..counts.len() {
+        counts[i] = counts[i].saturating_add(more[i]);
     }
 }
 
@@ -495,10 +455,10 @@ pub fn join(part: u8, counts: &mut [u32], more: &[u32]) -> Verdict
     let mine = counts_verdict(part, counts.len());
     let verdict = parts::sooner(mine, counts_verdict(part, more.len()));
     match verdict {
-        Verdict::Fine => {
+        Ok(()) => {
             join_all(counts, more);
-            Verdict::Fine
+            Ok(())
         }
-        Verdict::Refused(r) => Verdict::Refused(r),
+        Err(r) => Err(r),
     }
 }

@@ -8,19 +8,15 @@ use crate::Most;
 use parts::{Refusal, Verdict};
 
 // Of two groups the more worn, the lower on a tie.
+#[tactic(auto, unfolding(crate::specs::Worst::worse_of))]
 pub fn worse(a: Most, b: Most) -> Most
     ensures { result ≡ worse_of a b }
 {
-    if a.count < b.count {
-        return b;
+    if a.count < b.count || (a.count == b.count && b.group < a.group) {
+        b
+    } else {
+        a
     }
-    if b.count < a.count {
-        return a;
-    }
-    if b.group < a.group {
-        return b;
-    }
-    a
 }
 
 // ---- the walk
@@ -29,11 +25,9 @@ pub fn worse(a: Most, b: Most) -> Most
 pub fn most_of(counts: &[u32]) -> Most
     ensures { result ≡ most_of counts.now }
 {
-    let mut best = Most { group: 0, count: 0 };
-    let mut i = 0;
-    while i < counts.len() {
-        best = crate::more(best, i, counts[i]);
-        i += 1;
+    let mut best = crate::none();
+    for (i, &count) in counts.iter().enumerate() {
+        best = crate::more(best, i, count);
     }
     best
 }
@@ -46,10 +40,8 @@ fn all_below(limit: u32, counts: &[u32]) -> bool
     ensures { result ≡ all_below_of limit true counts.now }
 {
     let mut low = true;
-    let mut i = 0;
-    while i < counts.len() {
-        low = low & (counts[i] < limit);
-        i += 1;
+    for &count in counts {
+        low &= count < limit;
     }
     low
 }
@@ -59,10 +51,8 @@ fn none_above(limit: u32, counts: &[u32]) -> bool
     ensures { result ≡ all_below_of (limit + 1) true counts.now }
 {
     let mut low = true;
-    let mut i = 0;
-    while i < counts.len() {
-        low = low & (counts[i] <= limit);
-        i += 1;
+    for &count in counts {
+        low &= count <= limit;
     }
     low
 }
@@ -74,7 +64,7 @@ pub fn borne_out(counts: &[u32], worst: Most) -> bool
     let g = worst.group;
     let x = worst.count;
     if counts.len() <= g {
-        return (counts.len() == 0) & (g == 0) & (x == 0);
+        return counts.is_empty() & (g == 0) & (x == 0);
     }
     let here = counts[g] == x;
     let lower = all_below(x, &counts[..g]);
@@ -83,6 +73,7 @@ pub fn borne_out(counts: &[u32], worst: Most) -> bool
 }
 
 // Refusal 4, of a stored worst.
+#[tactic(auto, unfolding(crate::specs::Worst::worst_verdict_of))]
 pub fn verdict(counts: &[u32], worst: Most) -> Verdict
     ensures { result ≡ worst_verdict_of counts.now worst }
 {

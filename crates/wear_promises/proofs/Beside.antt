@@ -1,6 +1,7 @@
 -- The count beside the chip: what a call answers of the chip is the chip's own, its refusals stand in their order, no count falls, and an event raises
 -- counts of one page only.
 -- Assumes nothing.
+use Rattle.std.specs.Prelude.{Ok, Err}
 use Prim.Native.Nat.{ℕ, zero, suc, ◌+◌, ◌-◌, ◌*◌, ◌/◌, ◌<◌, ◌≤◌}
 use mathlib.Core.Path.{◌≡◌, ◌∙◌, refl, sym, ap}
 use mathlib.Core.Bool.{Bool, true, false, not}
@@ -18,8 +19,7 @@ use Rattle.parts.specs.declared.Event.{Event}
 use Rattle.parts.specs.declared.Event.TheVariants.{Clock, Start, Stop, Ends, PinLow, PinHigh, PinFloat, Reset, Unknown}
 use Rattle.parts.specs.declared.Refusal.{Refusal}
 use Rattle.parts.specs.declared.Refusal.TheVariants.{NoPart, WrongEnable, WrongBuffer, BadState, ShortBuffer, TooMany}
-use Rattle.parts.specs.declared.Verdict.{Verdict}
-use Rattle.parts.specs.declared.Verdict.TheVariants.{Fine, Refused}
+use Rattle.parts.specs.Verdict.{Verdict}
 use Rattle.parts.specs.Sound.{Sound}
 use Rattle.parts.specs.Table.{facts_of, groups_of, buffers_right_of, enable_right_of}
 use Rattle.parts.specs.Events.{event_of, loss_size_of}
@@ -43,7 +43,7 @@ use Rattle.wear_promises.specs.Counts.{RunIsChips, WearNumbers, CountsNeverFall,
 
 -- ---- the chip's own answer
 
-pub counts_right_lem : (f : Facts) (x : ℕ) → f.known ≡ true → x ≡ groups_of f → counts_verdict_of f x ≡ Fine
+pub counts_right_lem : (f : Facts) (x : ℕ) → f.known ≡ true → x ≡ groups_of f → counts_verdict_of f x ≡ Ok tt
 unfolding counts_verdict_of sooner_of
 counts_right_lem f x k h = rw (eq-eqb x (groups_of f) h, k) refl
 
@@ -93,8 +93,8 @@ unfolding counts_verdict_of
 other_counts f x o = within_right 3003 _ _ (rw (ne_eqb x (groups_of f) o) (omega arith))
 
 pub wear_told : (part en : ℕ) (w : PowerCut) (c : Chip) (m : Mem) (counts es a : List ℕ) (v : Verdict) → (wear_left_of our_counter part en w c m counts es a v).run.answer.verdict ≡ v
-wear_told part en w c m counts es a Fine = refl
-wear_told part en w c m counts es a (Refused s) = refl
+wear_told part en w c m counts es a (Ok _) = refl
+wear_told part en w c m counts es a (Err s) = refl
 
 pub wear_numbers : WearNumbers wear_of
 unfolding enable_right_of
@@ -129,17 +129,17 @@ wear_numbers =
   where
     numbered : (part en : ℕ) (w : PowerCut) (c : Chip) (m : Mem) (counts es a : List ℕ) (r : Refusal)
         → Later (rank_of r) (wear_verdict part en w c m counts es a) → Within (rank_of r) (wear_verdict part en w c m counts es a)
-        → verdict_number_of (wear_of part en w c m counts es a).run.answer.verdict ≡ verdict_number_of (Refused r)
+        → verdict_number_of (wear_of part en w c m counts es a).run.answer.verdict ≡ verdict_number_of (Err r)
     numbered part en w c m counts es a r l i = ap verdict_number_of (wear_told part en w c m counts es a (wear_verdict part en w c m counts es a)) ∙ exact r (wear_verdict part en w c m counts es a) l i
 
 pub wear_refused_changes_nothing : WearRefusedChangesNothing wear_of
 wear_refused_changes_nothing part en w c m counts es a r = go (wear_verdict part en w c m counts es a)
   where
     go : (v : Verdict) → let x = wear_left_of our_counter part en w c m counts es a v in
-        x.run.answer.verdict ≡ Refused r
+        x.run.answer.verdict ≡ Err r
         → (x.counts ≡ counts) × (x.run.mem ≡ m) × (x.run.answer.chip ≡ c) × (x.run.answer.cycles ≡ 0) × (x.run.answers ≡ a)
-    go Fine e = absurd (refused_not (sym e))
-    go (Refused s) e = (refl, refl, refl, refl, refl)
+    go (Ok _) e = absurd (refused_not (sym e))
+    go (Err s) e = (refl, refl, refl, refl, refl)
 
 -- ---- one count
 
@@ -227,8 +227,8 @@ pub counts_never_fall : CountsNeverFall wear_of
 counts_never_fall part en w c m counts es a n = go (wear_verdict part en w c m counts es a)
   where
     go : (v : Verdict) → get_or counts n 0 ≤ get_or (wear_left_of our_counter part en w c m counts es a v).counts n 0
-    go Fine = worn_grows (ours_with w (facts_of part) en) (facts_of part) c counts es n
-    go (Refused r) = omega arith
+    go (Ok _) = worn_grows (ours_with w (facts_of part) en) (facts_of part) c counts es n
+    go (Err r) = omega arith
 
 -- the groups of a page are those of one number
 page_of : (f : Facts) → Sound f → (c n : ℕ) → counter_page_of f c / f.group ≤ n → n < counter_page_of f c / f.group + f.page / f.group → n / (f.page / f.group) ≡ c / f.page
@@ -255,5 +255,5 @@ at_most_groups_of_one_page part en w c m counts e a =
 
     go : (v : Verdict) (n : ℕ) → let after = (wear_left_of our_counter part en w c m counts (e ∷ []) a v).counts in
         (get_or after n 0 ≡ get_or counts n 0) ⊎ ((n / (f.page / f.group) ≡ c.line.core.counter / f.page) × (get_or after n 0 ≡ suc (get_or counts n 0)))
-    go Fine n = by (worn_of f c counts (event_of e)) n (worn_raised f c counts (event_of e) n)
-    go (Refused r) n = inl refl
+    go (Ok _) n = by (worn_of f c counts (event_of e)) n (worn_raised f c counts (event_of e) n)
+    go (Err r) n = inl refl

@@ -1,5 +1,6 @@
 -- The counts are what the history says, over any series of calls.
 -- Assumes nothing.
+use Rattle.std.specs.Prelude.{Ok, Err}
 use Prim.Native.Nat.{ℕ, ◌+◌, ◌<◌}
 use mathlib.Core.Path.{◌≡◌, ◌∙◌, refl, sym, ap, subst}
 use mathlib.Core.List.{List, [], ◌∷◌, ◌++◌}
@@ -8,8 +9,7 @@ use native.Mathlib.Omega.{arith}
 use lib.ListN.{length, get_or, take, drop, length-append}
 use lib.Seq.{take-append_seam}
 use Rattle.parts.specs.declared.Facts.{Facts}
-use Rattle.parts.specs.declared.Verdict.{Verdict}
-use Rattle.parts.specs.declared.Verdict.TheVariants.{Fine, Refused}
+use Rattle.parts.specs.Verdict.{Verdict}
 use Rattle.parts.specs.Table.{facts_of, groups_of}
 use Rattle.parts.specs.Bytes.{topped}
 use Rattle.parts.proofs.Laws.{sound}
@@ -49,7 +49,7 @@ module _ (part en : ℕ) (w : Watch) (counts : List ℕ) where
   call_going : (x : WearCall) (e : Worn) (v : Verdict) → Going part w counts e
       → Going part w counts (after_wear x.events (wear_left_of our_counter part en x.cut e.chip e.mem e.counts x.events x.answers v) e)
   unfolding after_wear
-  call_going x e Fine o =
+  call_going x e (Ok _) o =
       let f : Facts = facts_of part in
       let M : Model = ours_with x.cut f en in
       let es : List ℕ = x.events in
@@ -74,7 +74,7 @@ module _ (part en : ℕ) (w : Watch) (counts : List ℕ) where
             ∙ (top_in (get_or counts n 0 + t) u
             ∙ ap topped (add_assoc (get_or counts n 0) t u ∙ ap (λ (z : ℕ). get_or counts n 0 + z) (sym (times_append f es xs w [] e.events e.levels n o.same)))));
       }
-  call_going x e (Refused r) o = o
+  call_going x e (Err r) o = o
 
   calls_going : (xs : List WearCall) (e : Worn) → Going part w counts e → Going part w counts (wear_calls_by wear_of part en e xs)
   unfolding wear_calls_by

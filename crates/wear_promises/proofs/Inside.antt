@@ -1,6 +1,7 @@
 -- The chip and the history side by side, as for promise 4, and what they have of the bytes: in a transfer those seen say what is latched, and in a
 -- cycle those of the transfer that began it.
 -- Assumes nothing.
+use Rattle.std.specs.Prelude.{Option, None, Some}
 use Prim.Native.Nat.{ℕ, zero, suc, ◌+◌, ◌*◌, ◌/◌, ◌%◌, ◌^◌, ◌<◌}
 use mathlib.Core.Path.{◌≡◌, ◌∙◌, refl, sym, ap, subst}
 use mathlib.Core.Bool.{Bool, true, false, cond}
@@ -30,8 +31,6 @@ use Rattle.line.specs.declared.Core.{Core}
 use Rattle.line.specs.declared.Line.{Line}
 use Rattle.line.specs.declared.Act.TheVariants.{Drop}
 use Rattle.line.specs.declared.After.{After}
-use Rattle.line.specs.declared.Selected.{Selected}
-use Rattle.line.specs.declared.Selected.TheVariants.{Miss, Hit}
 use Rattle.line.specs.Rules.{bit_on, is_high, enabled_of, named_of, decode_of, address_start_of, selected_of, load_array_of, load_id_of, loaded_of, refuses_of, latched_of, filled_of, locked_by_of, taken_of, received_of, receive_act_of, sent_of, clocked_of, clock_act_of, started_of, start_act_of, stopped_by_lem, stop_act_by, begun_by, due_of, placed_of, asks_of, stopped_of, stop_act_of, stop_begun_of, ended_by_of, ended_of, end_act_of, pinned_of, reset_of, next_of, act_of, level_of, begun_of}
 use Rattle.state.specs.declared.Chip.{Chip}
 use Rattle.chip.specs.Memory.{latch_of, state_of}
@@ -77,10 +76,10 @@ other_more : (bs : List Byte) (d : Byte) → Other bs → Other (bs ++ (d ∷ []
 other_more bs d o ds = ap names_array (append_assoc bs (d ∷ []) ds) ∙ o (d ∷ ds)
 
 -- what a select byte names
-abbrev NamedIs : ℕ → Selected → Type 0
-NamedIs b Miss = Unit {0}
-NamedIs b (Hit Array r) = eqb (b / 16) 10 ≡ true
-NamedIs b (Hit Ident r) = eqb (b / 16) 10 ≡ false
+abbrev NamedIs : ℕ → Option (Target × Bool) → Type 0
+NamedIs b None = Unit {0}
+NamedIs b (Some (Array, r)) = eqb (b / 16) 10 ≡ true
+NamedIs b (Some (Ident, r)) = eqb (b / 16) 10 ≡ false
 
 named_is : (f : Facts) (en b : ℕ) → NamedIs b (decode_of f en b)
 unfolding decode_of named_of
@@ -112,13 +111,13 @@ start_array f n b k q false e o = λ d.
 abbrev AfterIn : Facts → List ℕ → List Byte → List Byte → After → Type 0
 AfterIn f k bs p a = Inside f a.core.counter (latch_of k a.act) a.phase bs p
 
-selected_in : (f : Facts) (c : Core) (k : List ℕ) (b : ℕ) (q : Bool) (p : List Byte) (h : Selected) → NamedIs b h
+selected_in : (f : Facts) (c : Core) (k : List ℕ) (b : ℕ) (q : Bool) (p : List Byte) (h : Option (Target × Bool)) → NamedIs b h
     → AfterIn f k (seen_byte b q ∷ []) p (selected_of f c b h)
 unfolding selected_of address_start_of names_array
-selected_in f c k b q p Miss o = tt
-selected_in f c k b q p (Hit t true) o = tt
-selected_in f c k b q p (Hit Array false) o = start_array f c.counter b k q f.wide refl o
-selected_in f c k b q p (Hit Ident false) o =
+selected_in f c k b q p None o = tt
+selected_in f c k b q p (Some (t, true)) o = tt
+selected_in f c k b q p (Some (Array, false)) o = start_array f c.counter b k q f.wide refl o
+selected_in f c k b q p (Some (Ident, false)) o =
     branch (λ (r : Recv). Lies f c.counter k r (seen_byte b q ∷ [])) f.wide (λ _ ds. o) (λ _ ds. o)
 
 taken_in : (f : Facts) → Sound f → (en : ℕ) (c : Core) (k : List ℕ) (r : Recv) (b : ℕ) (q : Bool) (bs p : List Byte) → b < 256

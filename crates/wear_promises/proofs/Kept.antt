@@ -1,5 +1,6 @@
 -- The stored worst is what the walk would find: after a call, after a series of calls, and for who compares and never walks.
 -- Assumes nothing.
+use Rattle.std.specs.Prelude.{Ok, Err}
 use Prim.Native.Nat.{ℕ, suc, ◌<◌, ◌≤◌}
 use mathlib.Core.Path.{◌≡◌, ◌∙◌, refl, sym, ap, subst, subst⁻¹}
 use mathlib.Core.Bool.{Bool, true, false, not}
@@ -13,8 +14,7 @@ use borrow.Author.Tests.{lt-ltb, le-ltb, eq-eqb}
 use Rattle.parts.specs.declared.Facts.{Facts}
 use Rattle.parts.specs.declared.Refusal.{Refusal}
 use Rattle.parts.specs.declared.Refusal.TheVariants.{WrongEnable, WrongBuffer, BadState, ShortBuffer, TooMany}
-use Rattle.parts.specs.declared.Verdict.{Verdict}
-use Rattle.parts.specs.declared.Verdict.TheVariants.{Fine, Refused}
+use Rattle.parts.specs.Verdict.{Verdict}
 use Rattle.parts.specs.Table.{facts_of, groups_of, buffers_right_of, enable_right_of}
 use Rattle.parts.specs.Events.{loss_size_of}
 use Rattle.parts.specs.Refusals.{rank_of, verdict_number_of, claim_of, sooner_of, lent_verdict_of, loss_verdict_of}
@@ -48,15 +48,15 @@ one_worst = only_one
 
 -- ---- whether a worst is borne out is decided
 
-pub borne : (counts : List ℕ) (w : Most) → w ≡ most_of counts → worst_verdict_of counts w ≡ Fine
+pub borne : (counts : List ℕ) (w : Most) → w ≡ most_of counts → worst_verdict_of counts w ≡ Ok tt
 unfolding worst_verdict_of
 borne counts w e = rw (born_is counts w e) refl
 
-pub unborne : (counts : List ℕ) (w : Most) → (w ≡ most_of counts → ⊥) → worst_verdict_of counts w ≡ Refused BadState
+pub unborne : (counts : List ℕ) (w : Most) → (w ≡ most_of counts → ⊥) → worst_verdict_of counts w ≡ Err BadState
 unfolding worst_verdict_of
 unborne counts w o = go (born_out_of counts w) refl
   where
-    go : (b : Bool) → born_out_of counts w ≡ b → claim_of (not b) BadState ≡ Refused BadState
+    go : (b : Bool) → born_out_of counts w ≡ b → claim_of (not b) BadState ≡ Err BadState
     go true e = absurd (o (born_yes counts w e))
     go false e = refl
 
@@ -83,18 +83,18 @@ module _ (part en : ℕ) (w : PowerCut) (c : Chip) (m : Mem) (counts : List ℕ)
   told v = wear_told part en w c m counts es a v
 
   kept_by : worst ≡ most_of counts → (v : Verdict) → (left v).worst ≡ most_of (left v).wear.counts
-  kept_by e Fine = refl
-  kept_by e (Refused r) = e
+  kept_by e (Ok _) = refl
+  kept_by e (Err r) = e
 
-  fine_by : (v : Verdict) → v ≡ Fine → (left v).worst ≡ most_of (left v).wear.counts
-  fine_by Fine h = refl
-  fine_by (Refused r) h = refused_not h
+  fine_by : (v : Verdict) → v ≡ Ok tt → (left v).worst ≡ most_of (left v).wear.counts
+  fine_by (Ok _) h = refl
+  fine_by (Err r) h = refused_not h
 
-  keeps_by : (r : Refusal) (v : Verdict) → v ≡ Refused r
+  keeps_by : (r : Refusal) (v : Verdict) → v ≡ Err r
       → ((left v).worst ≡ worst) × ((left v).wear.counts ≡ counts) × ((left v).wear.run.mem ≡ m) × ((left v).wear.run.answer.chip ≡ c)
       × ((left v).wear.run.answer.cycles ≡ 0) × ((left v).wear.run.answers ≡ a)
-  keeps_by r Fine h = refused_not (sym h)
-  keeps_by r (Refused s) h = (refl, refl, refl, refl, refl, refl)
+  keeps_by r (Ok _) h = refused_not (sym h)
+  keeps_by r (Err s) h = (refl, refl, refl, refl, refl, refl)
 
   -- nothing before 4 is wrong
   later : part ≤ 5 → en < (facts_of part).enables → length counts ≡ groups_of (facts_of part) → buffers_right_of (facts_of part) (length m.cells) (length m.ident) ≡ true
@@ -129,7 +129,7 @@ refuses_unborne =
     record {
       first = first;
       number = λ part en w c m counts worst es a k e n b p o.
-          ap verdict_number_of (first part en w c m counts worst es a o ∙ ap (sooner_of (Refused BadState)) (wear_told part en w c m counts es a (wear_verdict part en w c m counts es a))
+          ap verdict_number_of (first part en w c m counts worst es a o ∙ ap (sooner_of (Err BadState)) (wear_told part en w c m counts es a (wear_verdict part en w c m counts es a))
           ∙ given_first BadState (wear_verdict part en w c m counts es a) (later part en w c m counts worst es a k e n b p));
       keeps = λ part en w c m counts worst es a r h.
           let v = kept_verdict part en w c m counts worst es a in
@@ -137,11 +137,11 @@ refuses_unborne =
     }
   where
     first : (part en : ℕ) (w : PowerCut) (c : Chip) (m : Mem) (counts : List ℕ) (worst : Most) (es a : List ℕ) → (worst ≡ most_of counts → ⊥)
-        → (kept_of part en w c m counts worst es a).wear.run.answer.verdict ≡ sooner_of (Refused BadState) (wear_of part en w c m counts es a).run.answer.verdict
+        → (kept_of part en w c m counts worst es a).wear.run.answer.verdict ≡ sooner_of (Err BadState) (wear_of part en w c m counts es a).run.answer.verdict
     first part en w c m counts worst es a o =
         told part en w c m counts worst es a (kept_verdict part en w c m counts worst es a)
         ∙ ap (λ (v : Verdict). sooner_of v (wear_verdict part en w c m counts es a)) (unborne counts worst o)
-        ∙ ap (sooner_of (Refused BadState)) (sym (wear_told part en w c m counts es a (wear_verdict part en w c m counts es a)))
+        ∙ ap (sooner_of (Err BadState)) (sym (wear_told part en w c m counts es a (wear_verdict part en w c m counts es a)))
 
 -- ---- a series
 
@@ -192,8 +192,8 @@ pub goes_on : GoesOn wear_of
 goes_on part en w c m counts es a = worst_kept counts _ (go (wear_verdict part en w c m counts es a))
   where
     go : (v : Verdict) → Grew counts (wear_left_of our_counter part en w c m counts es a v).counts
-    go Fine = grew_worn (ours_with w (facts_of part) en) (facts_of part) c counts es
-    go (Refused r) = grew_same counts
+    go (Ok _) = grew_worn (ours_with w (facts_of part) en) (facts_of part) c counts es
+    go (Err r) = grew_same counts
 
 pub mark_goes_on : MarkGoesOn
 unfolding closes_of
@@ -214,14 +214,14 @@ finds_it =
       no_part = λ part counts h. ap verdict_number_of (same part counts) ∙ report_numbers.no_part part counts h;
       wrong_buffer = λ part counts k o. ap verdict_number_of (same part counts) ∙ report_numbers.wrong_buffer part counts k o;
       finds = λ part counts k e.
-          let v : counts_verdict_of (facts_of part) (length counts) ≡ Fine = counts_right_lem (facts_of part) (length counts) (known part k) e in
+          let v : counts_verdict_of (facts_of part) (length counts) ≡ (Ok tt) = counts_right_lem (facts_of part) (length counts) (known part k) e in
           (v, subst⁻¹ (λ (z : Verdict). IsWorst counts (worst_by (most 0 0) counts z)) v (walk_finds_it counts (omega (arith, e, groups_some (facts_of part) (sound part)))));
       none = λ part counts r h. ap (worst_by (most 0 0) counts) h;
     }
   where
     told_so : (counts : List ℕ) (v : Verdict) → (found_by counts v).verdict ≡ (report_by counts v).verdict
-    told_so counts Fine = refl
-    told_so counts (Refused r) = refl
+    told_so counts (Ok _) = refl
+    told_so counts (Err r) = refl
 
     same : (part : ℕ) (counts : List ℕ) → (found_of part counts).verdict ≡ (report_of part counts).verdict
     same part counts = told_so counts (counts_verdict_of (facts_of part) (length counts))
@@ -245,17 +245,17 @@ module _ (K L : KeptRun) (kr : RefusesUnborne K) (lr : RefusesUnborne L) (part e
       × (of_k.wear.run.answer.cycles ≡ of_l.wear.run.answer.cycles)
       × (of_k.wear.run.answers ≡ of_l.wear.run.answers)
 
-  same_refused : (r : Refusal) → of_k.wear.run.answer.verdict ≡ Refused r → of_l.wear.run.answer.verdict ≡ Refused r → Same
+  same_refused : (r : Refusal) → of_k.wear.run.answer.verdict ≡ Err r → of_l.wear.run.answer.verdict ≡ Err r → Same
   same_refused r p q =
       let x = kr.keeps part en w c m counts worst es a r p in
       let y = lr.keeps part en w c m counts worst es a r q in
       (p ∙ sym q, x.0 ∙ sym y.0, x.1 ∙ sym y.1, x.2 ∙ sym y.2, x.3 ∙ sym y.3, x.4 ∙ sym y.4, x.5 ∙ sym y.5)
 
   -- 4, or what goes before it: a refusal
-  same_unborne : (v : Verdict) → of_k.wear.run.answer.verdict ≡ sooner_of (Refused BadState) v → of_l.wear.run.answer.verdict ≡ sooner_of (Refused BadState) v → Same
+  same_unborne : (v : Verdict) → of_k.wear.run.answer.verdict ≡ sooner_of (Err BadState) v → of_l.wear.run.answer.verdict ≡ sooner_of (Err BadState) v → Same
   unfolding sooner_of
-  same_unborne Fine p q = same_refused BadState p q
-  same_unborne (Refused s) p q =
+  same_unborne (Ok _) p q = same_refused BadState p q
+  same_unborne (Err s) p q =
       branch (λ (z : Verdict). of_k.wear.run.answer.verdict ≡ z → of_l.wear.run.answer.verdict ≡ z → Same) (ltb (rank_of s) (rank_of BadState)) (λ _ x y. same_refused s x y)
       (λ _ x y. same_refused BadState x y) p q
 

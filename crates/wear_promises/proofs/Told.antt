@@ -1,5 +1,6 @@
 -- What is told of the counts, and the counts of two heaps: the walk finds the most, and sums that stay at the top may be taken in any order.
 -- Assumes nothing.
+use Rattle.std.specs.Prelude.{Ok, Err}
 use Prim.Native.Nat.{ℕ, zero, suc, ◌+◌, ◌-◌, ◌*◌, ◌/◌, ◌<◌, ◌≤◌}
 use mathlib.Core.Path.{◌≡◌, ◌∙◌, refl, sym, ap}
 use mathlib.Core.Bool.{false, not, cond}
@@ -11,8 +12,7 @@ use lib.ListN.{length, get_or, replicate, get_or-replicate, length-replicate}
 use lib.Seq.{ext_get_or}
 use Rattle.parts.specs.declared.Facts.{Facts}
 use Rattle.parts.specs.declared.Refusal.TheVariants.{NoPart, WrongBuffer}
-use Rattle.parts.specs.declared.Verdict.{Verdict}
-use Rattle.parts.specs.declared.Verdict.TheVariants.{Fine, Refused}
+use Rattle.parts.specs.Verdict.{Verdict}
 use Rattle.parts.specs.Sound.{Sound}
 use Rattle.parts.specs.Table.{facts_of, groups_of}
 use Rattle.parts.specs.Refusals.{is_fine, verdict_number_of, sooner_of}
@@ -51,15 +51,15 @@ groups_some f s =
     some (suc q) g p e h = omega arith
 
 -- of counts that are not refused
-module _ (part : ℕ) (counts : List ℕ) (h : (report_of part counts).verdict ≡ Fine) where
-  judged : counts_verdict_of (facts_of part) (length counts) ≡ Fine
+module _ (part : ℕ) (counts : List ℕ) (h : (report_of part counts).verdict ≡ Ok tt) where
+  judged : counts_verdict_of (facts_of part) (length counts) ≡ Ok tt
   judged = go (counts_verdict_of (facts_of part) (length counts)) h
     where
-      go : (v : Verdict) → (report_by counts v).verdict ≡ Fine → v ≡ Fine
-      go Fine e = refl
-      go (Refused r) e = e
+      go : (v : Verdict) → (report_by counts v).verdict ≡ Ok tt → v ≡ Ok tt
+      go (Ok _) e = refl
+      go (Err r) e = e
 
-  report_is : report_of part counts ≡ report_by counts Fine
+  report_is : report_of part counts ≡ report_by counts (Ok tt)
   report_is = ap (report_by counts) judged
 
   size_is : length counts ≡ groups_of (facts_of part)
@@ -91,8 +91,8 @@ report_numbers =
     }
   where
     told : (counts : List ℕ) (v : Verdict) → (report_by counts v).verdict ≡ v
-    told counts Fine = refl
-    told counts (Refused r) = refl
+    told counts (Ok _) = refl
+    told counts (Err r) = refl
 
 pub report_pinned : ReportPinned
 report_pinned P Q p q part counts h k =
@@ -151,7 +151,7 @@ joined_grouped (x ∷ xs) (y ∷ ys) (z ∷ zs) e d =
     rw (h, joined_grouped xs ys zs (omega arith) (omega arith)) refl
 
 module _ (part : ℕ) (xs ys : List ℕ) where
-  join_fine : part ≤ 5 → Counts part xs → Counts part ys → join_verdict part xs ys ≡ Fine
+  join_fine : part ≤ 5 → Counts part xs → Counts part ys → join_verdict part xs ys ≡ Ok tt
   unfolding sooner_of
   join_fine k a b = rw (counts_right_lem (facts_of part) (length xs) (known part k) a.size, counts_right_lem (facts_of part) (length ys) (known part k) b.size) refl
 
@@ -162,8 +162,8 @@ module _ (part : ℕ) (xs ys : List ℕ) where
   join_size a b = go (join_verdict part xs ys)
     where
       go : (v : Verdict) → Counts part (counts_by (joined_of xs ys) xs v)
-      go Fine = record { size = joined_length xs ys ∙ a.size; wide = joined_wide xs ys a.wide }
-      go (Refused r) = a
+      go (Ok _) = record { size = joined_length xs ys ∙ a.size; wide = joined_wide xs ys a.wide }
+      go (Err r) = a
 
 pub join_adds : JoinAdds join_of
 join_adds =

@@ -1,5 +1,6 @@
 -- Traces run one after another, each from delivery: what the counts and their sum have in the end is what all the histories have.
 -- Assumes nothing.
+use Rattle.std.specs.Prelude.{Ok, Err}
 use Prim.Native.Nat.{ℕ, ◌+◌, ◌<◌}
 use mathlib.Core.Path.{◌≡◌, ◌∙◌, refl, sym, ap}
 use mathlib.Core.Bool.{Bool, true, false, cond}
@@ -8,8 +9,7 @@ use native.Mathlib.Nat.{add_assoc}
 use native.Mathlib.Omega.{arith}
 use lib.ListN.{length, get_or, drop, replicate, length-replicate, drop_of_length-le}
 use Rattle.parts.specs.declared.Facts.{Facts}
-use Rattle.parts.specs.declared.Verdict.{Verdict}
-use Rattle.parts.specs.declared.Verdict.TheVariants.{Fine, Refused}
+use Rattle.parts.specs.Verdict.{Verdict}
 use Rattle.parts.specs.Table.{facts_of, groups_of}
 use Rattle.parts.specs.Refusals.{is_fine}
 use Rattle.parts.specs.Bytes.{topped}
@@ -44,7 +44,7 @@ standby_idle f = refl
 
 left_traced : (part en : ℕ) (counts es : List ℕ) → Counts part counts → (v : Verdict)
     → Traced part counts es (wear_left_of our_counter part en old (standby_of (facts_of part) false) (delivered_of part) counts es (replicate (length es) 0) v)
-left_traced part en counts es held Fine =
+left_traced part en counts es held (Ok _) =
     let f : Facts = facts_of part in
     let c : Chip = standby_of f false in
     let m : Mem = delivered_of part in
@@ -60,7 +60,7 @@ left_traced part en counts es held Fine =
           ∙ (ap (λ (w : Watch). topped (get_or counts n 0 + times_of f w [] es xs n)) (fresh_is f)
           ∙ ap (λ (z : List ℕ). topped (get_or counts n 0 + times_of f fresh_watch [] es z n)) answers);
     }
-left_traced part en counts es held (Refused r) = record { held = held; each = λ n h. still counts n held.wide }
+left_traced part en counts es held (Err r) = record { held = held; each = λ n h. still counts n held.wide }
 
 traced : (part en : ℕ) (counts es : List ℕ) → Counts part counts → Traced part counts es (trace_by wear_of part en counts es)
 traced part en counts es held =

@@ -1,13 +1,13 @@
 -- Each of the wrong counters breaks what is promised, on a history of one or two bytes.
 -- Assumes nothing.
+use Rattle.std.specs.Prelude.{Ok}
 use Prim.Native.Nat.{ℕ, zero, suc, ◌+◌, ◌<◌}
 use mathlib.Core.Path.{◌≡◌, ◌∙◌, refl, ap, subst}
 use mathlib.Core.Bool.{true, false}
 use mathlib.Core.List.{List, [], ◌∷◌, ◌++◌}
 use native.Mathlib.Omega.{arith}
 use lib.ListN.{length, get_or, take, drop, set, replicate, length-set}
-use Rattle.parts.specs.declared.Verdict.{Verdict}
-use Rattle.parts.specs.declared.Verdict.TheVariants.{Fine}
+use Rattle.parts.specs.Verdict.{Verdict}
 use Rattle.parts.specs.Table.{facts_of, groups_of, id_size_of, buffers_right_of, enable_right_of, address_bytes_of}
 use Rattle.parts.specs.Events.{event_with, event_right_of}
 use Rattle.parts.specs.Bytes.{AllBelow, all_below_of, topped, up_of}
@@ -47,7 +47,7 @@ module _ (W : Counter) (kept : WearIsHistory (wear_with W)) (part : ℕ) (counts
   abbrev levels : List ℕ
   levels = levels_of (ours (facts_of part) 0) (chip_of part) (delivered_of part) es
 
-  says : wear_verdict part 0 old (chip_of part) (delivered_of part) counts es (replicate (length es) 0) ≡ Fine → (n : ℕ) → n < groups_of (facts_of part)
+  says : wear_verdict part 0 old (chip_of part) (delivered_of part) counts es (replicate (length es) 0) ≡ Ok tt → (n : ℕ) → n < groups_of (facts_of part)
       → get_or (worn_by W (ours (facts_of part) 0) (facts_of part) (chip_of part) counts es) n 0
       ≡ topped (get_or counts n 0 + times_of (facts_of part) (watch_at (chip_of part)) [] es (take (length es) (levels ++ drop (length es) (replicate (length es) 0))) n)
   unfolding wear_calls_by after_wear standby_of
@@ -78,7 +78,7 @@ abbrev ident : List ℕ
 ident = item_codes_of (S ∷ byte_sent 0xB0 0 ∷ byte_sent 0 0 ∷ byte_sent 5 0 ∷ byte_sent 7 0 ∷ P ∷ E ∷ [])
 
 abbrev pub Accepted : ℕ → List ℕ → List ℕ → Type 0
-Accepted part counts es = wear_verdict part 0 old (chip_of part) (delivered_of part) counts es (replicate (length es) 0) ≡ Fine
+Accepted part counts es = wear_verdict part 0 old (chip_of part) (delivered_of part) counts es (replicate (length es) 0) ≡ Ok tt
 
 accepts : Accepted 2 (zeros 2) ended × (Accepted 2 (zeros 2) cut × (Accepted 2 (zeros 2) running × (Accepted 2 (zeros 2) (two_at 4) × (Accepted 2 (zeros 2) (two_at 3) × Accepted 3 (zeros 3) ident))))
 unfolding counts_verdict_of groups_of run_verdict_of sooner_of lent_verdict_of loss_verdict_of held_verdict_of cut_verdict_of facts_of id_size_of enable_right_of event_right_of buffers_right_of marks_right_of pin_right_of lock_right_of phase_right_of rest_right_of in_range_of standby_of pin_at_first_of no_latch delivered_of delivered_id_of
@@ -163,7 +163,7 @@ unfolding worn_by worn_of closed_in cycle_worn_of target_worn_of page_worn_of bu
 cycles_break k =
     let a : List ℕ = replicate (length (two_at 3)) 0 in
     let x : Verdict → WearLeft = (λ (v : Verdict). wear_left_of our_counter 2 0 old (chip_of 2) (delivered_of 2) (zeros 2) (two_at 3) a v) in
-    let q : (v : Verdict) → Type 0 = (λ (v : Verdict). (x v).run.answer.verdict ≡ Fine → NoneAtTop (x v).counts → (x v).run.answer.cycles ≡ touched_in (facts_of 2) (watch_at (chip_of 2)) [] (two_at 3) (take (length (two_at 3)) (x v).run.answers)) in
+    let q : (v : Verdict) → Type 0 = (λ (v : Verdict). (x v).run.answer.verdict ≡ Ok tt → NoneAtTop (x v).counts → (x v).run.answer.cycles ≡ touched_in (facts_of 2) (watch_at (chip_of 2)) [] (two_at 3) (take (length (two_at 3)) (x v).run.answers)) in
     let z : ◌≡◌ {A = ℕ} 1 2 = subst q accepts.1.1.1.1.0 (k 2 0 old (chip_of 2) (delivered_of 2) (two_at 3) a refl) refl low_two in
     omega arith
 

@@ -1,12 +1,12 @@
 -- Each of the wrong keepers breaks what is promised: on a run without events, or with one byte written at 0005h, in group 1.
 -- Assumes nothing.
+use Rattle.std.specs.Prelude.{Ok, Err}
 use Prim.Native.Nat.{ℕ, zero, suc, ◌<◌, ◌≤◌}
 use mathlib.Core.Path.{◌≡◌, ◌∙◌, refl, sym, ap, subst⁻¹}
 use mathlib.Core.List.{List, []}
 use native.Mathlib.Omega.{arith}
 use lib.ListN.{length, get_or, set, replicate}
-use Rattle.parts.specs.declared.Verdict.{Verdict}
-use Rattle.parts.specs.declared.Verdict.TheVariants.{Fine, Refused}
+use Rattle.parts.specs.Verdict.{Verdict}
 use Rattle.parts.proofs.Claims.{refused_not}
 use Rattle.parts.specs.Table.{facts_of, groups_of, id_size_of, buffers_right_of, enable_right_of, address_bytes_of}
 use Rattle.parts.specs.Events.{event_with, event_right_of}
@@ -51,7 +51,7 @@ module _ (K : KeptRun) (before : AsBefore K) (walk : WorstIsWalk K) (counts es :
   abbrev said : KeptLeft
   said = K 2 0 old (chip_of 2) (delivered_of 2) counts (most_of counts) es room
 
-  said_fine : said.wear.run.answer.verdict ≡ Fine
+  said_fine : said.wear.run.answer.verdict ≡ Ok tt
   said_fine =
       ap (λ (z : WearLeft). z.run.answer.verdict) (before 2 0 old (chip_of 2) (delivered_of 2) counts (most_of counts) es room refl)
       ∙ wear_told 2 0 old (chip_of 2) (delivered_of 2) counts es room (wear_verdict 2 0 old (chip_of 2) (delivered_of 2) counts es room) ∙ fine
@@ -70,8 +70,8 @@ judged : (K : KeptRun) (Q : List ℕ → Most → Type 0) → RefusesUnborne K �
 unfolding sooner_of
 judged K Q r t counts worst fine q o =
     let v = wear_told 2 0 old (chip_of 2) (delivered_of 2) counts [] [] (wear_verdict 2 0 old (chip_of 2) (delivered_of 2) counts [] []) ∙ fine in
-    let z : ◌≡◌ {A = Verdict} (Refused BadState) Fine =
-    sym (r.first 2 0 old (chip_of 2) (delivered_of 2) counts worst [] [] o ∙ ap (λ (u : Verdict). sooner_of (Refused BadState) u) v) ∙ t 2 0 old (chip_of 2) (delivered_of 2) counts worst [] [] q v in
+    let z : ◌≡◌ {A = Verdict} (Err BadState) (Ok tt) =
+    sym (r.first 2 0 old (chip_of 2) (delivered_of 2) counts worst [] [] o ∙ ap (λ (u : Verdict). sooner_of (Err BadState) u) v) ∙ t 2 0 old (chip_of 2) (delivered_of 2) counts worst [] [] q v in
     refused_not z
 
 none_more : (n : ℕ) → get_or tied n 0 ≤ 1

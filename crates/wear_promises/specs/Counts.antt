@@ -1,9 +1,8 @@
 -- Document 02, §6, of any function that counts wear as `wear::go_on` does: the counts are what the history says.
 -- Assumes nothing.
-use Rattle.std.specs.Prelude.{ℕ, suc, ◌+◌, ◌/◌, ◌<◌, ◌≤◌, ◌≡◌, false, cond, List, [], ◌∷◌, ◌⊎◌, length, get_or, take, replicate}
+use Rattle.std.specs.Prelude.{ℕ, suc, ◌+◌, ◌/◌, ◌<◌, ◌≤◌, ◌≡◌, false, cond, List, [], ◌∷◌, ◌⊎◌, length, get_or, take, replicate, Err}
 use Rattle.parts.specs.declared.Facts.{Facts}
 use Rattle.parts.specs.declared.Refusal.{Refusal}
-use Rattle.parts.specs.declared.Verdict.TheVariants.{Refused}
 use Rattle.parts.specs.Table.{facts_of, groups_of}
 use Rattle.parts.specs.Refusals.{is_fine, verdict_number_of}
 use Rattle.parts.specs.Bytes.{AllBelow, topped}
@@ -150,7 +149,7 @@ AtMostGroupsOfOnePage R =
 -- a refused call leaves every count, byte and state as before
 abbrev pub WearRefusedChangesNothing : WearRun → Type 0
 WearRefusedChangesNothing R =
-    (part enable : ℕ) (w : PowerCut) (c : Chip) (m : Mem) (counts es a : List ℕ) (r : Refusal) → (R part enable w c m counts es a).run.answer.verdict ≡ Refused r
+    (part enable : ℕ) (w : PowerCut) (c : Chip) (m : Mem) (counts es a : List ℕ) (r : Refusal) → (R part enable w c m counts es a).run.answer.verdict ≡ Err r
     → ((R part enable w c m counts es a).counts ≡ counts)
     × ((R part enable w c m counts es a).run.mem ≡ m)
     × ((R part enable w c m counts es a).run.answer.chip ≡ c)

@@ -1,10 +1,9 @@
 -- Document 02, §8: "Store it, number and count, beside the counts; every write, cut, load and conversion keeps it equal to what the walk would find."
 -- Of any function that is called as `wear::run` is, and of what raises counts.
 -- Assumes nothing.
-use Rattle.std.specs.Prelude.{ℕ, ◌<◌, ◌≤◌, ◌≡◌, true, List, [], ◌∷◌, length, get_or, set}
+use Rattle.std.specs.Prelude.{ℕ, ◌<◌, ◌≤◌, ◌≡◌, true, List, [], ◌∷◌, length, get_or, set, Ok, Err}
 use Rattle.parts.specs.declared.Refusal.{Refusal}
 use Rattle.parts.specs.declared.Refusal.TheVariants.{BadState}
-use Rattle.parts.specs.declared.Verdict.TheVariants.{Fine, Refused}
 use Rattle.parts.specs.Table.{facts_of, groups_of, buffers_right_of}
 use Rattle.parts.specs.Events.{loss_size_of}
 use Rattle.parts.specs.Refusals.{verdict_number_of, sooner_of}
@@ -39,7 +38,7 @@ pub record WorstIsWalk (K : KeptRun) : Type 0 where
       → (K part enable w c m counts worst es a).worst ≡ most_of (K part enable w c m counts worst es a).wear.counts
   -- and whatever was stored, after any call that is not refused
   pub accepted : (part enable : ℕ) (w : PowerCut) (c : Chip) (m : Mem) (counts : List ℕ) (worst : Most) (es a : List ℕ)
-      → (K part enable w c m counts worst es a).wear.run.answer.verdict ≡ Fine
+      → (K part enable w c m counts worst es a).wear.run.answer.verdict ≡ Ok tt
       → (K part enable w c m counts worst es a).worst ≡ most_of (K part enable w c m counts worst es a).wear.counts
 
 -- chip, memory, levels, cycles, counts and refusals are §6's
@@ -52,7 +51,7 @@ AsBefore K =
 pub record RefusesUnborne (K : KeptRun) : Type 0 where
   pub first : (part enable : ℕ) (w : PowerCut) (c : Chip) (m : Mem) (counts : List ℕ) (worst : Most) (es a : List ℕ) → (worst ≡ most_of counts → ⊥)
       → (K part enable w c m counts worst es a).wear.run.answer.verdict
-      ≡ sooner_of (Refused BadState) (wear_of part enable w c m counts es a).run.answer.verdict
+      ≡ sooner_of (Err BadState) (wear_of part enable w c m counts es a).run.answer.verdict
   -- so it is 4 where nothing before it is wrong
   pub number : (part enable : ℕ) (w : PowerCut) (c : Chip) (m : Mem) (counts : List ℕ) (worst : Most) (es a : List ℕ)
       → part ≤ 5
@@ -63,7 +62,7 @@ pub record RefusesUnborne (K : KeptRun) : Type 0 where
       → (worst ≡ most_of counts → ⊥)
       → verdict_number_of (K part enable w c m counts worst es a).wear.run.answer.verdict ≡ 4
   pub keeps : (part enable : ℕ) (w : PowerCut) (c : Chip) (m : Mem) (counts : List ℕ) (worst : Most) (es a : List ℕ) (r : Refusal)
-      → (K part enable w c m counts worst es a).wear.run.answer.verdict ≡ Refused r
+      → (K part enable w c m counts worst es a).wear.run.answer.verdict ≡ Err r
       → ((K part enable w c m counts worst es a).worst ≡ worst)
       × ((K part enable w c m counts worst es a).wear.counts ≡ counts)
       × ((K part enable w c m counts worst es a).wear.run.mem ≡ m)
@@ -139,8 +138,8 @@ pub record FindsIt (F : Finder) : Type 0 where
   pub no_part : (part : ℕ) (counts : List ℕ) → 5 < part → verdict_number_of (F part counts).verdict ≡ 1
   pub wrong_buffer : (part : ℕ) (counts : List ℕ) → part ≤ 5 → (length counts ≡ groups_of (facts_of part) → ⊥) → verdict_number_of (F part counts).verdict ≡ 3
   pub finds : (part : ℕ) (counts : List ℕ) → part ≤ 5 → length counts ≡ groups_of (facts_of part)
-      → ((F part counts).verdict ≡ Fine) × IsWorst counts (F part counts).worst
-  pub none : (part : ℕ) (counts : List ℕ) (r : Refusal) → (F part counts).verdict ≡ Refused r → (F part counts).worst ≡ most 0 0
+      → ((F part counts).verdict ≡ Ok tt) × IsWorst counts (F part counts).worst
+  pub none : (part : ℕ) (counts : List ℕ) (r : Refusal) → (F part counts).verdict ≡ Err r → (F part counts).worst ≡ most 0 0
 
 -- ---- nothing is left open
 

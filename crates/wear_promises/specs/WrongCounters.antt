@@ -1,9 +1,8 @@
 -- Counters that are not document 02's §6, each beside our chip: they break `WearIsHistory`. And a total that is none.
 -- Assumes nothing.
-use Rattle.std.specs.Prelude.{ℕ, zero, suc, ◌+◌, ◌/◌, ◌%◌, ◌≡◌, true, cond, List, [], length, get_or, take, set, eqb, ltb}
+use Rattle.std.specs.Prelude.{ℕ, zero, suc, ◌+◌, ◌/◌, ◌%◌, ◌≡◌, true, cond, List, [], length, get_or, take, set, eqb, ltb, Ok}
 use Rattle.parts.specs.declared.Facts.{Facts}
 use Rattle.parts.specs.declared.Event.TheVariants.{Stop}
-use Rattle.parts.specs.declared.Verdict.TheVariants.{Fine}
 use Rattle.parts.specs.Table.{facts_of}
 use Rattle.line.specs.declared.Target.{Target}
 use Rattle.line.specs.declared.Target.TheVariants.{Array, Ident}
@@ -100,7 +99,7 @@ abbrev pub TotalOf : (WearLeft → ℕ) → Type 0
 TotalOf T =
     (part enable : ℕ) (w : PowerCut) (c : Chip) (m : Mem) (es a : List ℕ) → c.line.phase ≡ Idle
     → let x = wear_of part enable w c m (zeros part) es a in
-    x.run.answer.verdict ≡ Fine → NoneAtTop x.counts → T x ≡ touched_in (facts_of part) (watch_at c) [] es (take (length es) x.run.answers)
+    x.run.answer.verdict ≡ Ok tt → NoneAtTop x.counts → T x ≡ touched_in (facts_of part) (watch_at c) [] es (take (length es) x.run.answers)
 
 pub record WrongCounters : Type 0 where
   pub nothing_breaks : WearIsHistory (wear_with counts_nothing) → ⊥

@@ -1,8 +1,7 @@
 -- Keepers of the worst that are not document 02's §8, each any function with the fault, whatever else it does: it breaks a promise (Kept.antt).
 -- Assumes nothing.
-use Rattle.std.specs.Prelude.{ℕ, ◌<◌, ◌≤◌, ◌≡◌, List, get_or}
+use Rattle.std.specs.Prelude.{ℕ, ◌<◌, ◌≤◌, ◌≡◌, List, get_or, Ok, Err}
 use Rattle.parts.specs.declared.Refusal.TheVariants.{BadState}
-use Rattle.parts.specs.declared.Verdict.TheVariants.{Fine, Refused}
 use Rattle.state.specs.declared.Chip.{Chip}
 use Rattle.chip.specs.Memory.{Mem}
 use Rattle.chip.specs.Model.{PowerCut}
@@ -18,7 +17,7 @@ use Rattle.wear_promises.specs.Kept.{KeptRun, WorstIsWalk, AsBefore, RefusesUnbo
 abbrev pub Answers : (List ℕ → Most → KeptLeft → Type 0) → KeptRun → Type 0
 Answers Q K =
     (part enable : ℕ) (w : PowerCut) (c : Chip) (m : Mem) (counts : List ℕ) (worst : Most) (es a : List ℕ)
-    → (K part enable w c m counts worst es a).wear.run.answer.verdict ≡ Fine
+    → (K part enable w c m counts worst es a).wear.run.answer.verdict ≡ Ok tt
     → Q counts worst (K part enable w c m counts worst es a)
 
 -- it stays at group 0 with 0
@@ -47,8 +46,8 @@ KeepsGroup = Answers (λ counts worst x. x.worst.group ≡ worst.group)
 abbrev pub Takes : (List ℕ → Most → Type 0) → KeptRun → Type 0
 Takes Q K =
     (part enable : ℕ) (w : PowerCut) (c : Chip) (m : Mem) (counts : List ℕ) (worst : Most) (es a : List ℕ) → Q counts worst
-    → (wear_of part enable w c m counts es a).run.answer.verdict ≡ Fine
-    → (K part enable w c m counts worst es a).wear.run.answer.verdict ≡ Fine
+    → (wear_of part enable w c m counts es a).run.answer.verdict ≡ Ok tt
+    → (K part enable w c m counts worst es a).wear.run.answer.verdict ≡ Ok tt
 
 -- never judged
 abbrev pub TakesAny : KeptRun → Type 0
@@ -66,7 +65,7 @@ TakesFirst = Takes (λ counts worst. (get_or counts worst.group 0 ≡ worst.coun
 abbrev pub RefusesAll : KeptRun → Type 0
 RefusesAll K =
     (part enable : ℕ) (w : PowerCut) (c : Chip) (m : Mem) (counts : List ℕ) (worst : Most) (es a : List ℕ)
-    → (K part enable w c m counts worst es a).wear.run.answer.verdict ≡ Refused BadState
+    → (K part enable w c m counts worst es a).wear.run.answer.verdict ≡ Err BadState
 
 pub record WrongKeepers : Type 0 where
   pub zero_breaks : (K : KeptRun) → AsBefore K → WorstIsWalk K → StaysAtZero K → ⊥

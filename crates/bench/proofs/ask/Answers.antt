@@ -4,9 +4,6 @@ use Rattle.bench.specs.declared.Held.{Held}
 use Rattle.bench.proofs.Laws.{sent_small, asked_sent, asked_none}
 use Rattle.bench.proofs.ask.Goals as goal
 
-pub next-asked-requires : goal.next-asked-requires
-next-asked-requires c = tt
-
 pub send-sent-requires : goal.send-sent-requires
 send-sent-requires c =
     let nx = c.next-asked in

@@ -3,14 +3,8 @@ use Rattle.bench.proofs.Laws.{driven}
 use Rattle.bench.proofs.Taped.{taped}
 use Rattle.bench.proofs.drive.Goals as goal
 
-pub begin-begun-requires : goal.begin-begun-requires
-begin-begun-requires c = tt
-
 pub go-gone-requires : goal.go-gone-requires
 go-gone-requires c = record { fit = c.requires.fit; none = (refl, refl); first = c.requires.first; worst = c.requires.worst }
-
-pub reported-report-requires : goal.reported-report-requires
-reported-report-requires c = tt
 
 pub returns : goal.returns
 returns c =

@@ -10,15 +10,6 @@ use Rattle.bench.proofs.end.Goals as goal
 pub returns-then-not-due : goal.returns-then-not-due
 returns-then-not-due c = record { answer = rw c.if-not-due.true refl; stored = rw c.if-not-due.true refl; counts = rw c.if-not-due.true refl; worst = c.requires.worst }
 
-pub mark-raised-requires : goal.mark-raised-requires
-mark-raised-requires c = tt
-
-pub worse-worst-requires : goal.worse-worst-requires
-worse-worst-requires c = tt
-
-pub step-s-requires : goal.step-s-requires
-step-s-requires c = tt
-
 pub returns : goal.returns
 returns c =
     let st = c.step-s in

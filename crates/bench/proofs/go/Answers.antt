@@ -16,19 +16,10 @@ turn-t-requires c =
     let l = c.loop-left in
     record { fit = rw (l.invariant.1, l.invariant.2) l.invariant.5; few = (omega (arith, l.invariant.4, c.loop-left-test.true), omega (arith, l.invariant.4, c.loop-left-test.true)); first = c.requires.first; worst = l.invariant.14 }
 
-pub sends-there-requires : goal.sends-there-requires
-sends-there-requires c = tt
-
-pub code-requires : goal.code-requires
-code-requires c = tt
-
 pub tape-sent-requires : goal.tape-sent-requires
 tape-sent-requires c =
     let l = c.loop-left in
     omega (arith, l.invariant.9, c.loop-left-test.true)
-
-pub going-requires : goal.going-requires
-going-requires c = tt
 
 pub returns-then-not-going : goal.returns-then-not-going
 returns-then-not-going c =

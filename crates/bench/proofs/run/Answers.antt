@@ -1,8 +1,5 @@
 use Rattle.bench.proofs.run.Goals as goal
 
-pub record-recorded-requires : goal.record-recorded-requires
-record-recorded-requires c = tt
-
 pub returns : goal.returns
 returns c =
     let r = c.record-recorded.ensures in

@@ -5,17 +5,11 @@ use Rattle.chip.specs.Memory.{mem}
 use Rattle.parts.specs.Table.{facts_of}
 use Rattle.bench.proofs.send.Goals as goal
 
-pub step-s-requires : goal.step-s-requires
-step-s-requires c = tt
-
 pub overflow_add-result : goal.overflow_add-result
 overflow_add-result c =
     let st = c.step-s in
     let a = c.args in
     omega (arith, one_cycle _ _ a.held _ a.code st.result _ (fine_step _ _ _ _ _ c.requires.fit c.args.code (omega (arith, c.requires.code))) st.ensures.answer, c.requires.few.0)
-
-pub clock-requires : goal.clock-requires
-clock-requires c = tt
 
 pub overflow_add-result-2 : goal.overflow_add-result-2
 overflow_add-result-2 c =

@@ -4,9 +4,6 @@ use Rattle.bench.proofs.Worn.{turn_worn}
 use borrow.Author.Rules.{rules}
 use Rattle.bench.proofs.turn.Goals as goal
 
-pub allowed-most-requires : goal.allowed-most-requires
-allowed-most-requires c = tt
-
 pub due-ended-requires : goal.due-ended-requires
 due-ended-requires c = c.requires.first
 

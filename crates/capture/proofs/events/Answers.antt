@@ -7,14 +7,14 @@ use Rattle.capture.proofs.events.Goals as goal
 
 pub list_judged-requires : goal.list_judged-requires
 list_judged-requires c =
-    judge_fine c.args.samples.now (sym c.judge-verdict.ensures ∙ c.in-Fine.is)
+    judge_fine c.args.samples.now (sym c.judge.ensures ∙ c.in-Ok.is)
 
-pub returns-in-Fine : goal.returns-in-Fine
-returns-in-Fine c = record { answer = c.list_judged.ensures.answer; bytes = c.list_judged.ensures.bytes }
+pub returns-in-Ok : goal.returns-in-Ok
+returns-in-Ok c = record { answer = c.list_judged.ensures.answer; bytes = c.list_judged.ensures.bytes }
 
-pub returns-in-Refused : goal.returns-in-Refused
-returns-in-Refused c =
+pub returns-in-Err : goal.returns-in-Err
+returns-in-Err c =
     let a = c.args in
     let es = events_of a.bus a.samples.now in
-    let bad = list_bad a.bus a.samples.now (length a.out.now) c.in-Refused.r (sym c.judge-verdict.ensures ∙ c.in-Refused.is) in
+    let bad = list_bad a.bus a.samples.now (length a.out.now) c.in-Err.r (sym c.judge.ensures ∙ c.in-Err.is) in
     record { answer = sym (ap (listed_by es) bad); bytes = sym (ap (listed_out es a.out.now) bad) }

@@ -16,12 +16,12 @@ returns-then-out-n c =
     let short = list_short a.bus a.samples.now (length a.out.now) c.requires (omega (arith, c.if-out-n.true, c.count_events-n.ensures)) in
     record { answer = sym (ap (listed_by es) short); bytes = sym (ap (listed_out es a.out.now) short) }
 
-pub list-n-requires : goal.list-n-requires
-list-n-requires c = (c.requires, omega (arith, c.if-out-n.false, c.count_events-n.ensures))
+pub list-requires : goal.list-requires
+list-requires c = (c.requires, omega (arith, c.if-out-n.false, c.count_events-n.ensures))
 
 pub returns : goal.returns
 returns c =
-    let l = c.list-n in
+    let l = c.list in
     let a = c.args in
     let es = events_of a.bus a.samples.now in
     let fits = list_fits a.bus a.samples.now (length a.out.now) c.requires (omega (arith, c.if-out-n.false, c.count_events-n.ensures)) in

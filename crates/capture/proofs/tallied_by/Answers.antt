@@ -4,12 +4,12 @@ use Rattle.capture.proofs.Sampled.{judge_fine}
 use Rattle.capture.proofs.tallied_by.Goals as goal
 
 pub tally_all-requires : goal.tally_all-requires
-tally_all-requires c = judge_fine c.args.samples.now (sym c.judge-verdict.ensures ∙ c.in-Fine.is)
+tally_all-requires c = judge_fine c.args.samples.now (sym c.judge.ensures ∙ c.in-Ok.is)
 
-pub returns-in-Fine : goal.returns-in-Fine
+pub returns-in-Ok : goal.returns-in-Ok
 unfolding counted_of
-returns-in-Fine c = simp (c.tally_all.ensures, c.in-Fine.is, ← c.judge-verdict.ensures)
+returns-in-Ok c = simp (c.tally_all.ensures, c.in-Ok.is, ← c.judge.ensures)
 
-pub returns-in-Refused : goal.returns-in-Refused
+pub returns-in-Err : goal.returns-in-Err
 unfolding counted_of
-returns-in-Refused c = simp (c.in-Refused.is, ← c.judge-verdict.ensures)
+returns-in-Err c = simp (c.in-Err.is, ← c.judge.ensures)

@@ -7,9 +7,9 @@ use lib.ListN.{length}
 use Rattle.capture.proofs.tally_all.Given as goal
 
 -- what is left gives the whole
-abbrev pub invariant-loop-i : goal.invariant-loop-i
-invariant-loop-i l =
+abbrev pub invariant-loop-next : goal.invariant-loop-next
+invariant-loop-next l =
     (0 < l.i) × (tallies_of l.t l.place (left_of l.bus l.samples l.i) ≡ tallies_of l.initial.t 0 (events_of l.bus l.samples))
 
-abbrev pub decreases-loop-i : goal.decreases-loop-i
-decreases-loop-i l = length l.samples - l.i
+abbrev pub decreases-loop-next : goal.decreases-loop-next
+decreases-loop-next l = length l.samples - l.i

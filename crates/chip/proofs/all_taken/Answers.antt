@@ -1,20 +1,16 @@
 use Rattle.chip.proofs.Quick.{taken_step, taken_end}
-use mathlib.Core.Path.{◌∙◌, refl, sym}
-use Prim.Native.Nat.{◌-◌}
+use mathlib.Core.Path.{◌∙◌, sym}
 use native.Mathlib.Omega.{arith}
 use Rattle.chip.proofs.all_taken.Goals as goal
 
-pub loop-i-init : goal.loop-i-init
-loop-i-init c = (omega arith, refl)
-
-pub loop-i-preserved : goal.loop-i-preserved
-loop-i-preserved c =
-    let l = c.loop-i in
+pub loop-code-preserved : goal.loop-code-preserved
+loop-code-preserved c =
+    let l = c.loop-code in
     let a = c.args in
-    (omega arith, rw c.event_right-taken.ensures (taken_step a.pin l.taken l.i a.events.now (omega arith)) ∙ l.invariant.1)
+    rw c.event_right-taken.ensures (taken_step a.pin l.taken l.code-index a.events.now (omega arith)) ∙ l.invariant
 
 pub returns : goal.returns
 returns c =
-    let l = c.loop-i in
+    let l = c.loop-code in
     let a = c.args in
-    sym (taken_end a.pin l.taken l.i a.events.now (omega arith)) ∙ l.invariant.1
+    sym (taken_end a.pin l.taken l.code-index a.events.now (omega arith)) ∙ l.invariant

@@ -1,7 +1,7 @@
 use Rattle.chip.proofs.Quick.{coast_none, coast_on, passes_in}
 use Rattle.chip.specs.Onward.{taking}
-use lib.ListN.{length-set}
-use mathlib.Core.Path.{refl}
+use lib.ListN.{length, length-set}
+use mathlib.Core.Path.{◌≡◌, refl}
 use Prim.Native.Nat.{◌-◌}
 use native.Mathlib.Omega.{arith}
 use Rattle.chip.proofs.bits_in.Goals as goal
@@ -11,9 +11,6 @@ loop-i-init c = (omega arith, refl, λ f m v. coast_none f m _ _ _ _ (omega arit
 
 pub returns-then-code-gt1 : goal.returns-then-code-gt1
 returns-then-code-gt1 c = c.loop-i.invariant.2
-
-pub returns-then-n-eq0 : goal.returns-then-n-eq0
-returns-then-n-eq0 c = c.loop-i.invariant.2
 
 pub loop-i-preserved : goal.loop-i-preserved
 loop-i-preserved c =
@@ -27,4 +24,6 @@ loop-i-preserved c =
     )
 
 pub returns : goal.returns
-returns c = c.loop-i.invariant.2
+returns c =
+    let e : c.loop-i.i ≡ length c.args.events.now = omega arith in
+    λ f m v. rw (← e) (c.loop-i.invariant.2 f m v)

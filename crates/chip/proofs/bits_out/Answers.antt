@@ -2,8 +2,8 @@ use Rattle.chip.proofs.Quick.{coast_none, coast_on, passes_out}
 use Rattle.chip.specs.Onward.{sending}
 use Rattle.chip.specs.Memory.{mem}
 use Rattle.parts.specs.Table.{facts_of}
-use lib.ListN.{length-set}
-use mathlib.Core.Path.{refl}
+use lib.ListN.{length, length-set}
+use mathlib.Core.Path.{◌≡◌, refl}
 use Prim.Native.Nat.{◌-◌}
 use native.Mathlib.Omega.{arith}
 use Rattle.chip.proofs.bits_out.Goals as goal
@@ -13,12 +13,6 @@ loop-i-init c = (omega arith, refl, coast_none _ _ _ _ _ _ (omega arith))
 
 pub returns-then-code-gt1 : goal.returns-then-code-gt1
 returns-then-code-gt1 c = c.loop-i.invariant.2
-
-pub returns-then-n-code : goal.returns-then-n-code
-returns-then-n-code c = c.loop-i.invariant.2
-
-pub overflow_add-i : goal.overflow_add-i
-overflow_add-i c = omega (arith, c.loop-i.invariant.0, c.loop-i-test.true, c.well_formed)
 
 pub loop-i-preserved : goal.loop-i-preserved
 loop-i-preserved c =
@@ -33,4 +27,6 @@ loop-i-preserved c =
     )
 
 pub returns : goal.returns
-returns c = c.loop-i.invariant.2
+returns c =
+    let e : c.loop-i.i ≡ length c.args.events.now = omega arith in
+    rw (← e) c.loop-i.invariant.2

@@ -1,39 +1,32 @@
 use Rattle.chip.proofs.Quick.{scan_clear, scan_fine}
 use Rattle.chip.proofs.Laws.{scan_step, scan-stop, scan-end}
 use Rattle.chip.specs.Calls.{scan_of}
-use mathlib.Core.Path.{refl, sym, ◌∙◌}
-use Prim.Native.Nat.{◌-◌}
+use mathlib.Core.Path.{sym, ◌∙◌}
 use native.Mathlib.Omega.{arith}
 use Rattle.chip.proofs.first_bad.Goals as goal
+use Rattle.chip.proofs.first_bad.Goals.{then-all_below-via-then-all_below, then-all_below-via-else-all_below+then-all_taken}
 
-pub returns-then-low : goal.returns-then-low
-returns-then-low c =
+pub returns-then-all_below : goal.returns-then-all_below
+returns-then-all_below c =
     let a = c.args in
-    scan_clear a.pin 0 a.events.now (sym c.all_below-low.ensures ∙ c.if-low.true)
+    elim c.then-all_below.branch [
+      | then-all_below-via-then-all_below w ↦ scan_clear a.pin 0 a.events.now (sym c.all_below.ensures ∙ w.if-all_below.true)
+      | then-all_below-via-else-all_below+then-all_taken w ↦ scan_fine (scan_of a.pin 0 a.events.now) (sym w.all_taken.ensures ∙ w.if-all_taken.true)
+    ]
 
-pub returns-then-each : goal.returns-then-each
-returns-then-each c =
-    let a = c.args in
-    scan_fine (scan_of a.pin 0 a.events.now) (sym c.all_taken-each.ensures ∙ c.if-each.true)
-
-pub loop-i-init : goal.loop-i-init
-loop-i-init c = (omega arith, refl)
-
-pub returns-then-not-taken : goal.returns-then-not-taken
-returns-then-not-taken c =
+pub returns-then-not-event_right : goal.returns-then-not-event_right
+returns-then-not-event_right c =
     let a = c.args in
     let l = c.loop-i in
-    let r = c.event_right-taken in
-    scan-stop a.pin a.events.now l.i (omega arith) (sym r.ensures ∙ c.if-not-taken.true) ∙ l.invariant.1
+    scan-stop a.pin a.events.now l.i (omega arith) (sym c.event_right.ensures ∙ c.if-not-event_right.true) ∙ l.invariant
 
 pub loop-i-preserved : goal.loop-i-preserved
 loop-i-preserved c =
     let a = c.args in
     let l = c.loop-i in
-    let r = c.event_right-taken in
-    (omega arith, scan_step a.pin a.events.now l.i (omega arith) (sym r.ensures ∙ c.if-not-taken.false) ∙ l.invariant.1)
+    scan_step a.pin a.events.now l.i (omega arith) (sym c.event_right.ensures ∙ c.if-not-event_right.false) ∙ l.invariant
 
 pub returns : goal.returns
 returns c =
     let a = c.args in
-    scan-end a.pin a.events.now c.loop-i.i (omega arith) ∙ c.loop-i.invariant.1
+    scan-end a.pin a.events.now c.loop-i.i (omega arith) ∙ c.loop-i.invariant

@@ -1,6 +1,6 @@
 use Rattle.chip.proofs.Quick.{coast_none, coast_on, ignores_most, passes_ignored}
-use lib.ListN.{length-set}
-use mathlib.Core.Path.{refl}
+use lib.ListN.{length, length-set}
+use mathlib.Core.Path.{◌≡◌, refl}
 use Prim.Native.Nat.{◌-◌}
 use native.Mathlib.Omega.{arith}
 use Rattle.chip.proofs.hold.Goals as goal
@@ -23,4 +23,6 @@ loop-i-preserved c =
     )
 
 pub returns : goal.returns
-returns c = c.loop-i.invariant.2
+returns c =
+    let e : c.loop-i.i ≡ length c.args.events.now = omega arith in
+    λ f m l h. rw (← e) (c.loop-i.invariant.2 f m l h)

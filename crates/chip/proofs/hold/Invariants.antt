@@ -4,7 +4,7 @@ use Rattle.line.specs.declared.Line.{Line}
 use Rattle.parts.specs.declared.Facts.{Facts}
 use lib.ListN.{length}
 use mathlib.Core.Path.{◌≡◌}
-use Prim.Native.Nat.{◌-◌, ◌≤◌}
+use Prim.Native.Nat.{◌≤◌}
 use Rattle.chip.proofs.hold.Given as goal
 
 abbrev pub invariant-loop-i : goal.invariant-loop-i
@@ -12,6 +12,3 @@ invariant-loop-i v =
     (v.i ≤ length v.events)
     × (length v.answers ≡ length v.initial.answers)
     × ((f : Facts) (m : Mem) (l : Line) → v.limit ≤ ignores_of l.phase → Coasts f m v.events l v.initial.answers v.from l v.answers v.i)
-
-abbrev pub decreases-loop-i : goal.decreases-loop-i
-decreases-loop-i l = length l.events - l.i

@@ -1,4 +1,4 @@
 use Rattle.image.proofs.head.Goals as goal
 
 pub returns : goal.returns
-returns c = simp (← c.flag-flag.ensures)
+returns c = simp (← c.flag.ensures)

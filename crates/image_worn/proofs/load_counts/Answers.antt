@@ -35,5 +35,5 @@ pub returns-else-byte_at-eq-WORN : goal.returns-else-byte_at-eq-WORN
 unfolding version_in
 returns-else-byte_at-eq-WORN c =
     let a = c.args in
-    c.clear_counts.ensures
+    c.fill.ensures.after (λ y e. e)
     ∙ plain_counts (facts_of a.part) a.image.now (length a.counts.now) (λ e. c.if-byte_at-eq-WORN.false (c.byte_at.ensures ∙ e)) c.requires.0

@@ -1,20 +1,14 @@
-use Rattle.parts.proofs.Bytes.{low_step, low_end}
-use mathlib.Core.Path.{◌∙◌, refl, sym}
-use Prim.Native.Nat.{◌-◌}
-use native.Mathlib.Omega.{arith}
+use Rattle.std.proofs.Common.{rules, ◌≡◌, ◌∙◌, ◌&&◌, true, ltb}
+use Rattle.std.specs.List.{fold}
+use Rattle.std.proofs.lemmas.Iterator.{YieldsList-from_slice}
+use Rattle.std.proofs.lemmas.Iterator.Consumers.{fold_from_yields_List}
+use Rattle.parts.proofs.Kit.{tests}
+use Rattle.parts.proofs.Bytes.{all_below_fold}
 use Rattle.parts.proofs.all_below.Goals as goal
-
-pub loop-i-init : goal.loop-i-init
-loop-i-init c = (omega arith, refl)
-
-pub loop-i-preserved : goal.loop-i-preserved
-loop-i-preserved c =
-    let l = c.loop-i in
-    let a = c.args in
-    (omega arith, low_step a.limit l.low l.i a.bytes.now (omega arith) ∙ l.invariant.1)
 
 pub returns : goal.returns
 returns c =
-    let l = c.loop-i in
     let a = c.args in
-    sym (low_end a.limit l.low l.i a.bytes.now (omega arith)) ∙ l.invariant.1
+    let e : c.fold.result ≡ fold (λ low x. low && ltb x a.limit) true a.bytes.now =
+    fold_from_yields_List _ (λ low x. low && ltb x a.limit) true c.fold.result c.fold.ensures.ran (YieldsList-from_slice a.bytes.now cc) (λ low x b q k. search (rules, tests)) in
+    e ∙ all_below_fold a.limit true a.bytes.now

@@ -1,23 +1,13 @@
-use Prim.Native.Nat.{◌-◌}
-use mathlib.Core.Path.{◌∙◌}
-use native.Mathlib.Omega.{arith}
-use Rattle.state.proofs.Laws.{empty_step, empty_stop, empty_end}
+use Rattle.std.proofs.Common.{rules, arith, ◌∙◌, ◌≤◌, ◌-◌, length, drop, leb, length-drop}
+use Rattle.std.proofs.lemmas.Iterator.{YieldsList-from_slice}
+use Rattle.std.proofs.lemmas.Iterator.Search.{all_from_yields_List}
+use lib.Seq.{take_all}
+use Rattle.parts.proofs.Kit.{tests}
+use Rattle.state.proofs.Laws.{empty_all}
 use Rattle.state.proofs.empty_from.Goals as goal
-
-pub returns-then-latch-i-lt256 : goal.returns-then-latch-i-lt256
-returns-then-latch-i-lt256 c =
-    let k = c.args.latch in
-    let i = c.loop-i.i in
-    empty_stop k i (omega arith) c.if-latch-i-lt256.true ∙ c.loop-i.invariant.1
-
-pub loop-i-preserved : goal.loop-i-preserved
-loop-i-preserved c =
-    let k = c.args.latch in
-    let i = c.loop-i.i in
-    (omega arith, empty_step k i (omega arith) c.if-latch-i-lt256.false ∙ c.loop-i.invariant.1)
 
 pub returns : goal.returns
 returns c =
-    let k = c.args.latch in
-    let i = c.loop-i.i in
-    empty_end k i (omega arith) ∙ c.loop-i.invariant.1
+    let k = drop c.args.from c.args.latch in
+    let short : length k ≤ 64 - c.args.from = simp length-drop (omega arith) in
+    all_from_yields_List (λ x. leb 256 x) _ _ _ c.all.ensures.ran (YieldsList-from_slice k (c.iter.ensures.rest ∙ take_all (64 - c.args.from) k short)) (λ x b q h. search (rules, tests)) ∙ empty_all k

@@ -18,32 +18,27 @@ code-right : (pin : Bool) (xs : List ℕ) (i code : ℕ) (r : Bool) → i < leng
     → event_right_of pin (get_or (codes_of xs) i 0) ≡ r
 code-right pin xs i code r h e f = ap (event_right_of pin) (each_at code_of xs i h ∙ sym e) ∙ sym f
 
-pub loop-i-init : goal.loop-i-init
-loop-i-init c = (omega arith, refl)
-
-pub returns-then-not-taken : goal.returns-then-not-taken
-returns-then-not-taken c =
+pub returns-then-not-event_right : goal.returns-then-not-event_right
+returns-then-not-event_right c =
     let a = c.args in
     let l = c.loop-i in
-    let r = c.event_right-taken in
-    let there : l.i < length a.letters.now = c.loop-i-test.true in
+    let r = c.event_right in
+    let there : l.i < length a.letters.now = omega arith in
     scan-stop a.pin (codes_of a.letters.now) l.i (long a.letters.now l.i there)
-    (code-right a.pin a.letters.now l.i c.code_of.result r.result there c.code_of.ensures r.ensures ∙ c.if-not-taken.true)
-    ∙ l.invariant.1
+    (code-right a.pin a.letters.now l.i c.code_of.result r.result there c.code_of.ensures r.ensures ∙ c.if-not-event_right.true)
+    ∙ l.invariant
 
 pub loop-i-preserved : goal.loop-i-preserved
 loop-i-preserved c =
     let a = c.args in
     let l = c.loop-i in
-    let r = c.event_right-taken in
-    let there : l.i < length a.letters.now = c.loop-i-test.true in (
-      omega arith,
-      scan_step a.pin (codes_of a.letters.now) l.i (long a.letters.now l.i there)
-          (code-right a.pin a.letters.now l.i c.code_of.result r.result there c.code_of.ensures r.ensures ∙ c.if-not-taken.false)
-          ∙ l.invariant.1,
-    )
+    let r = c.event_right in
+    let there : l.i < length a.letters.now = omega arith in
+    scan_step a.pin (codes_of a.letters.now) l.i (long a.letters.now l.i there)
+    (code-right a.pin a.letters.now l.i c.code_of.result r.result there c.code_of.ensures r.ensures ∙ c.if-not-event_right.false)
+    ∙ l.invariant
 
 pub returns : goal.returns
 returns c =
     let a = c.args in
-    scan-end a.pin (codes_of a.letters.now) c.loop-i.i (omega (arith, each-length code_of a.letters.now)) ∙ c.loop-i.invariant.1
+    scan-end a.pin (codes_of a.letters.now) c.loop-i.i (omega (arith, each-length code_of a.letters.now)) ∙ c.loop-i.invariant

@@ -1,6 +1,5 @@
 use Rattle.trace.specs.Trace.{room_verdict_of}
 use Rattle.parts.proofs.Kit.{tests}
-use mathlib.Core.Path.{◌∙◌}
 use Rattle.trace.proofs.lay.Goals as goal
 
 pub returns-then-out-text : goal.returns-then-out-text
@@ -9,4 +8,4 @@ returns-then-out-text c = record { answer = simp (tests, c.if-out-text.true); te
 
 pub returns : goal.returns
 unfolding room_verdict_of
-returns c = record { answer = simp (tests, c.if-out-text.false); text = c.copy.ensures ∙ simp (tests, c.if-out-text.false) }
+returns c = record { answer = simp (tests, c.if-out-text.false); text = rw c.copy_from_slice.ensures.after (simp (tests, c.if-out-text.false)) }

@@ -19,6 +19,6 @@ pub returns-then-n-lt10000 : goal.returns-then-n-lt10000
 unfolding leading_of
 returns-then-n-lt10000 c = record { value = simp (tests, c.if-n-lt10000.true, c.if-n-lt1000.false, c.if-n-lt100.false, c.if-n-lt10.false); range = omega arith }
 
-pub returns : goal.returns
+pub returns-else-n-lt10000 : goal.returns-else-n-lt10000
 unfolding leading_of
-returns c = record { value = simp (tests, c.if-n-lt10000.false, c.if-n-lt1000.false, c.if-n-lt100.false, c.if-n-lt10.false); range = omega arith }
+returns-else-n-lt10000 c = record { value = simp (tests, c.if-n-lt10000.false, c.if-n-lt1000.false, c.if-n-lt100.false, c.if-n-lt10.false); range = omega arith }

@@ -4,5 +4,5 @@ use Rattle.trace.proofs.letters_verdict.Goals as goal
 pub returns : goal.returns
 returns c =
     let a = c.args in
-    rw (c.sooner-3.ensures, c.sooner-2.ensures, c.sooner.ensures, c.first_wrong-fourth.ensures, c.claim-third.ensures, c.claim-second.ensures, c.claim-first.ensures, c.enable_right-enabled.ensures, c.facts_of-f.ensures.value)
+    rw (c.sooner-3.ensures, c.sooner-2.ensures, c.sooner.ensures, c.first_wrong-fourth.ensures, c.claim-third.ensures, c.claim-second.ensures, c.claim-first.ensures, c.enable_right.ensures, c.facts_of-f.ensures.value)
     (claimed_letters a.part a.enable a.letters.now)

@@ -4,10 +4,10 @@ use Rattle.wear.proofs.Laws.{join_fine}
 use Rattle.wear.proofs.join.Goals as goal
 
 pub join_all-requires : goal.join_all-requires
-join_all-requires c = join_fine (facts_of c.args.part) _ _ (rw (← c.counts_verdict-mine.ensures, ← c.counts_verdict.ensures) (sym c.sooner-verdict.ensures ∙ c.in-Fine.is))
+join_all-requires c = join_fine (facts_of c.args.part) _ _ (rw (← c.counts_verdict-mine.ensures, ← c.counts_verdict.ensures) (sym c.sooner-verdict.ensures ∙ c.in-Ok.is))
 
-pub returns-in-Fine : goal.returns-in-Fine
-returns-in-Fine c = let w = sym c.sooner-verdict.ensures ∙ c.in-Fine.is in let j = c.join_all.ensures in record { answer = rw (← c.counts_verdict-mine.ensures, ← c.counts_verdict.ensures) (sym w); counts = rw (← c.counts_verdict-mine.ensures, ← c.counts_verdict.ensures) (rw w j) }
+pub returns-in-Ok : goal.returns-in-Ok
+returns-in-Ok c = let w = sym c.sooner-verdict.ensures ∙ c.in-Ok.is in let j = c.join_all.ensures in record { answer = rw (← c.counts_verdict-mine.ensures, ← c.counts_verdict.ensures) (sym w); counts = rw (← c.counts_verdict-mine.ensures, ← c.counts_verdict.ensures) (rw w j) }
 
-pub returns-in-Refused : goal.returns-in-Refused
-returns-in-Refused c = let w = sym c.sooner-verdict.ensures ∙ c.in-Refused.is in record { answer = rw (← c.counts_verdict-mine.ensures, ← c.counts_verdict.ensures) (sym w); counts = rw (← c.counts_verdict-mine.ensures, ← c.counts_verdict.ensures) (rw w refl) }
+pub returns-in-Err : goal.returns-in-Err
+returns-in-Err c = let w = sym c.sooner-verdict.ensures ∙ c.in-Err.is in record { answer = rw (← c.counts_verdict-mine.ensures, ← c.counts_verdict.ensures) (sym w); counts = rw (← c.counts_verdict-mine.ensures, ← c.counts_verdict.ensures) (rw w refl) }

@@ -1,4 +1,3 @@
-use Prim.Native.Nat.{◌-◌, ◌≤◌}
 use mathlib.Core.Path.{◌≡◌}
 use mathlib.Core.List.{◌++◌}
 use lib.ListN.{length, take, drop}
@@ -6,7 +5,4 @@ use Rattle.wear.specs.Report.{joined_of}
 use Rattle.wear.proofs.join_all.Given as goal
 
 abbrev pub invariant-loop-i : goal.invariant-loop-i
-invariant-loop-i l = (l.i ≤ length l.initial.counts) × (length l.counts ≡ length l.initial.counts) × (take l.i l.counts ++ joined_of (drop l.i l.counts) (drop l.i l.more) ≡ joined_of l.initial.counts l.more)
-
-abbrev pub decreases-loop-i : goal.decreases-loop-i
-decreases-loop-i l = length l.initial.counts - l.i
+invariant-loop-i l = (length l.counts ≡ length l.initial.counts) × (take l.i l.counts ++ joined_of (drop l.i l.counts) (drop l.i l.more) ≡ joined_of l.initial.counts l.more)

@@ -25,12 +25,6 @@ overflow_mul-j c = let s = c.facts_of-f.ensures.range in omega (arith, group_pla
 pub overflow_add-first : goal.overflow_add-first
 overflow_add-first c = let s = c.facts_of-f.ensures.range in omega (arith, c.loop-j-test.true, div-le_self c.page_start.result c.facts_of-f.result.group, c.page_start.ensures.range, div-le_self c.facts_of-f.result.page c.facts_of-f.result.group, s.page_most)
 
-pub overflow_add-j : goal.overflow_add-j
-overflow_add-j c = let s = c.facts_of-f.ensures.range in omega (arith, c.loop-j-test.true, div-le_self c.facts_of-f.result.page c.facts_of-f.result.group, s.page_most)
-
-pub loop-j-smaller : goal.loop-j-smaller
-loop-j-smaller c = omega (arith, c.loop-j-test.true)
-
 pub loop-j-preserved : goal.loop-j-preserved
 unfolding touched_of
 loop-j-preserved c = let l = c.loop-j in let h = c.loop-j-test.true in let g = c.facts_of-f.result.group in let k = c.args.latch.now in let t = c.latched-touched.ensures in let b = c.bump-best.ensures in let on = grew_bump l.counts _ _ _ b.counts in let r = raised_on _ l.counts _ l.best l.invariant.4 l.invariant.3 l.invariant.5 _ _ c.bump-best.result b.counts b.raised in (omega (arith, h), ap length b.counts ∙ bump_length l.counts _ _ ∙ l.invariant.1, rw (b.counts, t) (bump_step g k l.counts _ l.j _ h) ∙ l.invariant.2, r.0, grew_on _ _ _ l.invariant.4 on, subst (λ (z : ℕ). Low z c.bump-best.result) (omega arith) r.1)

@@ -9,6 +9,3 @@ use Rattle.wear.proofs.mark_page.Given as goal
 
 abbrev pub invariant-loop-j : goal.invariant-loop-j
 invariant-loop-j l = (l.j ≤ l.n) × (length l.counts ≡ length l.initial.counts) × (bumped_from l.g l.latch l.counts (l.first + l.j) l.j (l.n - l.j) ≡ bumped_from l.g l.latch l.initial.counts l.first 0 l.n) × (l.best ≡ raised_of l.initial.counts l.counts) × Grew l.initial.counts l.counts × Low (l.first + l.j) l.best
-
-abbrev pub decreases-loop-j : goal.decreases-loop-j
-decreases-loop-j l = l.n - l.j

@@ -1,8 +1,8 @@
 use mathlib.Core.Path.{refl, ◌∙◌, sym}
 use Rattle.wear.proofs.worst_of.Goals as goal
 
-pub returns-in-Fine : goal.returns-in-Fine
-returns-in-Fine c = let v = sym c.counts_verdict-verdict.ensures ∙ c.in-Fine.is in rw (v, c.most_of.ensures) refl
+pub returns-in-Ok : goal.returns-in-Ok
+returns-in-Ok c = let v = sym c.counts_verdict-verdict.ensures ∙ c.in-Ok.is in rw (v, c.most_of.ensures) refl
 
-pub returns-in-Refused : goal.returns-in-Refused
-returns-in-Refused c = let v = sym c.counts_verdict-verdict.ensures ∙ c.in-Refused.is in rw (v, c.none.ensures) refl
+pub returns-in-Err : goal.returns-in-Err
+returns-in-Err c = let v = sym c.counts_verdict-verdict.ensures ∙ c.in-Err.is in rw (v, c.none.ensures) refl

@@ -1,6 +1,8 @@
+use Rattle.capture.specs.Steps.{left_of}
+use Rattle.std.proofs.Common.{[], ◌≡◌}
 use Rattle.capture.specs.Course.{start_of, finish_of}
 use Rattle.capture.proofs.Finish.{rises_on, finished, one_most}
-use Rattle.capture.proofs.Sampled.{left_start, rises_start, left_end}
+use Rattle.capture.proofs.Sampled.{left_start, rises_start}
 use Rattle.capture.specs.Steps.{rises_left}
 use Rattle.capture.specs.Samples.{rises_of}
 use Rattle.chip.specs.Model.{ours}
@@ -9,13 +11,13 @@ use Rattle.parts.specs.Table.{facts_of}
 use lib.ListN.{drop}
 use mathlib.Core.List.{List}
 use mathlib.Core.Path.{◌∙◌, sym, ap, refl}
-use Prim.Native.Nat.{ℕ, ◌-◌}
+use Prim.Native.Nat.{◌<◌, ℕ}
 use native.Mathlib.Omega.{arith}
 use borrow.Author.Rules.{rules}
 use Rattle.capture.proofs.engine.go_all.Goals as goal
 
-pub loop-i-init : goal.loop-i-init
-loop-i-init c =
+pub loop-next-init : goal.loop-next-init
+loop-next-init c =
     let a = c.args in
     let rises = rises_of a.bus a.samples.now in (
       omega arith,
@@ -31,43 +33,45 @@ loop-i-init c =
           (sym (left_start a.bus a.samples.now)),
     )
 
-pub next_event-next-requires : goal.next_event-next-requires
-next_event-next-requires c = (omega (arith, c.loop-i.invariant.0), omega (arith, c.loop-i-test.true), c.requires.1)
+pub next_event-requires : goal.next_event-requires
+next_event-requires c = (omega (arith, c.loop-next.invariant.0), c.requires.1)
 
 pub turn-g-requires : goal.turn-g-requires
 turn-g-requires c =
-    let l = c.loop-i.invariant in
-    let e = c.next_event-next.ensures in
-    (l.1, omega (arith, l.4, e.onward), omega (arith, l.5, e.onward), omega (arith, l.6, e.onward), omega (arith, l.7, e.onward), omega (arith, e.moves c.loop-i-test.true), e.within, c.requires.1)
+    let l = c.loop-next.invariant in
+    let e = c.in-Some.ensures in
+    (l.1, omega (arith, l.4, e.onward), omega (arith, l.5, e.onward), omega (arith, l.6, e.onward), omega (arith, l.7, e.onward), e.some, omega (arith, e.moves), e.within, c.requires.1)
 
-pub loop-i-smaller : goal.loop-i-smaller
-loop-i-smaller c = omega (arith, c.next_event-next.ensures.moves c.loop-i-test.true, c.loop-i-test.true)
+pub loop-next-smaller : goal.loop-next-smaller
+loop-next-smaller c = let e = c.in-Some.ensures in omega (arith, e.onward, e.moves, e.within)
 
-pub loop-i-preserved : goal.loop-i-preserved
-loop-i-preserved c =
+pub loop-next-preserved : goal.loop-next-preserved
+loop-next-preserved c =
     let a = c.args in
-    let l = c.loop-i in
-    let e = c.next_event-next in
+    let l = c.loop-next in
+    let n = c.in-Some.next in
+    let e = c.in-Some.ensures in
     let t = c.turn-g in
-    let on = e.ensures.moves c.loop-i-test.true in
+    let on : l.i < n.next = omega (arith, e.onward, e.moves) in
     let rises = rises_of a.bus a.samples.now in
-    let r = rises_on rises (rises_left a.bus a.samples.now e.result.next) l.g.clocks e.result.at e.result.code (l.invariant.8 ∙ e.ensures.rises) in (
+    let r = rises_on rises (rises_left a.bus a.samples.now n.next) l.g.clocks n.at n.code (l.invariant.8 ∙ e.rises) in (
       omega (arith, on),
       t.ensures.room,
       search rules,
       search rules,
       omega (arith, on, l.invariant.4, t.ensures.step.events),
-      omega (arith, on, l.invariant.5, t.ensures.step.clocks, one_most e.result.code),
+      omega (arith, on, l.invariant.5, t.ensures.step.clocks, one_most n.code),
       omega (arith, on, l.invariant.6, t.ensures.step.ends),
       omega (arith, on, l.invariant.7, t.ensures.step.cycles),
-      ap (λ (n : ℕ). drop n rises) t.ensures.step.clocks ∙ r.0,
-      t.ensures.step.finish rises r.1 ∙ ap (λ (z : List ℕ). finish_of (ours (facts_of a.part) a.enable) rises (chip l.g.line l.latch) (mem l.array l.id) l.g z) (sym e.ensures.events) ∙ l.invariant.9,
+      ap (λ (k : ℕ). drop k rises) t.ensures.step.clocks ∙ r.0,
+      t.ensures.step.finish rises r.1 ∙ ap (λ (z : List ℕ). finish_of (ours (facts_of a.part) a.enable) rises (chip l.g.line l.latch) (mem l.array l.id) l.g z) (sym e.events) ∙ l.invariant.9,
     )
 
 pub returns : goal.returns
 returns c =
     let a = c.args in
-    let l = c.loop-i in
+    let l = c.loop-next in
+    let none : left_of a.bus a.samples.now l.i ≡ [] = rw c.in_default.is at c.next_event.ensures in
     finished (ours (facts_of a.part) a.enable) a.bus a.samples.now _ _ a.line _ _ _
     (ap (λ (z : List ℕ). finish_of (ours (facts_of a.part) a.enable) (rises_of a.bus a.samples.now) (chip l.g.line l.latch) (mem l.array l.id) l.g z)
-    (sym (left_end a.bus a.samples.now l.i (omega (arith, c.loop-i-test.false)))) ∙ l.invariant.9)
+    (sym none) ∙ l.invariant.9)

@@ -9,8 +9,8 @@ use mathlib.Core.Path.{◌≡◌}
 use Prim.Native.Nat.{◌-◌, ◌<◌}
 use Rattle.capture.proofs.engine.go_all.Given as goal
 
-abbrev pub invariant-loop-i : goal.invariant-loop-i
-invariant-loop-i l =
+abbrev pub invariant-loop-next : goal.invariant-loop-next
+invariant-loop-next l =
     (0 < l.i)
     × (length l.latch ≡ 64)
     × (length l.array ≡ length l.initial.array)
@@ -23,5 +23,5 @@ invariant-loop-i l =
     × (finish_of (ours (facts_of l.part) l.enable) (rises_of l.bus l.samples) (chip l.g.line l.latch) (mem l.array l.id) l.g (left_of l.bus l.samples l.i)
     ≡ finish_of (ours (facts_of l.part) l.enable) (rises_of l.bus l.samples) (chip l.initial.g.line l.initial.latch) (mem l.initial.array l.initial.id) l.initial.g (events_of l.bus l.samples))
 
-abbrev pub decreases-loop-i : goal.decreases-loop-i
-decreases-loop-i l = length l.samples - l.i
+abbrev pub decreases-loop-next : goal.decreases-loop-next
+decreases-loop-next l = length l.samples - l.i

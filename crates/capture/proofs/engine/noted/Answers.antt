@@ -5,10 +5,10 @@ use mathlib.Core.Path.{refl}
 use Rattle.capture.proofs.engine.noted.Goals as goal
 
 pub overflow_add-result-2 : goal.overflow_add-result-2
-overflow_add-result-2 c = omega (arith, c.clock-clock.ensures, flag_below (ltb c.args.code 2), c.requires)
+overflow_add-result-2 c = omega (arith, c.clock.ensures, flag_below (ltb c.args.code 2), c.requires)
 
 pub overflow_add-result-3 : goal.overflow_add-result-3
 overflow_add-result-3 c = omega (arith, c.requires, c.ranges)
 
 pub returns : goal.returns
-returns c = rw (c.clock-clock.ensures, c.place_after-place.ensures, c.marked-marked.ensures) refl
+returns c = rw (c.clock.ensures, c.place_after.ensures, c.marked.ensures) refl

@@ -1,49 +1,28 @@
-use mathlib.Core.Path.{◌≡◌, ◌∙◌, refl, sym, ap}
-use Prim.Native.Nat.{ℕ}
-use native.Mathlib.Omega.{arith}
+use Rattle.std.proofs.Common.{◌≡◌, ℕ, ◌+◌, ◌-◌, ◌<◌, sym, ap, ◌∙◌, arith}
 use Rattle.capture.specs.Ends.{acked_of}
 use Rattle.capture.specs.Steps.{left_of}
-use Rattle.capture.proofs.Sampled.{left_end, acked_more, acked_none, acked_last}
+use Rattle.capture.proofs.Sampled.{acked_more, acked_last}
 use Rattle.capture.proofs.samples.acked.Goals as goal
-
-pub loop-k-init : goal.loop-k-init
-loop-k-init c = (omega arith, omega arith, omega arith, refl)
-
-pub next_event-next-requires : goal.next_event-next-requires
-next_event-next-requires c = (omega arith, omega arith, c.requires.2)
-
-pub returns-then-next-gt1 : goal.returns-then-next-gt1
-returns-then-next-gt1 c =
-    let e = c.next_event-next in
-    let l = c.loop-k in
-    let a = c.args in
-    let ss = a.samples.now in
-    sym (sym l.invariant.3 ∙ ap (acked_of l.k) e.ensures.events
-    ∙ acked_none l.k e.result.code (left_of a.bus ss e.result.next) (omega arith) c.if-next-gt1.true
-    (λ h. left_end a.bus ss e.result.next (omega (arith, (e.ensures.spent h).1))))
 
 pub loop-k-preserved : goal.loop-k-preserved
 loop-k-preserved c =
-    let e = c.next_event-next in
+    let n = c.in-Some.next in
+    let e = c.in-Some.ensures in
     let l = c.loop-k in
-    let a = c.args in
-    let ss = a.samples.now in (
-      omega (arith, e.ensures.onward, e.ensures.made (omega (arith, c.if-next-gt1.false))),
-      e.ensures.within,
-      omega arith,
-      sym (acked_more l.k e.result.code (left_of a.bus ss e.result.next) (omega arith) (omega (arith, c.if-next-gt1.false)))
-          ∙ sym (ap (acked_of l.k) e.ensures.events) ∙ l.invariant.3,
+    let left = left_of c.args.bus c.args.samples.now n.next in
+    let back : 9 - (l.k + 1) ≡ 9 - l.k - 1 = omega arith in
+    let some : 1 < 9 - l.k = omega arith in (
+      omega (arith, e.onward, e.moves),
+      ap (λ (k : ℕ). acked_of k left) back ∙ sym (acked_more (9 - l.k) n.code left some (omega (arith, c.if-next-gt1.false)))
+          ∙ sym (ap (acked_of (9 - l.k)) e.events) ∙ l.invariant.1,
     )
 
-pub next_event-ninth-requires : goal.next_event-ninth-requires
-next_event-ninth-requires c = (omega arith, omega arith, c.requires.2)
-
-pub returns : goal.returns
-returns c =
-    let e = c.next_event-ninth in
+pub returns-in-Some-next_event : goal.returns-in-Some-next_event
+returns-in-Some-next_event c =
+    let n = c.in-Some-next_event.ninth in
+    let e = c.in-Some-next_event.ensures in
     let l = c.loop-k in
     let a = c.args in
-    let ss = a.samples.now in
-    let one : l.k ≡ 1 = omega arith in
-    sym (sym l.invariant.3 ∙ ap (λ (k : ℕ). acked_of k (left_of a.bus ss l.at)) one ∙ ap (acked_of 1) e.ensures.events
-    ∙ acked_last e.result.code (left_of a.bus ss e.result.next) (λ h. left_end a.bus ss e.result.next (omega (arith, (e.ensures.spent h).1))))
+    let one : 9 - l.k ≡ 1 = omega arith in
+    sym (sym l.invariant.1 ∙ ap (λ (k : ℕ). acked_of k (left_of a.bus a.samples.now l.at)) one ∙ ap (acked_of 1) e.events
+    ∙ acked_last n.code (left_of a.bus a.samples.now n.next) (λ h. absurd (omega (arith, h, e.some))))

@@ -1,20 +1,17 @@
-use native.Mathlib.Omega.{arith}
 use Rattle.parts.proofs.Kit.{tests}
 use Rattle.hexfile.specs.Steps.{bare_of}
 use Rattle.hexfile.proofs.reading.bare.Goals as goal
+use Rattle.hexfile.proofs.reading.bare.Goals.{else-e-text-via-then-e-text+then-at-e+else-text-e-eq13, else-e-text-via-then-e-text+else-at-e, else-e-text-via-else-e-text}
 
-pub returns-then-text-e-eq13 : goal.returns-then-text-e-eq13
+pub returns-then-text-e-eq13-clause-value : goal.returns-then-text-e-eq13-clause-value
 unfolding bare_of
-returns-then-text-e-eq13 c = record { value = simp (tests, c.if-text-e-eq13.true, c.if-at-e.true, c.if-e-text.true); range = (omega arith, omega arith) }
+returns-then-text-e-eq13-clause-value c = simp (tests, c.if-text-e-eq13.true, c.if-at-e.true, c.if-e-text.true)
 
-pub returns-else-text-e-eq13 : goal.returns-else-text-e-eq13
+pub returns-else-e-text-clause-value : goal.returns-else-e-text-clause-value
 unfolding bare_of
-returns-else-text-e-eq13 c = record { value = simp (tests, c.if-text-e-eq13.false, c.if-at-e.true, c.if-e-text.true); range = (omega arith, omega arith) }
-
-pub returns-else-at-e : goal.returns-else-at-e
-unfolding bare_of
-returns-else-at-e c = record { value = simp (tests, c.if-at-e.false, c.if-e-text.true); range = (omega arith, omega arith) }
-
-pub returns-else-e-text : goal.returns-else-e-text
-unfolding bare_of
-returns-else-e-text c = record { value = simp (tests, c.if-e-text.false); range = (omega arith, omega arith) }
+returns-else-e-text-clause-value c =
+    elim c.else-e-text.branch [
+      | else-e-text-via-then-e-text+then-at-e+else-text-e-eq13 w ↦ simp (tests, w.if-text-e-eq13.false, w.if-at-e.true, w.if-e-text.true)
+      | else-e-text-via-then-e-text+else-at-e w ↦ simp (tests, w.if-at-e.false, w.if-e-text.true)
+      | else-e-text-via-else-e-text w ↦ simp (tests, w.if-e-text.false)
+    ]

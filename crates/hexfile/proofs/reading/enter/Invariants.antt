@@ -1,10 +1,5 @@
 use Rattle.hexfile.proofs.Values.{Entering}
-use lib.ListN.{length}
-use Prim.Native.Nat.{◌-◌}
 use Rattle.hexfile.proofs.reading.enter.Given as goal
 
 abbrev pub invariant-loop-i : goal.invariant-loop-i
 invariant-loop-i l = Entering l.digits l.initial.cells l.cells l.free l.sum l.i
-
-abbrev pub decreases-loop-i : goal.decreases-loop-i
-decreases-loop-i l = length l.initial.cells - l.i

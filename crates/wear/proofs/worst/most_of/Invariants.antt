@@ -1,11 +1,7 @@
-use Prim.Native.Nat.{◌-◌, ◌≤◌}
 use mathlib.Core.Path.{◌≡◌}
-use lib.ListN.{length, drop}
+use lib.ListN.{drop}
 use Rattle.wear.specs.Report.{most_from, most_of}
 use Rattle.wear.proofs.worst.most_of.Given as goal
 
 abbrev pub invariant-loop-i : goal.invariant-loop-i
-invariant-loop-i l = (l.i ≤ length l.counts) × (most_from l.best l.i (drop l.i l.counts) ≡ most_of l.counts)
-
-abbrev pub decreases-loop-i : goal.decreases-loop-i
-decreases-loop-i l = length l.counts - l.i
+invariant-loop-i l = most_from l.best l.i (drop l.i l.counts) ≡ most_of l.counts

@@ -1,5 +1,5 @@
-use Prim.Native.Nat.{◌+◌, ◌-◌}
-use mathlib.Core.Path.{refl, ◌∙◌, sym, ap}
+use Prim.Native.Nat.{◌+◌}
+use mathlib.Core.Path.{◌∙◌, sym, ap}
 use mathlib.Core.Bool.{Bool, ◌&&◌}
 use native.Mathlib.Omega.{arith}
 use lib.ListN.{get_or, drop}
@@ -8,11 +8,11 @@ use Rattle.parts.proofs.Bytes.{low_step, low_end}
 use Rattle.wear.proofs.Grown.{at_most}
 use Rattle.wear.proofs.worst.none_above.Goals as goal
 
-pub loop-i-init : goal.loop-i-init
-loop-i-init c = (omega arith, refl)
-
-pub loop-i-preserved : goal.loop-i-preserved
-loop-i-preserved c = let l = c.loop-i in let a = c.args in (omega arith, ap (λ (z : Bool). all_below_of (a.limit + 1) (l.low && z) (drop (l.i + 1) a.counts.now)) (at_most (get_or a.counts.now l.i 0) a.limit) ∙ low_step (a.limit + 1) l.low l.i a.counts.now (omega arith) ∙ l.invariant.1)
+pub loop-count-preserved : goal.loop-count-preserved
+loop-count-preserved c =
+    let l = c.loop-count in
+    let a = c.args in
+    ap (λ (z : Bool). all_below_of (a.limit + 1) (l.low && z) (drop (l.count-index + 1) a.counts.now)) (at_most (get_or a.counts.now l.count-index 0) a.limit) ∙ low_step (a.limit + 1) l.low l.count-index a.counts.now (omega arith) ∙ l.invariant
 
 pub returns : goal.returns
-returns c = let l = c.loop-i in let a = c.args in sym (low_end (a.limit + 1) l.low l.i a.counts.now (omega arith)) ∙ l.invariant.1
+returns c = let l = c.loop-count in let a = c.args in sym (low_end (a.limit + 1) l.low l.count-index a.counts.now (omega arith)) ∙ l.invariant

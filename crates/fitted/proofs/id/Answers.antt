@@ -1,4 +1,0 @@
-use Rattle.fitted.proofs.id.Goals as goal
-
-pub returns : goal.returns
-returns c = cc
