@@ -1,5 +1,6 @@
 -- Laws of the walk: its steps, gathered one by one, are the steps of the text, and these are its run.
 -- Assumes nothing.
+use Rattle.std.specs.Prelude.{Ok}
 use Prim.Native.Nat.{ℕ, zero, suc, ◌+◌, ◌≤◌, ◌<◌}
 use mathlib.Core.Path.{◌≡◌, ◌∙◌, sym, ap, refl}
 use mathlib.Core.Bool.{false}
@@ -10,7 +11,6 @@ use native.Mathlib.Omega.{arith}
 use lib.ListN.{length, get_or, take, drop, set, drop_of_length-le}
 use lib.Seq.{drop-cons}
 use borrow.Author.Tests.{le-ltb}
-use Rattle.parts.specs.declared.Verdict.TheVariants.{Fine}
 use Rattle.parts.specs.Table.{facts_of, id_size_of}
 use Rattle.state.specs.declared.Chip.{Chip}
 use Rattle.chip.specs.declared.Stepped.{Stepped}
@@ -81,15 +81,15 @@ module _ (part en : ℕ) (es : List ℕ) (c₀ : Chip) (m₀ : Mem) where
 
 -- the steps of a text that is judged fine, from delivery, are its run
 module _ (part en : ℕ) (es s d : List ℕ) (m : Mem) (n k : ℕ) where
-  pub steps_run : traced_verdict_of part en es ≡ Fine → n ≡ (facts_of part).size → k ≡ id_size_of (facts_of part) → length s ≡ n → length d ≡ k
+  pub steps_run : traced_verdict_of part en es ≡ Ok tt → n ≡ (facts_of part).size → k ≡ id_size_of (facts_of part) → length s ≡ n → length d ≡ k
       → s ≡ (deliver_mem part m (deliver_verdict_of part n k)).cells → d ≡ (deliver_mem part m (deliver_verdict_of part n k)).ident
       → ((steps_of part en old (standby_of (facts_of part) false) (mem s d) es).cycles ≡ cycles_of (ours (facts_of part) en) (standby_of (facts_of part) false) es)
       × ((steps_of part en old (standby_of (facts_of part) false) (mem s d) es).levels ≡ levels_of (ours (facts_of part) en) (standby_of (facts_of part) false) (delivered_of part) es)
   unfolding traced_verdict_of
   steps_run h p q u w x y =
       let c = standby_of (facts_of part) false in
-      let there : run_verdict_of part en old c (length s) (length d) es (length es) ≡ Fine = rw (u ∙ p, w ∙ q) h in
-      let first : run_verdict_of part en old c n k es (length es) ≡ Fine = rw (p, q) h in
+      let there : run_verdict_of part en old c (length s) (length d) es (length es) ≡ (Ok tt) = rw (u ∙ p, w ∙ q) h in
+      let first : run_verdict_of part en old c n k es (length es) ≡ (Ok tt) = rw (p, q) h in
       let b = run_begun part en old c (mem s d) es (length es) there in
       let t = (standby_in_range part false (λ e. let z : ◌≡◌ {A = ℕ} 0 1 = cc in absurd (omega arith))).1 in
       let r = same_steps part en old c (mem s d) es b.accepted b.taken t in
@@ -100,10 +100,10 @@ module _ (part en : ℕ) (es s d : List ℕ) (m : Mem) (n k : ℕ) where
 -- ---- the answer
 
 -- what is printed of the levels and the cycles gathered is what is printed of the run
-pub printed_run : (out : List ℕ) (part en : ℕ) (es levels : List ℕ) (cycles : ℕ) → length levels ≤ 32768 → traced_verdict_of part en es ≡ Fine
+pub printed_run : (out : List ℕ) (part en : ℕ) (es levels : List ℕ) (cycles : ℕ) → length levels ≤ 32768 → traced_verdict_of part en es ≡ Ok tt
     → levels ≡ levels_of (ours (facts_of part) en) (standby_of (facts_of part) false) (delivered_of part) es
     → cycles ≡ cycles_of (ours (facts_of part) en) (standby_of (facts_of part) false) es
-    → printing_of out part Fine levels cycles ≡ laying_of out (traced_of part en es)
+    → printing_of out part (Ok tt) levels cycles ≡ laying_of out (traced_of part en es)
 unfolding traced_of
 printed_run out part en es levels cycles few fine l k =
     let lines : answer_text_of part levels cycles ≡ report_text_of part (traced_verdict_of part en es) (levels_of (ours (facts_of part) en) (standby_of (facts_of part) false) (delivered_of part) es) (cycles_of (ours (facts_of part) en) (standby_of (facts_of part) false) es) =

@@ -1,44 +1,43 @@
 -- Laws that the proofs of the code share: numbers of 16 bits stored and read two bytes at a time.
 -- Assumes nothing.
-use Prim.Native.Nat.{ℕ, suc, ◌+◌, ◌-◌, ◌*◌, ◌/◌, ◌%◌, ◌≤◌, ◌<◌}
-use mathlib.Core.Path.{◌≡◌, ◌∙◌, refl, ap}
+use borrow.Rule.Slice.PartMut.{put_mid}
+use Rattle.std.proofs.lemmas.List.{drop-drop}
+use Prim.Native.Nat.{ℕ, ◌+◌, ◌*◌, ◌/◌, ◌%◌, ◌≤◌, ◌<◌}
+use mathlib.Core.Path.{◌≡◌, ◌∙◌, sym, refl, ap}
 use mathlib.Core.Bool.{true}
-use mathlib.Core.List.{List, [], ◌∷◌, ◌++◌, append-nil}
+use mathlib.Core.List.{List, [], ◌∷◌, ◌++◌, append-nil, append_assoc}
 use native.Mathlib.Numerals.{add-one, add-two}
 use native.Mathlib.Omega.{arith}
-use lib.ListN.{length, get_or, drop, set, length-append, length-drop, drop_of_length-le}
+use lib.ListN.{length, get_or, take, drop, length-append, length-drop, drop_of_length-le}
 use lib.Seq.{sets, sets-eq, drop-cons}
 use lib.Dec.{eqb}
 use borrow.Author.Tests.{eq-eqb, eqb-true}
 use Rattle.state.specs.declared.Chip.{Chip}
-use Rattle.pack_chip.specs.Layout.{chip_length, pairs_of, chip_head_of, packed_chip_of, pack_chip_into, pair_joined_of, pairs_in, chip_codes_right_of, holds_chip_of}
+use Rattle.pack_chip.specs.Layout.{chip_length, pairs_of, chip_head_of, packed_chip_of, pack_chip_into, pairs_in, chip_codes_right_of, holds_chip_of}
 use Rattle.parts.proofs.Tests.{both}
 use Rattle.parts.proofs.Bytes.{sets_whole}
 
 -- ---- stored
 
-pub pairs_step : (out k : List ℕ) (i at x : ℕ) → i < length k → x ≡ get_or k i 0
-    → sets (set (set out at (x / 256)) (at + 1) (x % 256)) (at + 2) (pairs_of (drop (i + 1) k)) ≡ sets out at (pairs_of (drop i k))
-pairs_step out k i at x h e = rw (add-one, add-one, add-two, drop-cons k i 0 h, ← e)
+-- what is copied over a part of a buffer is stored there
+pub copied_over : (at n : ℕ) (out vs : List ℕ) → n ≡ length vs → at + n ≤ length out → put_mid at n out vs ≡ sets out at vs
+copied_over at n out vs e h =
+    let le : at + length vs ≤ length out = omega (arith, e) in
+    rw (drop-drop n at out, e) (sym (sets-eq vs out at le ∙ append_assoc (take at out) vs (drop (at + length vs) out)))
 
-pub pairs_end : (out k : List ℕ) (i at : ℕ) → length k ≤ i → sets out at (pairs_of (drop i k)) ≡ out
-pairs_end out k i at h = rw (drop_of_length-le k h)
+-- the two bytes of one number of a row, copied to their place
+pub pairs_copied : (out k vs : List ℕ) (i at next n : ℕ) → i < length k → get_or k i 0 < 65536 → vs ≡ get_or k i 0 / 256 % 256 ∷ get_or k i 0 % 256 ∷ []
+    → n ≡ 2 → next ≡ at + 2 → next ≤ length out
+    → sets (put_mid at n out vs) next (pairs_of (drop (i + 1) k)) ≡ sets out at (pairs_of (drop i k))
+pairs_copied out k vs i at next n h low w m e r =
+    let high : get_or k i 0 / 256 % 256 ≡ get_or k i 0 / 256 = omega arith in
+    rw (copied_over at n out vs (rw (m, w) refl) (omega arith), w, high, e, add-one, add-two, drop-cons k i 0 h)
 
 pub pairs_length : (k : List ℕ) → length (pairs_of k) ≡ 2 * length k
 pairs_length [] = refl
 pairs_length (x ∷ k) = let e = pairs_length k in omega (arith, e)
 
 -- ---- read
-
-pub row_step : (s k : List ℕ) (i at : ℕ) → at + 1 < length s
-    → sets (set k i (pair_joined_of (get_or s at 0) (get_or s (at + 1) 0))) (i + 1) (pairs_in (drop (at + 2) s)) ≡ sets k i (pairs_in (drop at s))
-row_step s k i at h =
-    let one : at < length s = omega arith in
-    let two : suc at < length s = omega arith in
-    rw (add-one, add-one, add-two, drop-cons s at 0 one, drop-cons s (suc at) 0 two)
-
-pub row_end : (s k : List ℕ) (i at : ℕ) → length s ≤ at → sets k i (pairs_in (drop at s)) ≡ k
-row_end s k i at h = rw (drop_of_length-le s h)
 
 pub row_length : (l : List ℕ) → length (pairs_in l) ≡ length l / 2
 row_length [] = refl

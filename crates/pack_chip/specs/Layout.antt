@@ -2,7 +2,7 @@
 -- locked and phase; the first address byte while the last is awaited; the bits left and those received; then 64 latches of two
 -- bytes, high byte first.
 -- Assumes nothing.
-use Rattle.std.specs.Prelude.{ℕ, ◌+◌, ◌*◌, ◌/◌, ◌%◌, Bool, true, false, cond, List, [], ◌∷◌, ◌++◌, length, get_or, drop, replicate, eqb, ltb}
+use Rattle.std.specs.Prelude.{ℕ, ◌+◌, ◌*◌, ◌/◌, ◌%◌, Bool, true, false, cond, Option, Some, None, List, [], ◌∷◌, ◌++◌, length, get_or, drop, replicate, eqb, ltb}
 use Rattle.parts.specs.Bytes.{flag_of}
 use Rattle.line.specs.declared.Pin.{Pin}
 use Rattle.line.specs.declared.Pin.TheVariants.{Absent, Low, High, Floating}
@@ -14,6 +14,7 @@ use Rattle.line.specs.declared.Cycle.{Cycle}
 use Rattle.line.specs.declared.Cycle.TheVariants.{Writing, Locking}
 use Rattle.line.specs.declared.Phase.{Phase}
 use Rattle.line.specs.declared.Phase.TheVariants.{Idle, Receive, Send, Busy}
+use Rattle.line.specs.declared.Core.{Core}
 use Rattle.line.specs.declared.Line.{Line}
 use Rattle.state.specs.declared.Chip.{Chip}
 
@@ -152,6 +153,20 @@ chip_phase_code_right_of n high = cond (ltb n 18) (cond (eqb n 4) true (cond (eq
 unfoldable pub chip_codes_right_of : ℕ → ℕ → ℕ → ℕ → ℕ → Bool
 chip_codes_right_of pin inhibited locked code high =
     cond (ltb pin 4) (cond (ltb inhibited 2) (cond (ltb locked 2) (chip_phase_code_right_of code high) false) false) false
+
+-- what is read of codes: none where one of them is none of those above
+abbrev pub core_read_of : ℕ → ℕ → ℕ → ℕ → Option Core
+core_read_of counter pin inhibited locked =
+    cond (ltb pin 4)
+    (cond (ltb inhibited 2)
+    (cond (ltb locked 2) (Some (record { counter = counter; pin = pin_in pin; inhibited = eqb inhibited 1; locked = eqb locked 1 })) None) None) None
+
+abbrev pub recv_read_of : ℕ → ℕ → Option Recv
+recv_read_of n high = cond (eqb n 0) None (cond (ltb n 13) (Some (recv_in n high)) None)
+
+abbrev pub line_read_of : List ℕ → Option Line
+line_read_of l =
+    cond (chip_codes_right_of (get_or l 2 0) (get_or l 3 0) (get_or l 4 0) (get_or l 5 0) (get_or l 6 0)) (Some (line_in l)) None
 
 -- bytes that hold a state: the length, and every code one of those above
 unfoldable pub holds_chip_of : List ℕ → Bool

@@ -1,7 +1,7 @@
 // The state of a chip as bytes, and back, for callers that hold bytes only.
 #![tactic(auto)]
 
-ghost use Rattle.std.specs.Prelude.{◌≡◌, ◌/◌, ◌%◌, length, drop};
+ghost use Rattle.std.specs.Prelude.{◌≡◌, ◌/◌, ◌%◌, Some, None, cond, eqb, ltb, length, drop};
 ghost use Rattle.std.proofs.lemmas.List.Edits.{sets};
 ghost use Rattle.pack_chip.specs.Layout.{
   pin_code_of,
@@ -9,7 +9,6 @@ ghost use Rattle.pack_chip.specs.Layout.{
   recv_code_of,
   cycle_code_of,
   chip_phase_code_of,
-  recv_high_of,
   phase_high_of,
   chip_length,
   pairs_of,
@@ -17,13 +16,13 @@ ghost use Rattle.pack_chip.specs.Layout.{
   packs_chip_of,
   pack_chip_into,
   pin_in,
-  recv_in,
+  core_read_of,
+  recv_read_of,
+  line_read_of,
   chip_phase_in,
-  pair_joined_of,
   pairs_in,
   line_in,
   chip_phase_code_right_of,
-  chip_codes_right_of,
   holds_chip_of,
   no_chip,
   unpacked_chip_of,
@@ -31,7 +30,6 @@ ghost use Rattle.pack_chip.specs.Layout.{
 
 use line::{Core, Cycle, Line, Phase, Pin, Recv, Target};
 use state::Chip;
-
 // How many bytes hold a state.
 pub const LENGTH: usize = 137;
 
@@ -64,19 +62,11 @@ fn recv_code(recv: Recv) -> u8
         Recv::Select => 1,
         Recv::AddressHigh(t) => either(t, 2, 3),
         Recv::AddressLow(t, _) => either(t, 4, 5),
-        Recv::Fill(t, acked) => {
-            if acked {
-                return either(t, 7, 9);
-            }
-            either(t, 6, 8)
-        }
+        Recv::Fill(t, false) => either(t, 6, 8),
+        Recv::Fill(t, true) => either(t, 7, 9),
         Recv::LockByte => 10,
-        Recv::LockTaken(on) => {
-            if on {
-                return 12;
-            }
-            11
-        }
+        Recv::LockTaken(false) => 11,
+        Recv::LockTaken(true) => 12,
     }
 }
 
@@ -100,79 +90,47 @@ fn phase_code(phase: Phase) -> u8
     }
 }
 
-fn recv_high(recv: Recv) -> u8
-    ensures { result ≡ recv_high_of recv }
-{
-    match recv {
-        Recv::Select => 0,
-        Recv::AddressHigh(_) => 0,
-        Recv::AddressLow(_, high) => high,
-        Recv::Fill(_, _) => 0,
-        Recv::LockByte => 0,
-        Recv::LockTaken(_) => 0,
-    }
-}
-
 fn phase_high(phase: Phase) -> u8
     ensures { result ≡ phase_high_of phase }
 {
     match phase {
-        Phase::Idle => 0,
-        Phase::Receive(r) => recv_high(r),
-        Phase::Send(_) => 0,
-        Phase::Busy(_) => 0,
+        Phase::Receive(Recv::AddressLow(_, high)) => high,
+        _ => 0,
     }
 }
 
 // ---- packing
 
-fn high_byte(x: u16) -> u8
-    ensures { result ≡ x / 256 }
-{
-    (x / 256) as u8
-}
-
-fn low_byte(x: u16) -> u8
-    ensures { result ≡ x % 256 }
-{
-    (x % 256) as u8
-}
-
-fn put_line(line: Line, out: &mut [u8])
-    requires { length out.old ≡ chip_length }
-    ensures { out.new ≡ sets out.old 0 (chip_head_of line) }
+fn head(line: Line) -> [u8; 9]
+    ensures { result ≡ chip_head_of line }
 {
     let core = line.core;
-    let counter = core.counter;
-    let pin = core.pin;
-    let phase = line.phase;
-    out[0] = high_byte(counter);
-    out[1] = low_byte(counter);
-    out[2] = pin_code(pin);
-    out[3] = parts::flag(core.inhibited);
-    out[4] = parts::flag(core.locked);
-    out[5] = phase_code(phase);
-    out[6] = phase_high(phase);
-    out[7] = line.left;
-    out[8] = line.shift;
+    let [high, low] = core.counter.to_be_bytes();
+    [
+        high,
+        low,
+        pin_code(core.pin),
+        parts::flag(core.inhibited),
+        parts::flag(core.locked),
+        phase_code(line.phase),
+        phase_high(line.phase),
+        line.left,
+        line.shift,
+    ]
 }
 
 fn put_latches(latch: [u16; 64], out: &mut [u8])
     requires { length out.old ≡ chip_length }
     ensures { out.new ≡ sets out.old 9 (pairs_of latch) }
 {
-    let mut i = 0;
-    let mut at = 9;
-    while i < 64 {
-        let x = latch[i];
-        out[at] = high_byte(x);
-        out[at + 1] = low_byte(x);
-        at += 2;
-        i += 1;
+    for (i, x) in latch.iter().enumerate() {
+        let at = 9 + 2 * i;
+        out[at..at + 2].copy_from_slice(&x.to_be_bytes());
     }
 }
 
 // The state into a lent buffer. False, and the buffer as it was, where it has another length.
+#[tactic(auto, unfolding(crate::specs::Layout::pack_chip_into))]
 pub fn pack(chip: Chip, out: &mut [u8]) -> bool
     ensures answer { result ≡ packs_chip_of (length out.old) }
     ensures bytes { out.new ≡ pack_chip_into out.old chip }
@@ -180,138 +138,130 @@ pub fn pack(chip: Chip, out: &mut [u8]) -> bool
     if out.len() != LENGTH {
         return false;
     }
-    let line = chip.line;
-    let latch = chip.latch;
-    put_line(line, out);
-    put_latches(latch, out);
+    out[..9].copy_from_slice(&head(chip.line));
+    put_latches(chip.latch, out);
     true
 }
 
 // ---- unpacking
 
-fn pin_in(code: u8) -> Pin
-    ensures { result ≡ pin_in code }
+#[tactic(auto, unfolding(crate::specs::Layout::pin_in))]
+fn pin_in(code: u8) -> Option<Pin>
+    ensures { result ≡ cond (ltb code 4) (Some (pin_in code)) None }
 {
     match code {
-        0 => Pin::Absent,
-        1 => Pin::Low,
-        2 => Pin::High,
-        _ => Pin::Floating,
+        0 => Some(Pin::Absent),
+        1 => Some(Pin::Low),
+        2 => Some(Pin::High),
+        3 => Some(Pin::Floating),
+        _ => None,
     }
 }
 
-fn recv_in(code: u8, high: u8) -> Recv
-    ensures { result ≡ recv_in code high }
+fn flag_in(code: u8) -> Option<bool>
+    ensures { result ≡ cond (ltb code 2) (Some (eqb code 1)) None }
 {
     match code {
-        2 => Recv::AddressHigh(Target::Array),
-        3 => Recv::AddressHigh(Target::Ident),
-        4 => Recv::AddressLow(Target::Array, high),
-        5 => Recv::AddressLow(Target::Ident, high),
-        6 => Recv::Fill(Target::Array, false),
-        7 => Recv::Fill(Target::Array, true),
-        8 => Recv::Fill(Target::Ident, false),
-        9 => Recv::Fill(Target::Ident, true),
-        10 => Recv::LockByte,
-        11 => Recv::LockTaken(false),
-        12 => Recv::LockTaken(true),
-        _ => Recv::Select,
+        0 => Some(false),
+        1 => Some(true),
+        _ => None,
     }
 }
 
-fn phase_in(code: u8, high: u8) -> Phase
-    ensures { result ≡ chip_phase_in code high }
+fn core_in(counter: u16, pin: u8, inhibited: u8, locked: u8) -> Option<Core>
+    ensures { result ≡ core_read_of counter pin inhibited locked }
+{
+    Some(Core {
+        counter,
+        pin: pin_in(pin)?,
+        inhibited: flag_in(inhibited)?,
+        locked: flag_in(locked)?,
+    })
+}
+
+#[tactic(auto, unfolding(crate::specs::Layout::recv_in))]
+fn recv_in(code: u8, high: u8) -> Option<Recv>
+    ensures { result ≡ recv_read_of code high }
 {
     match code {
-        0 => Phase::Idle,
-        13 => Phase::Send(Target::Array),
-        14 => Phase::Send(Target::Ident),
-        15 => Phase::Busy(Cycle::Writing(Target::Array)),
-        16 => Phase::Busy(Cycle::Writing(Target::Ident)),
-        17 => Phase::Busy(Cycle::Locking),
-        _ => Phase::Receive(recv_in(code, high)),
+        1 => Some(Recv::Select),
+        2 => Some(Recv::AddressHigh(Target::Array)),
+        3 => Some(Recv::AddressHigh(Target::Ident)),
+        4 => Some(Recv::AddressLow(Target::Array, high)),
+        5 => Some(Recv::AddressLow(Target::Ident, high)),
+        6 => Some(Recv::Fill(Target::Array, false)),
+        7 => Some(Recv::Fill(Target::Array, true)),
+        8 => Some(Recv::Fill(Target::Ident, false)),
+        9 => Some(Recv::Fill(Target::Ident, true)),
+        10 => Some(Recv::LockByte),
+        11 => Some(Recv::LockTaken(false)),
+        12 => Some(Recv::LockTaken(true)),
+        _ => None,
     }
 }
 
-fn joined(high: u8, low: u8) -> u16
-    ensures { result ≡ pair_joined_of high low }
+#[tactic(auto, unfolding(crate::specs::Layout::chip_phase_in, crate::specs::Layout::chip_phase_code_right_of))]
+fn phase_in(code: u8, high: u8) -> Option<Phase>
+    ensures { result ≡ cond (chip_phase_code_right_of code high) (Some (chip_phase_in code high)) None }
 {
-    high as u16 * 256 + low as u16
+    // Only a phase that awaits the last address byte keeps the first.
+    if high != 0 && !matches!(code, 4 | 5) {
+        return None;
+    }
+    match code {
+        0 => Some(Phase::Idle),
+        13 => Some(Phase::Send(Target::Array)),
+        14 => Some(Phase::Send(Target::Ident)),
+        15 => Some(Phase::Busy(Cycle::Writing(Target::Array))),
+        16 => Some(Phase::Busy(Cycle::Writing(Target::Ident))),
+        17 => Some(Phase::Busy(Cycle::Locking)),
+        _ => Some(Phase::Receive(recv_in(code, high)?)),
+    }
 }
 
-fn line_in(bytes: &[u8]) -> Line
+#[tactic(auto, unfolding(crate::specs::Layout::chip_codes_right_of))]
+fn line_in(bytes: &[u8]) -> Option<Line>
     requires { length bytes.now ≡ chip_length }
-    ensures { result ≡ line_in bytes.now }
+    ensures { result ≡ line_read_of bytes.now }
 {
-    let counter = joined(bytes[0], bytes[1]);
-    let pin = pin_in(bytes[2]);
-    let phase = phase_in(bytes[5], bytes[6]);
-    Line {
-        core: Core {
-            counter: counter,
-            pin: pin,
-            inhibited: bytes[3] == 1,
-            locked: bytes[4] == 1,
-        },
-        phase: phase,
+    let counter = u16::from_be_bytes([bytes[0], bytes[1]]);
+    Some(Line {
+        core: core_in(counter, bytes[2], bytes[3], bytes[4])?,
+        phase: phase_in(bytes[5], bytes[6])?,
         left: bytes[7],
         shift: bytes[8],
-    }
+    })
 }
 
 fn latches_in(bytes: &[u8]) -> [u16; 64]
     requires { length bytes.now ≡ chip_length }
     ensures { result ≡ pairs_in (drop 9 bytes.now) }
 {
-    let mut latch = [0u16; 64];
-    let mut i = 0;
-    let mut at = 9;
-    while i < 64 {
-        latch[i] = joined(bytes[at], bytes[at + 1]);
-        at += 2;
-        i += 1;
+    let mut latch = [0; 64];
+    for (i, x) in latch.iter_mut().enumerate() {
+        let at = 9 + 2 * i;
+        *x = u16::from_be_bytes([bytes[at], bytes[at + 1]]);
     }
     latch
 }
 
-fn phase_right(code: u8, high: u8) -> bool
-    ensures { result ≡ chip_phase_code_right_of code high }
+// What the bytes hold beside the latches; none where they have another length, or a code is none that there is.
+#[tactic(auto, unfolding(crate::specs::Layout::holds_chip_of))]
+fn held(bytes: &[u8]) -> Option<Line>
+    ensures { result ≡ cond (holds_chip_of bytes.now) (Some (line_in bytes.now)) None }
 {
-    if 18 <= code {
-        return false;
+    if bytes.len() == LENGTH {
+        line_in(bytes)
+    } else {
+        None
     }
-    if code == 4 {
-        return true;
-    }
-    if code == 5 {
-        return true;
-    }
-    high == 0
-}
-
-fn codes_right(pin: u8, inhibited: u8, locked: u8, code: u8, high: u8) -> bool
-    ensures { result ≡ chip_codes_right_of pin inhibited locked code high }
-{
-    if 4 <= pin {
-        return false;
-    }
-    if 2 <= inhibited {
-        return false;
-    }
-    if 2 <= locked {
-        return false;
-    }
-    phase_right(code, high)
 }
 
 // Whether the bytes hold a state: their length, and every code one that there is.
 pub fn holds(bytes: &[u8]) -> bool
     ensures { result ≡ holds_chip_of bytes.now }
 {
-    if bytes.len() != LENGTH {
-        return false;
-    }
-    codes_right(bytes[2], bytes[3], bytes[4], bytes[5], bytes[6])
+    held(bytes).is_some()
 }
 
 fn none() -> Chip
@@ -333,18 +283,16 @@ fn none() -> Chip
     }
 }
 
-// The state that the bytes hold; where they hold none, one that is out of range for every part.
+// The state that the bytes hold; where they hold none, one that is out of range for every part, as `ChipRefusesOthers` says.
+#[tactic(auto, unfolding(crate::specs::Layout::unpacked_chip_of))]
 pub fn unpack(bytes: &[u8]) -> Chip
     ensures { result ≡ unpacked_chip_of bytes.now }
 {
-    let right = holds(bytes);
-    if !right {
-        return none();
-    }
-    let line = line_in(bytes);
-    let latch = latches_in(bytes);
-    Chip {
-        line: line,
-        latch: latch,
+    match held(bytes) {
+        Some(line) => Chip {
+            line,
+            latch: latches_in(bytes),
+        },
+        None => none(),
     }
 }

@@ -1,31 +1,35 @@
 -- Laws that the proofs of the code share: numbers stored four bytes at a time, and a buffer that is stored over whole.
 -- Assumes nothing.
-use Prim.Native.Nat.{ℕ}
-use mathlib.Core.Path.{◌≡◌}
+use Prim.Native.Nat.{ℕ, suc, ◌+◌, ◌≤◌, ◌<◌}
+use mathlib.Core.Path.{◌≡◌, ◌∙◌, sym, refl}
 use mathlib.Core.Bool.{true}
-use mathlib.Core.List.{List}
-use lib.ListN.{length}
-use lib.Seq.{sets}
+use mathlib.Core.List.{List, append_assoc}
+use native.Mathlib.Numerals.{add-one}
+use native.Mathlib.Omega.{arith}
+use borrow.Rule.Slice.PartMut.{put_mid}
+use lib.ListN.{length, get_or, take, drop}
+use lib.Seq.{sets, sets-eq, drop-cons}
+use Rattle.std.proofs.lemmas.List.{drop-drop}
 use lib.Dec.{eqb}
 use borrow.Author.Tests.{eqb-true}
 use Rattle.parts.specs.Bytes.{word_of, words_of}
 use Rattle.parts.proofs.Tests.{both}
 use Rattle.parts.proofs.Bytes.{sets_whole}
 use Rattle.driver.specs.declared.Driver.{Driver}
-use Rattle.driver.specs.Request.{from_of}
 use Rattle.pack_driver.specs.Layout.{driver_length, driver_head_of, numbers_of, packed_driver_of, holds_driver_of}
 
--- one number after the other, each where the one before ends
-module _ (o o₁ o₂ o₃ o₄ o₅ o₆ o₇ : List ℕ) (d : Driver) (from : ℕ) (f : from ≡ from_of d.request.place)
-    (e₁ : o₁ ≡ sets o 7 (word_of from))
-    (e₂ : o₂ ≡ sets o₁ 11 (word_of d.request.length))
-    (e₃ : o₃ ≡ sets o₂ 15 (word_of d.request.budget))
-    (e₄ : o₄ ≡ sets o₃ 19 (word_of d.counts.at))
-    (e₅ : o₅ ≡ sets o₄ 23 (word_of d.counts.seen))
-    (e₆ : o₆ ≡ sets o₅ 27 (word_of d.counts.tries))
-    (e₇ : o₇ ≡ sets o₆ 31 (word_of d.counts.polls)) where
-  pub words_put : o₇ ≡ sets o 7 (words_of (numbers_of d))
-  words_put = rw (e₇, e₆, e₅, e₄, e₃, e₂, e₁, f)
+-- what is copied over a part of a buffer is stored there
+pub copied_over : (at n : ℕ) (out vs : List ℕ) → n ≡ length vs → at + n ≤ length out → put_mid at n out vs ≡ sets out at vs
+copied_over at n out vs e h =
+    let le : at + length vs ≤ length out = omega (arith, e) in
+    rw (drop-drop n at out, e) (sym (sets-eq vs out at le ∙ append_assoc (take at out) vs (drop (at + length vs) out)))
+
+-- the four bytes of one number of a row, copied to their place
+pub words_copied : (out k vs : List ℕ) (i at next n : ℕ) → i < length k → vs ≡ word_of (get_or k i 0) → n ≡ 4 → next ≡ at + 4 → next ≤ length out
+    → sets (put_mid at n out vs) next (words_of (drop (i + 1) k)) ≡ sets out at (words_of (drop i k))
+words_copied out k vs i at next n h w m e r =
+    let four : next ≡ suc (suc (suc (suc at))) = omega (arith, e) in
+    rw (copied_over at n out vs (rw (m, w) refl) (omega arith), w, four, add-one, drop-cons k i 0 h)
 
 pub packed_put : (o o₁ o₂ : List ℕ) (d : Driver) → length o ≡ driver_length → o₁ ≡ sets o 0 (driver_head_of d) → o₂ ≡ sets o₁ 7 (words_of (numbers_of d))
     → o₂ ≡ packed_driver_of d

@@ -3,7 +3,7 @@
 --     then seven numbers of four bytes, high byte first: 7 first address or location, 11 length, 15 budget, 19 bytes sent or got,
 --     23 bytes seen to be done, 27 polls for this page, 31 polls in all
 -- Assumes nothing.
-use Rattle.std.specs.Prelude.{ℕ, ◌+◌, ◌-◌, Bool, true, false, cond, List, [], ◌∷◌, ◌++◌, length, get_or, eqb, ltb}
+use Rattle.std.specs.Prelude.{ℕ, ◌+◌, ◌-◌, Bool, true, false, cond, Option, Some, None, List, [], ◌∷◌, ◌++◌, length, get_or, eqb, ltb}
 use Rattle.parts.specs.Bytes.{flag_of, word_end, words_of, number_in}
 use Rattle.driver.specs.declared.Place.{Place}
 use Rattle.driver.specs.declared.Place.TheVariants.{Array, Ident}
@@ -142,6 +142,10 @@ driver_phase_code_right_of n clocks = cond (ltb n 21) (cond (eqb clocks 0) true 
 
 unfoldable pub driver_codes_right_of : ℕ → ℕ → ℕ → ℕ → Bool
 driver_codes_right_of place reads code clocks = cond (ltb place 2) (cond (ltb reads 2) (driver_phase_code_right_of code clocks) false) false
+
+-- what is read of the request: none where one of its codes is none of those above
+abbrev pub request_read_of : List ℕ → Option Request
+request_read_of l = cond (ltb (get_or l 2 0) 2) (cond (ltb (get_or l 3 0) 2) (Some (request_in l)) None) None
 
 -- bytes that hold a driver: the length, and every code one of those above
 unfoldable pub holds_driver_of : List ℕ → Bool

@@ -1,9 +1,9 @@
 // The state of a driver as bytes, and back, for callers that hold bytes only.
 #![tactic(auto)]
 
-ghost use Rattle.std.specs.Prelude.{◌≡◌, ◌+◌, ◌<◌, ◌≤◌, length};
+ghost use Rattle.std.specs.Prelude.{◌≡◌, ◌+◌, ◌<◌, ◌≤◌, Some, None, cond, eqb, ltb, length};
 ghost use Rattle.std.proofs.lemmas.List.Edits.{sets};
-ghost use Rattle.parts.specs.Bytes.{word_of, words_of, number_in};
+ghost use Rattle.parts.specs.Bytes.{words_of, number_in};
 ghost use Rattle.driver.specs.Step.{clocks_of};
 ghost use Rattle.pack_driver.specs.Layout.{
   place_code_of,
@@ -13,17 +13,17 @@ ghost use Rattle.pack_driver.specs.Layout.{
   driver_length,
   driver_head_of,
   numbers_of,
-  small_of,
+  all_small_lem,
   packs_driver_of,
   pack_driver_into,
   place_in,
   slot_in,
   failed_in,
   driver_phase_in,
-  request_in,
+  request_read_of,
   counts_in,
   driver_phase_code_right_of,
-  driver_codes_right_of,
+  driver_in,
   holds_driver_of,
   no_driver,
   unpacked_driver_of,
@@ -90,161 +90,145 @@ fn clocks(phase: Phase) -> u8
     ensures { result ≡ clocks_of phase }
 {
     match phase {
-        Phase::Ready => 0,
         Phase::Bits(_, b) => b,
-        Phase::Heard(_) => 0,
-        Phase::Rest => 0,
-        Phase::Over(_) => 0,
+        _ => 0,
     }
 }
 
 // ---- packing
 
-fn put_number(out: &mut [u8], at: usize, x: usize)
-    requires { at + 4 ≤ length out.old }
-    ensures { out.new ≡ sets out.old at (word_of x) }
+fn head(driver: Driver) -> [u8; 7]
+    ensures { result ≡ driver_head_of driver }
 {
-    let w = parts::word(x);
-    out[at] = w[0];
-    out[at + 1] = w[1];
-    out[at + 2] = w[2];
-    out[at + 3] = w[3];
+    let request = driver.request;
+    [
+        request.part,
+        request.enable,
+        place_code(request.place),
+        parts::flag(request.reads),
+        phase_code(driver.phase),
+        clocks(driver.phase),
+        driver.counts.byte,
+    ]
 }
 
-fn put_head(driver: Driver, out: &mut [u8])
+fn numbers(driver: Driver) -> [usize; 7]
+    ensures { result ≡ numbers_of driver }
+{
+    let request = driver.request;
+    let counts = driver.counts;
+    [
+        driver::from(request.place),
+        request.length,
+        request.budget,
+        counts.at,
+        counts.seen,
+        counts.tries,
+        counts.polls,
+    ]
+}
+
+fn put_numbers(numbers: [usize; 7], out: &mut [u8])
     requires { length out.old ≡ driver_length }
-    ensures { out.new ≡ sets out.old 0 (driver_head_of driver) }
+    ensures { out.new ≡ sets out.old 7 (words_of numbers) }
 {
-    let request = driver.request;
-    let place = request.place;
-    let phase = driver.phase;
-    let counts = driver.counts;
-    out[0] = request.part;
-    out[1] = request.enable;
-    out[2] = place_code(place);
-    out[3] = parts::flag(request.reads);
-    out[4] = phase_code(phase);
-    out[5] = clocks(phase);
-    out[6] = counts.byte;
+    for (i, x) in numbers.iter().enumerate() {
+        let at = 7 + 4 * i;
+        out[at..at + 4].copy_from_slice(&parts::word(*x));
+    }
 }
 
-fn put_numbers(driver: Driver, out: &mut [u8])
-    requires { length out.old ≡ driver_length }
-    ensures { out.new ≡ sets out.old 7 (words_of (numbers_of driver)) }
+// Whether each has four bytes.
+fn small(numbers: [usize; 7]) -> bool
+    ensures { result ≡ all_small_lem numbers }
 {
-    let request = driver.request;
-    let place = request.place;
-    let counts = driver.counts;
-    put_number(out, 7, driver::from(place));
-    put_number(out, 11, request.length);
-    put_number(out, 15, request.budget);
-    put_number(out, 19, counts.at);
-    put_number(out, 23, counts.seen);
-    put_number(out, 27, counts.tries);
-    put_number(out, 31, counts.polls);
-}
-
-fn small(driver: Driver) -> bool
-    ensures { result ≡ small_of driver }
-{
-    let request = driver.request;
-    let place = request.place;
-    let counts = driver.counts;
-    if 4294967296 <= driver::from(place) {
-        return false;
-    }
-    if 4294967296 <= request.length {
-        return false;
-    }
-    if 4294967296 <= request.budget {
-        return false;
-    }
-    if 4294967296 <= counts.at {
-        return false;
-    }
-    if 4294967296 <= counts.seen {
-        return false;
-    }
-    if 4294967296 <= counts.tries {
-        return false;
-    }
-    if 4294967296 <= counts.polls {
-        return false;
-    }
-    true
+    numbers.iter().all(|x| *x < 4294967296)
 }
 
 // The state into a lent buffer. False, and the buffer as it was, where it has another length or a number of the state
 // has more than four bytes.
+#[tactic(auto, unfolding(crate::specs::Layout::pack_driver_into, crate::specs::Layout::packs_driver_of, crate::specs::Layout::small_of))]
 pub fn pack(driver: Driver, out: &mut [u8]) -> bool
     ensures answer { result ≡ packs_driver_of (length out.old) driver }
     ensures bytes { out.new ≡ pack_driver_into out.old driver }
 {
-    if out.len() != LENGTH {
+    let numbers = numbers(driver);
+    if out.len() != LENGTH || !small(numbers) {
         return false;
     }
-    let fits = small(driver);
-    if !fits {
-        return false;
-    }
-    put_head(driver, out);
-    put_numbers(driver, out);
+    out[..7].copy_from_slice(&head(driver));
+    put_numbers(numbers, out);
     true
 }
 
 // ---- unpacking
 
-fn place_in(code: u8, from: usize) -> Place
-    ensures { result ≡ place_in code from }
-{
-    if code == 0 {
-        return Place::Array(ArrayAddress(from));
-    }
-    Place::Ident(IdLocation(from))
-}
-
-fn slot_in(code: u8) -> Slot
-    ensures { result ≡ slot_in code }
+#[tactic(auto, unfolding(crate::specs::Layout::place_in))]
+fn place_in(code: u8, from: usize) -> Option<Place>
+    ensures { result ≡ cond (ltb code 2) (Some (place_in code from)) None }
 {
     match code {
-        0 => Slot::Select,
-        1 => Slot::High,
-        2 => Slot::Low,
-        3 => Slot::Data,
-        4 => Slot::Poll,
-        5 => Slot::Turn,
-        _ => Slot::Take,
+        0 => Some(Place::Array(ArrayAddress(from))),
+        1 => Some(Place::Ident(IdLocation(from))),
+        _ => None,
     }
 }
 
-fn failed_in(code: u8) -> Failed
-    ensures { result ≡ failed_in code }
+fn flag_in(code: u8) -> Option<bool>
+    ensures { result ≡ cond (ltb code 2) (Some (eqb code 1)) None }
 {
     match code {
-        0 => Failed::AtSelect,
-        1 => Failed::AtData,
-        2 => Failed::AtPolls,
-        3 => Failed::AtHigh,
-        _ => Failed::AtLow,
+        0 => Some(false),
+        1 => Some(true),
+        _ => None,
     }
 }
 
-fn phase_in(code: u8, clocks: u8) -> Phase
-    ensures { result ≡ driver_phase_in code clocks }
+#[tactic(auto, unfolding(crate::specs::Layout::slot_in))]
+fn slot_in(code: u8) -> Option<Slot>
+    ensures { result ≡ cond (ltb code 7) (Some (slot_in code)) None }
 {
-    if code < 1 {
-        return Phase::Ready;
+    match code {
+        0 => Some(Slot::Select),
+        1 => Some(Slot::High),
+        2 => Some(Slot::Low),
+        3 => Some(Slot::Data),
+        4 => Some(Slot::Poll),
+        5 => Some(Slot::Turn),
+        6 => Some(Slot::Take),
+        _ => None,
     }
-    if code < 8 {
-        return Phase::Bits(slot_in(code - 1), clocks);
+}
+
+#[tactic(auto, unfolding(crate::specs::Layout::failed_in))]
+fn failed_in(code: u8) -> Option<Failed>
+    ensures { result ≡ cond (ltb code 5) (Some (failed_in code)) None }
+{
+    match code {
+        0 => Some(Failed::AtSelect),
+        1 => Some(Failed::AtData),
+        2 => Some(Failed::AtPolls),
+        3 => Some(Failed::AtHigh),
+        4 => Some(Failed::AtLow),
+        _ => None,
     }
-    if code < 15 {
-        return Phase::Heard(slot_in(code - 8));
+}
+
+#[tactic(auto, unfolding(crate::specs::Layout::driver_phase_in, crate::specs::Layout::driver_phase_code_right_of))]
+fn phase_in(code: u8, clocks: u8) -> Option<Phase>
+    ensures { result ≡ cond (driver_phase_code_right_of code clocks) (Some (driver_phase_in code clocks)) None }
+{
+    // Only a phase inside a byte counts clocks.
+    if clocks != 0 && !matches!(code, 1..=7) {
+        return None;
     }
-    if code < 16 {
-        return Phase::Rest;
+    match code {
+        0 => Some(Phase::Ready),
+        1..=7 => Some(Phase::Bits(slot_in(code - 1)?, clocks)),
+        8..=14 => Some(Phase::Heard(slot_in(code - 8)?)),
+        15 => Some(Phase::Rest),
+        _ => Some(Phase::Over(failed_in(code - 16)?)),
     }
-    Phase::Over(failed_in(code - 16))
 }
 
 fn number_in(bytes: &[u8], at: usize) -> usize
@@ -254,74 +238,46 @@ fn number_in(bytes: &[u8], at: usize) -> usize
     parts::joined(bytes[at], bytes[at + 1], bytes[at + 2], bytes[at + 3])
 }
 
-fn request_in(bytes: &[u8]) -> Request
+fn request_in(bytes: &[u8]) -> Option<Request>
     requires { length bytes.now ≡ driver_length }
-    ensures { result ≡ request_in bytes.now }
+    ensures { result ≡ request_read_of bytes.now }
 {
-    let place = place_in(bytes[2], number_in(bytes, 7));
-    let length = number_in(bytes, 11);
-    let budget = number_in(bytes, 15);
-    Request {
+    Some(Request {
         part: bytes[0],
         enable: bytes[1],
-        place: place,
-        reads: bytes[3] == 1,
-        length: length,
-        budget: budget,
-    }
+        place: place_in(bytes[2], number_in(bytes, 7))?,
+        reads: flag_in(bytes[3])?,
+        length: number_in(bytes, 11),
+        budget: number_in(bytes, 15),
+    })
 }
 
 fn counts_in(bytes: &[u8]) -> Counts
     requires { length bytes.now ≡ driver_length }
     ensures { result ≡ counts_in bytes.now }
 {
-    let at = number_in(bytes, 19);
-    let seen = number_in(bytes, 23);
-    let tries = number_in(bytes, 27);
-    let polls = number_in(bytes, 31);
     Counts {
-        at: at,
-        seen: seen,
-        tries: tries,
-        polls: polls,
+        at: number_in(bytes, 19),
+        seen: number_in(bytes, 23),
+        tries: number_in(bytes, 27),
+        polls: number_in(bytes, 31),
         byte: bytes[6],
     }
 }
 
-fn phase_right(code: u8, clocks: u8) -> bool
-    ensures { result ≡ driver_phase_code_right_of code clocks }
-{
-    if 21 <= code {
-        return false;
-    }
-    if clocks == 0 {
-        return true;
-    }
-    if code < 1 {
-        return false;
-    }
-    code < 8
-}
-
-fn codes_right(place: u8, reads: u8, code: u8, clocks: u8) -> bool
-    ensures { result ≡ driver_codes_right_of place reads code clocks }
-{
-    if 2 <= place {
-        return false;
-    }
-    if 2 <= reads {
-        return false;
-    }
-    phase_right(code, clocks)
-}
-
-fn holds(bytes: &[u8]) -> bool
-    ensures { result ≡ holds_driver_of bytes.now }
+// None where the bytes have another length, or a code is none that there is.
+#[tactic(auto, unfolding(crate::specs::Layout::holds_driver_of, crate::specs::Layout::driver_codes_right_of))]
+fn held(bytes: &[u8]) -> Option<Driver>
+    ensures { result ≡ cond (holds_driver_of bytes.now) (Some (driver_in bytes.now)) None }
 {
     if bytes.len() != LENGTH {
-        return false;
+        return None;
     }
-    codes_right(bytes[2], bytes[3], bytes[4], bytes[5])
+    Some(Driver {
+        request: request_in(bytes)?,
+        phase: phase_in(bytes[4], bytes[5])?,
+        counts: counts_in(bytes),
+    })
 }
 
 fn none() -> Driver
@@ -347,20 +303,10 @@ fn none() -> Driver
     }
 }
 
-// The state that the bytes hold; where they hold none, one that is out of range.
+// The state that the bytes hold; where they hold none, one that is out of range, as `DriverRefusesOthers` says.
+#[tactic(auto, unfolding(crate::specs::Layout::unpacked_driver_of))]
 pub fn unpack(bytes: &[u8]) -> Driver
     ensures { result ≡ unpacked_driver_of bytes.now }
 {
-    let right = holds(bytes);
-    if !right {
-        return none();
-    }
-    let request = request_in(bytes);
-    let phase = phase_in(bytes[4], bytes[5]);
-    let counts = counts_in(bytes);
-    Driver {
-        request: request,
-        phase: phase,
-        counts: counts,
-    }
+    held(bytes).unwrap_or(none())
 }

@@ -3,7 +3,7 @@
 use Rattle.std.specs.Prelude.{ℕ, true, false, cond, List, length, eqb}
 use Rattle.parts.specs.declared.Loss.{Loss}
 use Rattle.parts.specs.declared.Loss.TheVariants.{Old, Lent}
-use Rattle.parts.specs.declared.Verdict.{Verdict}
+use Rattle.parts.specs.Verdict.{Verdict}
 use Rattle.parts.specs.Table.{facts_of}
 use Rattle.parts.specs.Refusals.{verdict_number_of, verdict_place_of}
 use Rattle.chip.specs.Memory.{Mem}

@@ -1,9 +1,8 @@
 -- What the driver's functions leave for callers that hold bytes only: the number answered, and each lent byte.
 -- Assumes nothing.
-use Rattle.std.specs.Prelude.{ℕ, Bool, true, cond, not, List, length, eqb, ltb}
+use Rattle.std.specs.Prelude.{ℕ, Bool, true, cond, not, List, length, eqb, ltb, Ok, Err}
 use Rattle.parts.specs.declared.Refusal.TheVariants.{NoPart, WrongEnable, BadState}
-use Rattle.parts.specs.declared.Verdict.{Verdict}
-use Rattle.parts.specs.declared.Verdict.TheVariants.{Fine, Refused as Judged}
+use Rattle.parts.specs.Verdict.{Verdict}
 use Rattle.parts.specs.Table.{facts_of, enable_right_of}
 use Rattle.parts.specs.Refusals.{number_of, spot_of, place_told, verdict_number_of, claim_of, sooner_of}
 use Rattle.driver.specs.declared.Place.{Place}
@@ -44,15 +43,15 @@ pub record BytesAfterBegin : Type 0 where
 unfoldable pub roomless_of : ℕ → ℕ → Verdict
 roomless_of part enable =
     sooner_of (claim_of (not (facts_of part).known) NoPart)
-    (sooner_of (claim_of (not (enable_right_of (facts_of part) enable)) WrongEnable) (Judged BadState))
+    (sooner_of (claim_of (not (enable_right_of (facts_of part) enable)) WrongEnable) (Err BadState))
 
 unfoldable pub begin_verdict_in : Request → List ℕ → Verdict
 begin_verdict_in r s = cond (eqb (length s) driver_length) (judge_of r) (roomless_of r.part r.enable)
 
 -- "a refused call changes no byte"
 abbrev pub driver_bytes_after_begin : Verdict → Driver → List ℕ → List ℕ
-driver_bytes_after_begin Fine d s = pack_driver_into s d
-driver_bytes_after_begin (Judged r) d s = s
+driver_bytes_after_begin (Ok _) d s = pack_driver_into s d
+driver_bytes_after_begin (Err r) d s = s
 
 -- of a request and the driver's bytes
 abbrev pub beginning : Request → List ℕ → BytesAfterBegin

@@ -1,7 +1,7 @@
 -- What saving and loading leave for callers that hold bytes only: the number answered, and each lent byte.
 -- Assumes nothing.
 use Rattle.std.specs.Prelude.{ℕ, Bool, true, cond, List, length, eqb, ltb}
-use Rattle.parts.specs.declared.Verdict.{Verdict}
+use Rattle.parts.specs.Verdict.{Verdict}
 use Rattle.parts.specs.Refusals.{verdict_number_of}
 use Rattle.chip.specs.Memory.{Mem}
 use Rattle.pack_chip.specs.Layout.{chip_length, unpacked_chip_of}

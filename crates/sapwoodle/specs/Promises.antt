@@ -3,10 +3,9 @@
 -- cite, keep it: proofs/chips/Kept.antt and so on. What an image holds is promised in the crates `image` and `image_worn`, what the driver does to
 -- the chip in the crate `bench_promises`.
 -- Assumes nothing.
-use Rattle.std.specs.Prelude.{ℕ, ◌+◌, ◌<◌, ◌≡◌, Bool, true, false, List, [], length}
+use Rattle.std.specs.Prelude.{ℕ, ◌+◌, ◌<◌, ◌≡◌, Bool, true, false, List, [], length, Err}
 use Rattle.parts.specs.declared.Refusal.{Refusal}
 use Rattle.parts.specs.declared.Refusal.TheVariants.{WrongBuffer, BadState, BadEvent}
-use Rattle.parts.specs.declared.Verdict.TheVariants.{Refused as Judged}
 use Rattle.parts.specs.Table.{facts_of, id_size_of, enable_right_of}
 use Rattle.parts.specs.Events.{loss_size_of}
 use Rattle.parts.specs.Refusals.{number_of, verdict_number_of, verdict_place_of}
@@ -349,7 +348,7 @@ BenchWearWalks bench =
 abbrev pub BenchWearKeeps : BenchWearing → Type 0
 BenchWearKeeps bench =
     (r : Request) (enable d : ℕ) (s : List ℕ) (m : Mem) (b counts : List ℕ) (worst : Most) (x : Refusal) → AllBelow 256 s
-    → bench_kept_verdict r enable d (unpacked_chip_of s) m b counts worst ≡ Judged x
+    → bench_kept_verdict r enable d (unpacked_chip_of s) m b counts worst ≡ Err x
     → ((bench r enable d s m b counts worst).bench.number ≡ number_of x)
     × ((bench r enable d s m b counts worst).worst ≡ worst)
     × ((bench r enable d s m b counts worst).counts ≡ counts)
@@ -428,7 +427,7 @@ Benching = Request → ℕ → ℕ → List ℕ → Mem → List ℕ → BytesAf
 abbrev pub BenchKeeps : Benching → Type 0
 BenchKeeps bench =
     (r : Request) (enable d : ℕ) (s : List ℕ) (m : Mem) (b : List ℕ) (x : Refusal) → AllBelow 256 s
-    → bench_verdict r enable d (unpacked_chip_of s) m b ≡ Judged x
+    → bench_verdict r enable d (unpacked_chip_of s) m b ≡ Err x
     → ((bench r enable d s m b).number ≡ number_of x)
     × ((bench r enable d s m b).state ≡ s)
     × ((bench r enable d s m b).stored ≡ m)

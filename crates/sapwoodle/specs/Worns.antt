@@ -1,9 +1,8 @@
 -- What saving and loading with counts, and the two conversions, leave for callers that hold bytes and numbers only: the number answered, each
 -- lent byte, each count and the worst of them.
 -- Assumes nothing.
-use Rattle.std.specs.Prelude.{ℕ, cond, List, length}
-use Rattle.parts.specs.declared.Verdict.{Verdict}
-use Rattle.parts.specs.declared.Verdict.TheVariants.{Fine, Refused}
+use Rattle.std.specs.Prelude.{ℕ, cond, List, length, Ok, Err}
+use Rattle.parts.specs.Verdict.{Verdict}
 use Rattle.parts.specs.Table.{facts_of}
 use Rattle.parts.specs.Refusals.{verdict_number_of, sooner_of}
 use Rattle.chip.specs.Memory.{Mem}
@@ -42,8 +41,8 @@ pub record BytesAfterLoadWorn : Type 0 where
 
 -- the worst that a load found; where it is refused, the one that was held
 unfoldable pub found_or : Most → Most → Verdict → Most
-found_or found held Fine = found
-found_or found held (Refused r) = held
+found_or found held (Ok _) = found
+found_or found held (Err r) = held
 
 -- the refusal where no state is held: 1, 2, 3 or 4, of a count buffer of n counts
 unfoldable pub unheld_worn_of : ℕ → ℕ → Mem → ℕ → Verdict

@@ -13,24 +13,23 @@ pub(crate) fn settle(verdict: Verdict, chip: Chip, state: &mut [u8]) -> u8
     ensures kept { state.new ≡ chip_bytes_after verdict chip state.old }
 {
     match verdict {
-        Verdict::Fine => {
+        Ok(()) => {
             pack_chip::pack(chip, state);
             0
         }
-        Verdict::Refused(r) => parts::number(r),
+        Err(r) => parts::number(r),
     }
 }
 
 // Which refusal a call is given whose state buffer has another length.
+#[tactic(auto, unfolding(crate::specs::Answers::unheld_of))]
 pub(crate) fn unheld(part: u8, enable: u8, array: &[u8], id: &[u8]) -> Verdict
     ensures { result ≡ unheld_of part enable (mem array.now id.now) }
 {
     let f = parts::facts_of(part);
-    let lent = parts::lent_verdict(f, array.len(), id.len());
-    let enabled = parts::enable_right(f, enable);
-    let named = parts::claim(!enabled, Refusal::WrongEnable);
+    let named = parts::claim(!parts::enable_right(f, enable), Refusal::WrongEnable);
     parts::sooner(
-        lent,
-        parts::sooner(named, Verdict::Refused(Refusal::BadState)),
+        parts::lent_verdict(f, array.len(), id.len()),
+        parts::sooner(named, Err(Refusal::BadState)),
     )
 }

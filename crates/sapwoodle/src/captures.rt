@@ -12,31 +12,13 @@ fn as_bus(bus: u8) -> bool
     bus != 0
 }
 
-// 2 where no level differs.
-fn level_in(mark: Mark) -> u8
-    ensures { result ≡ level_in mark }
+// The level, the sample and the clock; 2 where no level differs.
+fn told(mark: Mark) -> (u8, usize, usize)
+    ensures { result ≡ (level_in mark, sample_in mark, clock_in mark) }
 {
     match mark {
-        Mark::Same => 2,
-        Mark::At(_, _, v) => v,
-    }
-}
-
-fn sample_in(mark: Mark) -> usize
-    ensures { result ≡ sample_in mark }
-{
-    match mark {
-        Mark::Same => 0,
-        Mark::At(s, _, _) => s,
-    }
-}
-
-fn clock_in(mark: Mark) -> usize
-    ensures { result ≡ clock_in mark }
-{
-    match mark {
-        Mark::Same => 0,
-        Mark::At(_, n, _) => n,
+        Mark::Same => (2, 0, 0),
+        Mark::At(sample, clock, level) => (level, sample, clock),
     }
 }
 
@@ -84,18 +66,13 @@ pub fn sapwoodle_capture_run(
 {
     let chip = pack_chip::unpack(state);
     let s = capture::run(part, enable, chip, array, id, as_bus(bus), samples);
-    let verdict = s.verdict;
-    let mark = s.mark;
-    let next = s.chip;
     *events = s.events;
     *clocks = s.clocks;
     *ends = s.ends;
     *cycles = s.cycles;
-    *level = level_in(mark);
-    *sample = sample_in(mark);
-    *clock = clock_in(mark);
-    *at = parts::verdict_place(verdict);
-    answers::settle(verdict, next, state)
+    (*level, *sample, *clock) = told(s.mark);
+    *at = parts::verdict_place(s.verdict);
+    answers::settle(s.verdict, s.chip, state)
 }
 
 // The events of a capture, by their codes; `length` gets how many.
@@ -112,10 +89,9 @@ pub fn sapwoodle_capture_events(
     ensures place { at.new ≡ (listing (bus_of bus) samples.now out.old).place }
 {
     let l = capture::events(as_bus(bus), samples, out);
-    let verdict = l.verdict;
     *length = l.length;
-    *at = parts::verdict_place(verdict);
-    parts::verdict_number(verdict)
+    *at = parts::verdict_place(l.verdict);
+    parts::verdict_number(l.verdict)
 }
 
 // The four counts go on by what a capture shows; each stays at 4,294,967,295.

@@ -14,16 +14,14 @@ pub fn sapwoodle_deliver(part: u8, state: &mut [u8], array: &mut [u8], id: &mut 
     ensures ident { id.new ≡ (delivering part state.old (mem array.old id.old)).stored.ident }
 {
     if state.len() != pack_chip::LENGTH {
-        let verdict = answers::unheld(part, 0, array, id);
-        return parts::verdict_number(verdict);
+        return parts::verdict_number(answers::unheld(part, 0, array, id));
     }
     let d = chip::deliver(part, array, id);
-    let verdict = d.verdict;
-    let chip = d.chip;
-    answers::settle(verdict, chip, state)
+    answers::settle(d.verdict, d.chip, state)
 }
 
 // What is given for a loss of power (document 02, §5): no page and flag 0 are the old contents and no lock.
+#[tactic(auto, unfolding(crate::specs::Chips::loss_from))]
 pub(crate) fn loss_from(length: usize, lock: u8) -> Loss
     ensures { result ≡ loss_from length lock }
 {
@@ -59,11 +57,9 @@ pub fn sapwoodle_step(
     let chip = pack_chip::unpack(state);
     let loss = loss_from(page.len(), lock);
     let s = chip::step(part, enable, loss, page, chip, array, id, event);
-    let verdict = s.verdict;
-    let next = s.chip;
     *level = s.level;
     *cycles = s.cycles as usize;
-    answers::settle(verdict, next, state)
+    answers::settle(s.verdict, s.chip, state)
 }
 
 // A list of events, the levels into a lent answer buffer; the place is that of refusal 5.
@@ -96,9 +92,7 @@ pub fn sapwoodle_run(
     let chip = pack_chip::unpack(state);
     let loss = loss_from(page.len(), lock);
     let r = chip::run(part, enable, loss, page, chip, array, id, events, answers);
-    let verdict = r.verdict;
-    let next = r.chip;
     *cycles = r.cycles;
-    *at = parts::verdict_place(verdict);
-    answers::settle(verdict, next, state)
+    *at = parts::verdict_place(r.verdict);
+    answers::settle(r.verdict, r.chip, state)
 }

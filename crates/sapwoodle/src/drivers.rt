@@ -16,7 +16,7 @@ ghost use Rattle.sapwoodle.specs.Drivers.{
 use driver::{Answer, Driver, Place, Request};
 use parts::{ArrayAddress, IdLocation, Refusal, Verdict};
 
-// An answer of the driver as numbers.
+// An answer of the driver as numbers: a refusal's stands beside its place, as a C program reads them.
 #[derive(Clone, Copy)]
 pub struct Told {
     pub number: u8,
@@ -30,36 +30,30 @@ pub struct Told {
 
 // ---- a request
 
+#[tactic(auto, unfolding(crate::specs::Drivers::reads_of))]
 fn reads(what: u8) -> bool
     ensures { result ≡ reads_of what }
 {
-    if what == 1 {
-        return true;
-    }
-    what == 3
+    matches!(what, 1 | 3)
 }
 
 // A number above 3 names no page: an address beyond every array.
+#[tactic(auto, unfolding(crate::specs::Drivers::place_of))]
 fn place(what: u8, at: usize) -> Place
     ensures { result ≡ place_of what at }
 {
-    if what < 2 {
-        return Place::Array(ArrayAddress(at));
+    match what {
+        0 | 1 => Place::Array(ArrayAddress(at)),
+        2 | 3 => Place::Ident(IdLocation(at)),
+        _ => Place::Array(ArrayAddress(65536)),
     }
-    if what < 4 {
-        return Place::Ident(IdLocation(at));
-    }
-    Place::Array(ArrayAddress(65536))
 }
 
+#[tactic(auto, unfolding(crate::specs::Drivers::budget_of))]
 fn budget_of(what: u8, budget: usize) -> usize
     ensures { result ≡ budget_of what budget }
 {
-    let none = reads(what);
-    if none {
-        return 0;
-    }
-    budget
+    if reads(what) { 0 } else { budget }
 }
 
 // What is asked for as numbers: 0 write, 1 read, 2 and 3 the same of the identification page.
@@ -73,33 +67,28 @@ pub(crate) fn request(
 ) -> Request
     ensures { result ≡ request_of part enable what at length budget }
 {
-    let to = place(what, at);
-    let read = reads(what);
-    let most = budget_of(what, budget);
     Request {
         part,
         enable,
-        place: to,
-        reads: read,
+        place: place(what, at),
+        reads: reads(what),
         length,
-        budget: most,
+        budget: budget_of(what, budget),
     }
 }
 
 // ---- begin
 
 // Which refusal a call is given whose driver buffer has another length.
+#[tactic(auto, unfolding(crate::specs::Drivers::roomless_of))]
 fn roomless(part: u8, enable: u8) -> Verdict
     ensures { result ≡ roomless_of part enable }
 {
     let f = parts::facts_of(part);
-    let known = f.known;
-    let enabled = parts::enable_right(f, enable);
-    let part = parts::claim(!known, Refusal::NoPart);
-    let named = parts::claim(!enabled, Refusal::WrongEnable);
+    let named = parts::claim(!parts::enable_right(f, enable), Refusal::WrongEnable);
     parts::sooner(
-        part,
-        parts::sooner(named, Verdict::Refused(Refusal::BadState)),
+        parts::claim(!f.known, Refusal::NoPart),
+        parts::sooner(named, Err(Refusal::BadState)),
     )
 }
 
@@ -107,10 +96,10 @@ fn keep_begun(verdict: Verdict, begun: Driver, state: &mut [u8])
     ensures { state.new ≡ driver_bytes_after_begin verdict begun state.old }
 {
     match verdict {
-        Verdict::Fine => {
+        Ok(()) => {
             pack_driver::pack(begun, state);
         }
-        Verdict::Refused(_) => {}
+        Err(_) => {}
     }
 }
 
@@ -128,55 +117,52 @@ pub fn sapwoodle_driver_begin(
     ensures state { state.new ≡ (beginning (request_of part enable what at length budget) state.old).state }
 {
     if state.len() != pack_driver::LENGTH {
-        let verdict = roomless(part, enable);
-        return parts::verdict_number(verdict);
+        return parts::verdict_number(roomless(part, enable));
     }
-    let asked = request(part, enable, what, at, length, budget);
-    let b = driver::begin(asked);
-    let verdict = b.verdict;
-    let begun = b.driver;
-    keep_begun(verdict, begun, state);
-    parts::verdict_number(verdict)
+    let b = driver::begin(request(part, enable, what, at, length, budget));
+    keep_begun(b.verdict, b.driver, state);
+    parts::verdict_number(b.verdict)
 }
 
 // ---- next
 
-fn spoken(answer: Answer) -> Told
-    ensures { result ≡ told_of answer }
-{
-    match answer {
-        Answer::Send(e) => Told {
-            number: 0,
-            event: e,
-            place: 0,
-            polls: 0,
-            bytes: 0,
-        },
-        Answer::Done(polls, bytes) => Told {
-            number: 0,
-            event: 255,
-            place: 0,
-            polls,
-            bytes,
-        },
-        Answer::Refused(r, polls, bytes) => Told {
-            number: parts::number(r),
-            event: 255,
-            place: parts::verdict_place(Verdict::Refused(r)),
-            polls,
-            bytes,
-        },
+impl From<Answer> for Told {
+    ghost from_gives = { λ a t. t ≡ told_of a };
+
+    fn from(answer: Answer) -> Told {
+        match answer {
+            Answer::Send(event) => Told {
+                number: 0,
+                event,
+                place: 0,
+                polls: 0,
+                bytes: 0,
+            },
+            Answer::Done(polls, bytes) => Told {
+                number: 0,
+                event: 255,
+                place: 0,
+                polls,
+                bytes,
+            },
+            Answer::Refused(r, polls, bytes) => Told {
+                number: parts::number(r),
+                event: 255,
+                place: parts::verdict_place(Err(r)),
+                polls,
+                bytes,
+            },
+        }
     }
 }
 
+#[tactic(auto, unfolding(crate::specs::Drivers::driver_bytes_after_next))]
 fn keep(number: u8, next: Driver, state: &mut [u8])
     ensures { state.new ≡ driver_bytes_after_next number next state.old }
 {
-    let unfit = parts::number(Refusal::BadState);
-    if number == unfit {
-        return;
+    if number != parts::number(Refusal::BadState) {
+        pack_driver::pack(next, state);
     }
-    pack_driver::pack(next, state);
 }
 
 // One step: the event to send, or how the driver ended.
@@ -197,15 +183,12 @@ pub fn sapwoodle_driver_next(
     ensures polls { polls.new ≡ (asking state.old level buffer.old).told.polls }
     ensures bytes { bytes.new ≡ (asking state.old level buffer.old).told.bytes }
 {
-    let held = pack_driver::unpack(state);
-    let asked = driver::next(held, level, buffer);
-    let answer = asked.answer;
-    let moved = asked.driver;
-    let t = spoken(answer);
+    let asked = driver::next(pack_driver::unpack(state), level, buffer);
+    let t = Told::from(asked.answer);
     *event = t.event;
     *place = t.place;
     *polls = t.polls;
     *bytes = t.bytes;
-    keep(t.number, moved, state);
+    keep(t.number, asked.driver, state);
     t.number
 }

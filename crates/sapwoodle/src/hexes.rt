@@ -19,11 +19,10 @@ pub fn sapwoodle_hex_read(
     ensures named { named.new ≡ (hex_reading part text.now array.old).named }
 {
     let r = hexfile::read(part, text, array);
-    let verdict = r.verdict;
-    *line = parts::verdict_place(verdict);
+    *line = parts::verdict_place(r.verdict);
     *records = r.records;
     *named = r.named;
-    parts::verdict_number(verdict)
+    parts::verdict_number(r.verdict)
 }
 
 // The array as text into a lent buffer; `written` gets the length of the text.
@@ -33,7 +32,6 @@ pub fn sapwoodle_hex_write(part: u8, array: &[u8], out: &mut [u8], written: &mut
     ensures written { written.new ≡ (hex_writing part array.now out.old).written }
 {
     let w = hexfile::write(part, array, out);
-    let verdict = w.verdict;
     *written = w.length;
-    parts::verdict_number(verdict)
+    parts::verdict_number(w.verdict)
 }

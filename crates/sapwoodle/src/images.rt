@@ -23,19 +23,16 @@ pub fn sapwoodle_save(
 {
     let chip = pack_chip::unpack(state);
     let s = image::save(part, chip, array, id, out);
-    let verdict = s.verdict;
     *written = s.length;
-    parts::verdict_number(verdict)
+    parts::verdict_number(s.verdict)
 }
 
 // Whether the image is looked at.
+#[tactic(auto, unfolding(crate::specs::Images::looks_of))]
 pub(crate) fn looks(state: usize, image: usize) -> bool
     ensures { result ≡ looks_of state image }
 {
-    if state == pack_chip::LENGTH {
-        return true;
-    }
-    image < 6
+    state == pack_chip::LENGTH || image < 6
 }
 
 // A chip from an image and an enable for it; `part` gets its part byte.
@@ -60,13 +57,9 @@ pub fn sapwoodle_load(
 {
     let own = image::part_in(image);
     *part = own;
-    let looked = looks(state.len(), image.len());
-    if !looked {
-        let verdict = answers::unheld(own, enable, array, id);
-        return parts::verdict_number(verdict);
+    if !looks(state.len(), image.len()) {
+        return parts::verdict_number(answers::unheld(own, enable, array, id));
     }
     let l = image::load(image, enable, array, id);
-    let verdict = l.verdict;
-    let chip = l.chip;
-    answers::settle(verdict, chip, state)
+    answers::settle(l.verdict, l.chip, state)
 }

@@ -1,4 +1,6 @@
 // The functions that a C program links: numbers and lent bytes only. include/sapwoodle.h says what each does.
+// So numbers stand for kinds, results go into what is lent, and each call has a function of its own. What two of them have in common, a length
+// that is stored or a report, is no more than a helper's own clauses would be.
 #![tactic(auto)]
 
 mod answers;
@@ -25,10 +27,7 @@ pub fn sapwoodle_array_length(part: u8) -> usize
     ensures { result ≡ array_length_of (facts_of part) }
 {
     let f = parts::facts_of(part);
-    if f.known {
-        return f.size;
-    }
-    0
+    if f.known { f.size } else { 0 }
 }
 
 pub fn sapwoodle_id_length(part: u8) -> usize
@@ -58,7 +57,6 @@ pub fn sapwoodle_trace(text: &[u8], out: &mut [u8], length: &mut usize) -> u8
     ensures length { length.new ≡ (laying_of out.old (trace_of text.now)).answer.length }
 {
     let t = trace::trace(text, out);
-    let verdict = t.verdict;
     *length = t.length;
-    parts::verdict_number(verdict)
+    parts::verdict_number(t.verdict)
 }

@@ -7,11 +7,11 @@ ghost use Rattle.sapwoodle.specs.Runs.{chip_bytes_after_bench, benching};
 use crate::drivers;
 use state::Chip;
 
+#[tactic(auto, unfolding(crate::specs::Runs::chip_bytes_after_bench))]
 pub(crate) fn keep(state: &mut [u8], chip: Chip)
     ensures { state.new ≡ chip_bytes_after_bench state.old chip }
 {
-    let held = pack_chip::holds(state);
-    if held {
+    if pack_chip::holds(state) {
         pack_chip::pack(chip, state);
     }
 }
@@ -68,13 +68,11 @@ pub fn sapwoodle_bench_run(
     let asked = drivers::request(part, enable, what, at, length, budget);
     let chip = pack_chip::unpack(state);
     let r = bench::run(asked, own, d, chip, array, id, buffer);
-    let verdict = r.verdict;
-    let next = r.chip;
-    *place = parts::verdict_place(verdict);
+    *place = parts::verdict_place(r.verdict);
     *polls = r.polls;
     *bytes = r.bytes;
     *cycles = r.cycles;
     *clocks = r.clocks;
-    keep(state, next);
-    parts::verdict_number(verdict)
+    keep(state, r.chip);
+    parts::verdict_number(r.verdict)
 }

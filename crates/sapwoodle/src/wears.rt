@@ -72,14 +72,11 @@ pub fn sapwoodle_wear_run(
         part, enable, loss, page, chip, array, id, counts, held, events, answers,
     );
     let r = w.ran;
-    let worst = w.most;
-    let verdict = r.verdict;
-    let next = r.chip;
-    *group = worst.group;
-    *count = worst.count;
+    *group = w.most.group;
+    *count = w.most.count;
     *cycles = r.cycles;
-    *at = parts::verdict_place(verdict);
-    answers::settle(verdict, next, state)
+    *at = parts::verdict_place(r.verdict);
+    answers::settle(r.verdict, r.chip, state)
 }
 
 // The worst of the counts, found by a walk: for who begins.
@@ -89,11 +86,9 @@ pub fn sapwoodle_worst(part: u8, counts: &[u32], group: &mut usize, count: &mut 
     ensures count { count.new ≡ (finding part counts.now).count }
 {
     let f = wear::worst_of(part, counts);
-    let verdict = f.verdict;
-    let worst = f.worst;
-    *group = worst.group;
-    *count = worst.count;
-    parts::verdict_number(verdict)
+    *group = f.worst.group;
+    *count = f.worst.count;
+    parts::verdict_number(f.verdict)
 }
 
 // The sum of the counts, and the group with most.
@@ -110,11 +105,10 @@ pub fn sapwoodle_wear_report(
     ensures count { count.new ≡ (reporting part counts.now).count }
 {
     let r = wear::report(part, counts);
-    let verdict = r.verdict;
     *total = r.total;
     *group = r.group;
     *count = r.count;
-    parts::verdict_number(verdict)
+    parts::verdict_number(r.verdict)
 }
 
 // The counts of two heaps of traces together, into the first.
@@ -122,8 +116,7 @@ pub fn sapwoodle_wear_join(part: u8, counts: &mut [u32], more: &[u32]) -> u8
     ensures answer { result ≡ (joining part counts.old more.now).number }
     ensures counts { counts.new ≡ (joining part counts.old more.now).counts }
 {
-    let verdict = wear::join(part, counts, more);
-    parts::verdict_number(verdict)
+    parts::verdict_number(wear::join(part, counts, more))
 }
 
 // `sapwoodle_bench_run`, and the counts go on by the cycles that end in it; the worst of them goes in and comes back.
@@ -194,16 +187,13 @@ pub fn sapwoodle_wear_bench_run(
     };
     let k = bench::run_worn(asked, own, d, chip, array, id, buffer, counts, held);
     let r = k.report;
-    let worst = k.worst;
-    let verdict = r.verdict;
-    let next = r.chip;
-    *group = worst.group;
-    *count = worst.count;
-    *place = parts::verdict_place(verdict);
+    *group = k.worst.group;
+    *count = k.worst.count;
+    *place = parts::verdict_place(r.verdict);
     *polls = r.polls;
     *bytes = r.bytes;
     *cycles = r.cycles;
     *clocks = r.clocks;
-    runs::keep(state, next);
-    parts::verdict_number(verdict)
+    runs::keep(state, r.chip);
+    parts::verdict_number(r.verdict)
 }

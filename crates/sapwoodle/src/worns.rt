@@ -27,27 +27,29 @@ pub fn sapwoodle_save_worn(
 {
     let chip = pack_chip::unpack(state);
     let s = image_worn::save_worn(part, chip, array, id, counts, out);
-    let verdict = s.verdict;
     *written = s.length;
-    parts::verdict_number(verdict)
+    parts::verdict_number(s.verdict)
 }
 
 // Which refusal a call with counts is given whose state buffer has another length.
+#[tactic(auto, unfolding(crate::specs::Worns::unheld_worn_of))]
 fn unheld(part: u8, enable: u8, array: &[u8], id: &[u8], n: usize) -> Verdict
     ensures { result ≡ unheld_worn_of part enable (mem array.now id.now) n }
 {
-    let counted = wear::counts_verdict(part, n);
-    let lent = answers::unheld(part, enable, array, id);
-    parts::sooner(counted, lent)
+    parts::sooner(
+        wear::counts_verdict(part, n),
+        answers::unheld(part, enable, array, id),
+    )
 }
 
 // The worst that a load found; where it is refused, the one that was held.
+#[tactic(auto, unfolding(crate::specs::Worns::found_or))]
 fn found_or(found: Most, held: Most, verdict: Verdict) -> Most
     ensures { result ≡ found_or found held verdict }
 {
     match verdict {
-        Verdict::Fine => found,
-        Verdict::Refused(_) => held,
+        Ok(()) => found,
+        Err(_) => held,
     }
 }
 
@@ -90,23 +92,19 @@ pub fn sapwoodle_load_worn(
 {
     let own = image::part_in(image);
     *part = own;
-    let looked = images::looks(state.len(), image.len());
-    if !looked {
-        let verdict = unheld(own, enable, array, id, counts.len());
-        return parts::verdict_number(verdict);
+    if !images::looks(state.len(), image.len()) {
+        return parts::verdict_number(unheld(own, enable, array, id, counts.len()));
     }
     let l = image_worn::load_worn(image, enable, array, id, counts);
     let loaded = l.loaded;
-    let verdict = loaded.verdict;
-    let chip = loaded.chip;
     let held = Most {
         group: *group,
         count: *count,
     };
-    let worst = found_or(l.worst, held, verdict);
+    let worst = found_or(l.worst, held, loaded.verdict);
     *group = worst.group;
     *count = worst.count;
-    answers::settle(verdict, chip, state)
+    answers::settle(loaded.verdict, loaded.chip, state)
 }
 
 // An image of version 1 as one of version 2, into a lent buffer; `written` gets its length.
@@ -116,9 +114,8 @@ pub fn sapwoodle_to_worn(image: &[u8], out: &mut [u8], written: &mut usize) -> u
     ensures written { written.new ≡ (to_worn_bytes image.now out.old).written }
 {
     let w = image_worn::to_worn(image, out);
-    let verdict = w.verdict;
     *written = w.length;
-    parts::verdict_number(verdict)
+    parts::verdict_number(w.verdict)
 }
 
 // And back, where no count is lost by it.
@@ -128,7 +125,6 @@ pub fn sapwoodle_to_plain(image: &[u8], out: &mut [u8], written: &mut usize) -> 
     ensures written { written.new ≡ (to_plain_bytes image.now out.old).written }
 {
     let p = image_worn::to_plain(image, out);
-    let verdict = p.verdict;
     *written = p.length;
-    parts::verdict_number(verdict)
+    parts::verdict_number(p.verdict)
 }

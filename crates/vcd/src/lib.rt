@@ -8,157 +8,143 @@
 // one that ends at once is seen for three microseconds.
 #![tactic(auto)]
 
+ghost use Rattle.std.specs.Prelude.{◌≤◌};
+
 use capture::{Stroke, Wires};
 use host::Host;
 use line::{Line, Phase, Pin};
 use parts::Loss;
 use state::Chip;
 
-// What is seen at one time: a sample of the wires, and the other two as the dump writes them, where 0 stands for no pin.
+// The dump was not written whole.
 #[derive(Clone, Copy)]
+struct Unwritten;
+
+// What is seen at one time: a sample of the wires, and the other two as the dump writes them, where 0 stands for no pin.
+#[derive(Clone, Copy, PartialEq, Eq)]
 struct Shown {
     sample: u8,
     control: u8,
     busy: u8,
 }
 
-// How far the dump is: whether all was written, the bytes that wait in the buffer, and what was seen last, at which time.
-#[derive(Clone, Copy)]
-struct Pen {
-    ok: bool,
+// The file under way: the bytes that wait to be written to it, and what was seen last, at which time.
+#[derive(Drop)]
+struct Pen<'a> {
+    host: &'a Host,
+    fd: i32,
+    buffer: [u8; 4096],
     waiting: usize,
     time: u32,
     shown: Shown,
+    ghost fits: { waiting ≤ 4096 },
 }
 
-// What the next event is drawn from.
-#[derive(Clone, Copy)]
-struct Scene {
+// The chip that is run along, only for its pin and its cycle, and the wires that its events are drawn on.
+#[derive(Drop)]
+struct Scene<'a> {
+    part: u8,
+    enable: u8,
     chip: Chip,
+    array: &'a mut [u8],
+    id: &'a mut [u8],
     wires: Wires,
-    pen: Pen,
 }
 
 // ---- the file
 
-fn flush(host: &Host, fd: i32, pen: Pen, out: &[u8]) -> Pen {
-    let n = pen.waiting;
-    if pen.ok {
-        if n <= out.len() {
-            return Pen {
-                ok: host.write_all(fd, &out[0..n]),
-                waiting: 0,
-                ..pen
-            };
+impl<'a> Pen<'a> {
+    // Nothing is written yet; what is seen before the first event is known.
+    fn new(host: &'a Host, fd: i32, shown: Shown) -> Pen<'a> {
+        Pen {
+            host,
+            fd,
+            buffer: io::buffer(),
+            waiting: 0,
+            time: 0,
+            shown,
         }
-    }
-    Pen {
-        ok: false,
-        waiting: 0,
-        ..pen
     }
 }
 
-// Room in the buffer for so many bytes more.
-fn make_room(host: &Host, fd: i32, pen: Pen, more: usize, out: &[u8]) -> Pen {
-    let n = pen.waiting;
-    if n <= out.len() {
-        if more <= out.len() - n {
-            return pen;
+impl Pen<'_> {
+    fn flush(&mut self) -> Result<(), Unwritten> {
+        let n = self.waiting;
+        self.waiting = 0;
+        if self.host.write_all(self.fd, &self.buffer[..n]) {
+            Ok(())
+        } else {
+            Err(Unwritten)
         }
     }
-    flush(host, fd, pen, out)
-}
 
-// A text behind the first n bytes of the buffer, and where they end then; as before where it does not fit.
-fn lay(n: usize, text: &[u8], out: &mut [u8]) -> usize {
-    if n <= out.len() {
-        if text.len() <= out.len() - n {
-            parts::copy(out, n, text);
-            return n + text.len();
+    // A text of the dump: none is longer than the buffer.
+    fn put(&mut self, text: &[u8]) -> Result<(), Unwritten> {
+        if 4096 - self.waiting < text.len() {
+            self.flush()?;
         }
-    }
-    n
-}
-
-// A text of the dump: none is longer than the buffer.
-fn put(host: &Host, fd: i32, pen: Pen, text: &[u8], out: &mut [u8]) -> Pen {
-    let ready = make_room(host, fd, pen, text.len(), out);
-    Pen {
-        waiting: lay(ready.waiting, text, out),
-        ..ready
+        let at = self.waiting;
+        if text.len() <= 4096 - at {
+            let end = at + text.len();
+            self.buffer[at..end].copy_from_slice(text);
+            self.waiting = end;
+        }
+        Ok(())
     }
 }
 
 // ---- changes
 
-// `#27`
-fn put_time(host: &Host, fd: i32, pen: Pen, out: &mut [u8]) -> Pen {
-    let mut text = [0u8; 20];
-    let k = io::decimal(pen.time as u64, &mut text);
-    let marked = put(host, fd, pen, b"#", out);
-    let told = put(host, fd, marked, &text[..k], out);
-    put(host, fd, told, b"\n", out)
-}
-
-// `1c`
-fn put_change(host: &Host, fd: i32, pen: Pen, was: u8, is: u8, name: u8, out: &mut [u8]) -> Pen {
-    if was == is {
-        return pen;
+impl Pen<'_> {
+    // `#27`
+    fn put_time(&mut self) -> Result<(), Unwritten> {
+        let mut text = [0u8; 20];
+        let k = io::decimal(self.time as u64, &mut text);
+        self.put(b"#")?;
+        self.put(&text[..k])?;
+        self.put(b"\n")
     }
-    put(host, fd, pen, &[is, name, b'\n'], out)
+
+    // `1c`
+    fn put_change(&mut self, was: u8, is: u8, name: u8) -> Result<(), Unwritten> {
+        if was == is {
+            return Ok(());
+        }
+        self.put(&[is, name, b'\n'])
+    }
+
+    // Only what changed.
+    fn put_changes(&mut self, was: Shown, is: Shown) -> Result<(), Unwritten> {
+        self.put_change(clock(was.sample), clock(is.sample), b'c')?;
+        self.put_change(data(was.sample), data(is.sample), b'd')?;
+        self.put_change(was.control, is.control, b'w')?;
+        self.put_change(was.busy, is.busy, b'b')
+    }
+
+    // A microsecond later.
+    fn tick(&mut self, is: Shown) -> Result<(), Unwritten> {
+        let was = self.shown;
+        self.time = parts::up(self.time, true);
+        self.shown = is;
+        if was == is {
+            return Ok(());
+        }
+        self.put_time()?;
+        self.put_changes(was, is)
+    }
 }
 
-// A bit of a sample as the dump writes it.
+// A bit as the dump writes it.
+fn bit(high: bool) -> u8 {
+    if high { b'1' } else { b'0' }
+}
+
 fn clock(sample: u8) -> u8 {
-    b'0' + sample % 2
+    bit(sample % 2 == 1)
 }
 
 fn data(sample: u8) -> u8 {
-    b'0' + sample / 2 % 2
-}
-
-// Only what changed.
-fn put_changes(host: &Host, fd: i32, pen: Pen, was: Shown, is: Shown, out: &mut [u8]) -> Pen {
-    let clocked = put_change(
-        host,
-        fd,
-        pen,
-        clock(was.sample),
-        clock(is.sample),
-        b'c',
-        out,
-    );
-    let moved = put_change(
-        host,
-        fd,
-        clocked,
-        data(was.sample),
-        data(is.sample),
-        b'd',
-        out,
-    );
-    let driven = put_change(host, fd, moved, was.control, is.control, b'w', out);
-    put_change(host, fd, driven, was.busy, is.busy, b'b', out)
-}
-
-fn same(was: Shown, is: Shown) -> bool {
-    (was.sample == is.sample) & (was.control == is.control) & (was.busy == is.busy)
-}
-
-// A microsecond later.
-fn tick(host: &Host, fd: i32, pen: Pen, is: Shown, out: &mut [u8]) -> Pen {
-    let was = pen.shown;
-    let next = Pen {
-        time: parts::up(pen.time, true),
-        shown: is,
-        ..pen
-    };
-    if same(was, is) {
-        return next;
-    }
-    let timed = put_time(host, fd, next, out);
-    put_changes(host, fd, timed, was, is, out)
+    bit(sample / 2 % 2 == 1)
 }
 
 // ---- an event
@@ -172,24 +158,12 @@ fn control(pin: Pin) -> u8 {
     }
 }
 
-fn busy(phase: Phase) -> u8 {
-    match phase {
-        Phase::Idle => b'0',
-        Phase::Receive(_) => b'0',
-        Phase::Send(_) => b'0',
-        Phase::Busy(_) => b'1',
-    }
-}
-
 // What is seen of a chip beside a sample.
 fn seen(sample: u8, line: Line) -> Shown {
-    let core = line.core;
-    let pin = core.pin;
-    let phase = line.phase;
     Shown {
-        sample: sample,
-        control: control(pin),
-        busy: busy(phase),
+        sample,
+        control: control(line.core.pin),
+        busy: bit(matches!(line.phase, Phase::Busy(_))),
     }
 }
 
@@ -202,213 +176,105 @@ fn drawn(wires: Wires, sample: u8, code: u8) -> Stroke {
     Stroke {
         samples: [sample; 4],
         count: 3,
-        wires: wires,
+        wires,
     }
 }
 
-// What is seen at a sample of an event: up to the last one the chip as it was.
-fn at_sample(was: Shown, sample: u8, line: Line, last: bool) -> Shown {
-    if last {
-        return seen(sample, line);
-    }
-    Shown { sample, ..was }
-}
-
-// Guarded for the proof alone: no stroke has more.
-fn sample_at(four: [u8; 4], i: usize) -> u8 {
-    if i < 4 {
-        return four[i];
-    }
-    0
-}
-
-fn draw_samples(
-    host: &Host,
-    fd: i32,
-    pen: Pen,
-    four: [u8; 4],
-    n: usize,
-    line: Line,
-    out: &mut [u8],
-) -> Pen {
-    let mut p = pen;
-    let mut i = 0;
-    while i < n {
-        let was = p.shown;
-        let is = at_sample(was, sample_at(four, i), line, i + 1 == n);
-        p = tick(host, fd, p, is, out);
-        i += 1;
-    }
-    p
-}
-
-// An event as the line shows it; behind it the chip stands so.
-fn draw_event(host: &Host, fd: i32, scene: Scene, chip: Chip, code: u8, out: &mut [u8]) -> Scene {
-    let pen = scene.pen;
-    let wires = scene.wires;
-    let last = pen.shown;
-    let line = chip.line;
-    let s = drawn(wires, last.sample, code);
-    let four = s.samples;
-    let next = s.wires;
-    Scene {
-        chip: chip,
-        wires: next,
-        pen: draw_samples(host, fd, pen, four, s.count, line, out),
+impl Pen<'_> {
+    // Up to the last sample of an event the chip is seen as it was.
+    fn draw_samples(&mut self, stroke: Stroke, line: Line) -> Result<(), Unwritten> {
+        for (i, sample) in stroke.samples.iter().take(stroke.count).enumerate() {
+            let is = if i + 1 == stroke.count {
+                seen(*sample, line)
+            } else {
+                Shown {
+                    sample: *sample,
+                    ..self.shown
+                }
+            };
+            self.tick(is)?;
+        }
+        Ok(())
     }
 }
 
-// The chip is run along only for its pin and its cycle; what was answered is in `level`.
-fn turn(
-    host: &Host,
-    fd: i32,
-    part: u8,
-    enable: u8,
-    scene: Scene,
-    code: u8,
-    level: u8,
-    array: &mut [u8],
-    id: &mut [u8],
-    out: &mut [u8],
-) -> Scene {
-    let chip = scene.chip;
-    let s = chip::step(part, enable, Loss::Old, b"", chip, array, id, code);
-    let next = s.chip;
-    draw_event(host, fd, scene, next, capture::lined(code, level), out)
-}
-
-// Every event, from rest on.
-fn draw_all(
-    host: &Host,
-    fd: i32,
-    part: u8,
-    enable: u8,
-    first: Scene,
-    array: &mut [u8],
-    id: &mut [u8],
-    events: &[u8],
-    levels: &[u8],
-    out: &mut [u8],
-) -> Pen {
-    let mut scene = first;
-    let mut i = 0;
-    while i < events.len() {
-        let level = parts::byte_at(levels, i);
-        scene = turn(
-            host, fd, part, enable, scene, events[i], level, array, id, out,
+impl Scene<'_> {
+    // An event as the line shows it, with the level that was answered; behind it the chip stands as it left it.
+    fn turn(&mut self, pen: &mut Pen<'_>, code: u8, level: u8) -> Result<(), Unwritten> {
+        let s = chip::step(
+            self.part,
+            self.enable,
+            Loss::Old,
+            b"",
+            self.chip,
+            self.array,
+            self.id,
+            code,
         );
-        i += 1;
+        let stroke = drawn(self.wires, pen.shown.sample, capture::lined(code, level));
+        self.chip = s.chip;
+        self.wires = stroke.wires;
+        pen.draw_samples(stroke, s.chip.line)
     }
-    scene.pen
 }
 
 // ---- the dump
 
-// No date: the same events make the same file.
-fn put_version(host: &Host, fd: i32, pen: Pen, out: &mut [u8]) -> Pen {
-    let told = put(host, fd, pen, b"$version sapwoodle $end\n", out);
-    let meant = put(
-        host,
-        fd,
-        told,
-        b"$comment one sample a microsecond: not the time of a real bus $end\n",
-        out,
-    );
-    put(host, fd, meant, b"$timescale 1 us $end\n", out)
-}
-
-fn put_control(host: &Host, fd: i32, pen: Pen, pin: bool, out: &mut [u8]) -> Pen {
-    if pin {
-        return put(host, fd, pen, b"$var wire 1 w wc $end\n", out);
+impl Pen<'_> {
+    // No date: the same events make the same file.
+    fn put_version(&mut self) -> Result<(), Unwritten> {
+        self.put(b"$version sapwoodle $end\n")?;
+        self.put(b"$comment one sample a microsecond: not the time of a real bus $end\n")?;
+        self.put(b"$timescale 1 us $end\n")
     }
-    pen
+
+    fn put_names(&mut self) -> Result<(), Unwritten> {
+        self.put(b"$scope module m24c $end\n$var wire 1 c scl $end\n$var wire 1 d sda $end\n")?;
+        if 0 < self.shown.control {
+            self.put(b"$var wire 1 w wc $end\n")?;
+        }
+        self.put(b"$var wire 1 b busy $end\n$upscope $end\n$enddefinitions $end\n")
+    }
+
+    // What is seen before the first event. At rest both wires are high, so all of it changes from nothing.
+    fn put_first(&mut self) -> Result<(), Unwritten> {
+        let nothing = Shown {
+            sample: 0,
+            control: 0,
+            busy: 0,
+        };
+        self.put_time()?;
+        self.put(b"$dumpvars\n")?;
+        self.put_changes(nothing, self.shown)?;
+        self.put(b"$end\n")
+    }
+
+    // The last sample has its width.
+    fn put_end(&mut self) -> Result<(), Unwritten> {
+        self.time = parts::up(self.time, true);
+        self.put_time()?;
+        self.flush()
+    }
 }
 
-fn put_names(host: &Host, fd: i32, pen: Pen, pin: bool, out: &mut [u8]) -> Pen {
-    let wires = put(
-        host,
-        fd,
-        pen,
-        b"$scope module m24c $end\n$var wire 1 c scl $end\n$var wire 1 d sda $end\n",
-        out,
-    );
-    let pinned = put_control(host, fd, wires, pin, out);
-    put(
-        host,
-        fd,
-        pinned,
-        b"$var wire 1 b busy $end\n$upscope $end\n$enddefinitions $end\n",
-        out,
-    )
-}
-
-// What is seen before the first event. At rest both wires are high, so all of it changes from nothing.
-fn put_first(host: &Host, fd: i32, pen: Pen, out: &mut [u8]) -> Pen {
-    let nothing = Shown {
-        sample: 0,
-        control: 0,
-        busy: 0,
-    };
-    let is = pen.shown;
-    let timed = put_time(host, fd, pen, out);
-    let begun = put(host, fd, timed, b"$dumpvars\n", out);
-    let told = put_changes(host, fd, begun, nothing, is, out);
-    put(host, fd, told, b"$end\n", out)
-}
-
-fn put_head(host: &Host, fd: i32, line: Line, out: &mut [u8]) -> Pen {
-    let is = seen(3, line);
-    let pen = Pen {
-        ok: true,
-        waiting: 0,
-        time: 0,
-        shown: is,
-    };
-    let begun = put_version(host, fd, pen, out);
-    put_first(
-        host,
-        fd,
-        put_names(host, fd, begun, 0 < is.control, out),
-        out,
-    )
-}
-
-// The last sample has its width.
-fn put_end(host: &Host, fd: i32, pen: Pen, out: &mut [u8]) -> bool {
-    let last = Pen {
-        time: parts::up(pen.time, true),
-        ..pen
-    };
-    let done = flush(host, fd, put_time(host, fd, last, out), out);
-    done.ok
-}
-
-fn draw_chip(
-    host: &Host,
-    fd: i32,
-    part: u8,
-    enable: u8,
-    chip: Chip,
-    array: &mut [u8],
-    id: &mut [u8],
+fn draw_all(
+    pen: &mut Pen<'_>,
+    scene: &mut Scene<'_>,
     events: &[u8],
     levels: &[u8],
-    out: &mut [u8],
-) -> bool {
-    let line = chip.line;
-    let first = Scene {
-        chip: chip,
-        wires: Wires::Rest,
-        pen: put_head(host, fd, line, out),
-    };
-    let last = draw_all(
-        host, fd, part, enable, first, array, id, events, levels, out,
-    );
-    put_end(host, fd, last, out)
+) -> Result<(), Unwritten> {
+    pen.put_version()?;
+    pen.put_names()?;
+    pen.put_first()?;
+    for (i, code) in events.iter().enumerate() {
+        scene.turn(pen, *code, parts::byte_at(levels, i))?;
+    }
+    pen.put_end()
 }
 
 // Draws events from a chip on, with the levels that were answered, to an open file. The chip is held as its bytes; the enable is its own; array
-// and id are changed as the events change them. Whether all was written.
+// and id are changed as the events change them, up to where the file could not be written. Whether all was written, as
+// `files::store::finish` is told.
 pub fn draw(
     host: &Host,
     fd: i32,
@@ -421,10 +287,16 @@ pub fn draw(
     levels: &[u8],
 ) -> bool {
     let chip = pack_chip::unpack(held);
-    let mut out = io::buffer();
-    draw_chip(
-        host, fd, part, enable, chip, array, id, events, levels, &mut out,
-    )
+    let mut pen = Pen::new(host, fd, seen(3, chip.line));
+    let mut scene = Scene {
+        part,
+        enable,
+        chip,
+        array,
+        id,
+        wires: Wires::Rest,
+    };
+    draw_all(&mut pen, &mut scene, events, levels).is_ok()
 }
 
 fn store_in(
@@ -439,10 +311,9 @@ fn store_in(
     levels: &[u8],
     beside: &mut [u8],
 ) -> bool {
-    let b = files::store::begin(host, word, beside);
-    if b.fd < 0 {
+    let Some(b) = files::store::begin(host, word, beside) else {
         return false;
-    }
+    };
     let whole = draw(host, b.fd, part, enable, held, array, id, events, levels);
     files::store::finish(host, b, whole, word, beside)
 }

@@ -1,15 +1,10 @@
 use Rattle.explain.proofs.Laws.{Gathered}
 use Rattle.trace.specs.Trace.{codes_of}
 use Rattle.chip.specs.Memory.{mem}
-use lib.ListN.{length}
-use mathlib.Core.Path.{◌≡◌}
-use Prim.Native.Nat.{◌-◌, ◌*◌, ◌≤◌}
+use Prim.Native.Nat.{◌*◌, ◌≤◌}
 use Rattle.explain.proofs.follow.Given as goal
 
 abbrev pub invariant-loop-i : goal.invariant-loop-i
 invariant-loop-i l =
-    (l.i ≤ length l.letters) × (length l.array ≡ length l.initial.array) × (length l.id ≡ length l.initial.id) × (length l.levels ≡ length l.initial.levels) × (l.cycles ≤ 255 * l.i)
+    (l.cycles ≤ 255 * l.i)
     × Gathered l.part l.enable (codes_of l.letters) l.initial.held (mem l.initial.array l.initial.id) l.held (mem l.array l.id) l.levels l.cycles l.i
-
-abbrev pub decreases-loop-i : goal.decreases-loop-i
-decreases-loop-i l = length l.letters - l.i

@@ -1,13 +1,7 @@
-use borrow.Author.Rules.{rules}
-use Rattle.parts.proofs.Kit.{tests}
-use Rattle.pack_chip.specs.Layout.{pack_chip_into}
-use Rattle.pack_chip.proofs.Laws.{packed}
+use Rattle.std.proofs.Common.{rules}
+use Rattle.pack_chip.proofs.Laws.{copied_over, packed}
 use Rattle.pack_chip.proofs.pack.Goals as goal
 
-pub returns-then-out-ne-LENGTH : goal.returns-then-out-ne-LENGTH
-unfolding pack_chip_into
-returns-then-out-ne-LENGTH c = record { answer = simp (tests, c.if-out-ne-LENGTH.true); bytes = simp (tests, c.if-out-ne-LENGTH.true) }
-
-pub returns : goal.returns
-returns c =
-    record { answer = simp (tests, c.if-out-ne-LENGTH.false); bytes = rw (c.put_latches.ensures, c.put_line.ensures) (packed _ c.args.chip (search rules) (search rules)) }
+pub returns-clause-bytes : goal.returns-clause-bytes
+returns-clause-bytes c =
+    rw (c.put_latches.ensures, copied_over 0 9 c.args.out.now c.copy_from_slice.new.self (search rules) (search rules), c.copy_from_slice.ensures.after, c.head.ensures) (packed _ c.args.chip (search rules) (search rules))

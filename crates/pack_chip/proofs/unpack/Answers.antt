@@ -1,20 +1,11 @@
-use mathlib.Core.Path.{◌∙◌, sym}
-use Rattle.pack_chip.specs.Layout.{unpacked_chip_of}
+use Rattle.std.proofs.Common.{arith, refl, ◌≡◌, ◌∙◌, sym, Bool, true, false, cond, Option, Some, None}
+use Rattle.line.specs.declared.Line.{Line}
 use Rattle.pack_chip.proofs.Laws.{holds_long}
 use Rattle.pack_chip.proofs.unpack.Goals as goal
 
-pub returns-then-not-right : goal.returns-then-not-right
-unfolding unpacked_chip_of
-returns-then-not-right c = simp (c.none.ensures, ← c.holds-right.ensures, c.if-not-right.true)
+held : (b : Bool) (x y : Line) → ◌≡◌ {A = Option Line} (Some x) (cond b (Some y) None) → b ≡ true
+held true x y e = refl
+held false x y e = grind (arith, e)
 
-pub line_in-line-requires : goal.line_in-line-requires
-line_in-line-requires c = holds_long _ (sym c.holds-right.ensures ∙ c.if-not-right.false)
-
-pub latches_in-latch-requires : goal.latches_in-latch-requires
-latches_in-latch-requires c =
-    holds_long _ (sym c.holds-right.ensures ∙ c.if-not-right.false)
-
-pub returns : goal.returns
-unfolding unpacked_chip_of
-returns c =
-    simp (c.latches_in-latch.ensures, c.line_in-line.ensures, ← c.holds-right.ensures, c.if-not-right.false)
+pub latches_in-requires : goal.latches_in-requires
+latches_in-requires c = holds_long _ (held _ _ _ (sym c.in-Some.is ∙ c.held.ensures))

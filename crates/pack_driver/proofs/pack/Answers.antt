@@ -1,25 +1,19 @@
-use Rattle.parts.proofs.Kit.{tests}
-use Rattle.pack_driver.specs.Layout.{packs_driver_of, pack_driver_into}
-use Rattle.pack_driver.proofs.Laws.{packed_put}
+use Rattle.std.proofs.Common.{◌≡◌, ◌∙◌, ℕ, List, true, refl, sym, ap, rules}
+use Rattle.driver.specs.declared.Driver.{Driver}
+use Rattle.pack_driver.specs.Layout.{numbers_of, all_small_lem, small_of, packs_driver_of, pack_driver_into}
+use Rattle.pack_driver.proofs.Laws.{copied_over, packed_put}
 use Rattle.pack_driver.proofs.pack.Goals as goal
 
-pub returns-then-out-ne-LENGTH : goal.returns-then-out-ne-LENGTH
-unfolding packs_driver_of pack_driver_into
-returns-then-out-ne-LENGTH c = record { answer = simp (tests, c.if-out-ne-LENGTH.true); bytes = simp (tests, c.if-out-ne-LENGTH.true) }
+fits : (d : Driver) (k : List ℕ) → k ≡ numbers_of d → all_small_lem k ≡ true → small_of d ≡ true
+unfolding small_of
+fits d k e h = ap all_small_lem (sym e) ∙ h
 
-pub returns-then-not-fits : goal.returns-then-not-fits
+pub returns-clause-bytes : goal.returns-clause-bytes
 unfolding packs_driver_of pack_driver_into
-returns-then-not-fits c =
-    let large = c.if-not-fits.true in
-    let e = c.small-fits.ensures in
+returns-clause-bytes c =
+    let out = c.args.out.now in
     let long = c.if-out-ne-LENGTH.false in
-    record { answer = simp (large, ← e, long); bytes = simp (large, ← e, long) }
-
-pub returns : goal.returns
-unfolding packs_driver_of pack_driver_into
-returns c =
-    let fits = c.if-not-fits.false in
-    let e = c.small-fits.ensures in
-    let long = c.if-out-ne-LENGTH.false in
-    let put = packed_put c.args.out.now _ _ _ long c.put_head.ensures c.put_numbers.ensures in
-    record { answer = simp (fits, ← e, long); bytes = simp (fits, ← e, long) put }
+    let small = fits c.args.driver _ c.numbers-numbers.ensures (sym c.small.ensures ∙ c.if-not-small.false) in
+    let head = copied_over 0 7 out c.copy_from_slice.new.self (search rules) (search rules) ∙ rw (c.copy_from_slice.ensures.after, c.head.ensures) refl in
+    let numbers = c.put_numbers.ensures ∙ rw c.numbers-numbers.ensures refl in
+    simp (small, long) (packed_put out _ _ c.args.driver long head numbers)

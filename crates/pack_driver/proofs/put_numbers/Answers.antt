@@ -1,15 +1,8 @@
-use Rattle.pack_driver.proofs.Laws.{words_put}
+use Rattle.std.proofs.Common.{◌∙◌, ◌+◌, ◌*◌, arith}
+use Rattle.pack_driver.proofs.Laws.{words_copied}
 use Rattle.pack_driver.proofs.put_numbers.Goals as goal
 
-pub returns : goal.returns
-returns c =
-    let a = c.args in
-    words_put a.out.now _ _ _ _ _ _ _ a.driver _
-    c.from.ensures
-    c.put_number.ensures
-    c.put_number-2.ensures
-    c.put_number-3.ensures
-    c.put_number-4.ensures
-    c.put_number-5.ensures
-    c.put_number-6.ensures
-    c.put_number-7.ensures
+pub loop-i-preserved : goal.loop-i-preserved
+loop-i-preserved c =
+    let l = c.loop-i in
+    words_copied l.out c.args.numbers c.copy_from_slice.new.self l.i (7 + 4 * l.i) (7 + 4 * (l.i + 1)) _ (omega arith) (c.copy_from_slice.ensures.after ∙ c.word.ensures) (omega arith) (omega arith) (omega arith) ∙ l.invariant

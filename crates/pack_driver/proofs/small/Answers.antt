@@ -1,35 +1,19 @@
-use Rattle.parts.proofs.Kit.{tests}
-use Rattle.pack_driver.specs.Layout.{small_of}
+use Rattle.std.proofs.Common.{◌≡◌, ◌∙◌, ℕ, Bool, true, false, cond, ◌&&◌, List, [], ◌∷◌, ltb, refl, rules, tests}
+use Rattle.std.specs.List.{list_all}
+use Rattle.std.proofs.lemmas.Iterator.{YieldsList-from_slice}
+use Rattle.std.proofs.lemmas.Iterator.Search.{all_from_yields_List}
+use Rattle.parts.specs.Bytes.{word_end}
+use Rattle.pack_driver.specs.Layout.{all_small_lem}
 use Rattle.pack_driver.proofs.small.Goals as goal
 
-pub returns-then-from-ge4294967296 : goal.returns-then-from-ge4294967296
-unfolding small_of
-returns-then-from-ge4294967296 c = simp (tests, c.if-from-ge4294967296.true, ← c.from.ensures)
+both_is : (b r : Bool) → (b && r) ≡ cond b r false
+both_is true r = refl
+both_is false r = refl
 
-pub returns-then-request-ge4294967296 : goal.returns-then-request-ge4294967296
-unfolding small_of
-returns-then-request-ge4294967296 c = simp (tests, c.if-request-ge4294967296.true, c.if-from-ge4294967296.false, ← c.from.ensures)
-
-pub returns-then-request-ge4294967296-2 : goal.returns-then-request-ge4294967296-2
-unfolding small_of
-returns-then-request-ge4294967296-2 c = simp (tests, c.if-request-ge4294967296-2.true, c.if-request-ge4294967296.false, c.if-from-ge4294967296.false, ← c.from.ensures)
-
-pub returns-then-counts-ge4294967296 : goal.returns-then-counts-ge4294967296
-unfolding small_of
-returns-then-counts-ge4294967296 c = simp (tests, c.if-counts-ge4294967296.true, c.if-request-ge4294967296-2.false, c.if-request-ge4294967296.false, c.if-from-ge4294967296.false, ← c.from.ensures)
-
-pub returns-then-counts-ge4294967296-2 : goal.returns-then-counts-ge4294967296-2
-unfolding small_of
-returns-then-counts-ge4294967296-2 c = simp (tests, c.if-counts-ge4294967296-2.true, c.if-counts-ge4294967296.false, c.if-request-ge4294967296-2.false, c.if-request-ge4294967296.false, c.if-from-ge4294967296.false, ← c.from.ensures)
-
-pub returns-then-counts-ge4294967296-3 : goal.returns-then-counts-ge4294967296-3
-unfolding small_of
-returns-then-counts-ge4294967296-3 c = simp (tests, c.if-counts-ge4294967296-3.true, c.if-counts-ge4294967296-2.false, c.if-counts-ge4294967296.false, c.if-request-ge4294967296-2.false, c.if-request-ge4294967296.false, c.if-from-ge4294967296.false, ← c.from.ensures)
-
-pub returns-then-counts-ge4294967296-4 : goal.returns-then-counts-ge4294967296-4
-unfolding small_of
-returns-then-counts-ge4294967296-4 c = simp (tests, c.if-counts-ge4294967296-4.true, c.if-counts-ge4294967296-3.false, c.if-counts-ge4294967296-2.false, c.if-counts-ge4294967296.false, c.if-request-ge4294967296-2.false, c.if-request-ge4294967296.false, c.if-from-ge4294967296.false, ← c.from.ensures)
+all_is : (xs : List ℕ) → list_all (λ x. ltb x word_end) xs ≡ all_small_lem xs
+all_is [] = refl
+all_is (x ∷ xs) = rw (← all_is xs) (both_is (ltb x word_end) _)
 
 pub returns : goal.returns
-unfolding small_of
-returns c = simp (tests, c.if-counts-ge4294967296-4.false, c.if-counts-ge4294967296-3.false, c.if-counts-ge4294967296-2.false, c.if-counts-ge4294967296.false, c.if-request-ge4294967296-2.false, c.if-request-ge4294967296.false, c.if-from-ge4294967296.false, ← c.from.ensures)
+returns c =
+    all_from_yields_List (λ x. ltb x word_end) _ _ _ c.all.ensures.ran (YieldsList-from_slice c.args.numbers cc) (λ x b q k. search (rules, tests)) ∙ all_is c.args.numbers

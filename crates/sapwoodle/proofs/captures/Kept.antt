@@ -1,5 +1,6 @@
 -- `capturing`, `listing` and `tallying` keep what is promised of them.
 -- Assumes nothing.
+use Rattle.std.specs.Prelude.{Ok, Err}
 use Prim.Native.Nat.{ℕ}
 use mathlib.Core.Path.{◌≡◌, refl, ap, ◌∙◌}
 use mathlib.Core.Bool.{Bool}
@@ -7,8 +8,7 @@ use mathlib.Core.List.{List}
 use lib.ListN.{length}
 use native.Mathlib.Omega.{arith}
 use Rattle.parts.specs.declared.Refusal.TheVariants.{BadState}
-use Rattle.parts.specs.declared.Verdict.{Verdict}
-use Rattle.parts.specs.declared.Verdict.TheVariants.{Fine, Refused}
+use Rattle.parts.specs.Verdict.{Verdict}
 use Rattle.parts.specs.Table.{facts_of}
 use Rattle.parts.specs.Refusals.{verdict_number_of, sooner_of}
 use Rattle.parts.proofs.Claims.{given_first}
@@ -34,8 +34,8 @@ capture_keeps_by : (M : Model) (c : Chip) (s : List ℕ) (m : Mem) (bus : Bool) 
     → ((captured_bytes s (seen_left_of M c m bus ss v)).number ≡ 0 → ⊥)
     → ((captured_bytes s (seen_left_of M c m bus ss v)).state ≡ s) × ((captured_bytes s (seen_left_of M c m bus ss v)).stored ≡ m)
     × ((captured_bytes s (seen_left_of M c m bus ss v)).cycles ≡ 0) × ((captured_bytes s (seen_left_of M c m bus ss v)).level ≡ 2)
-capture_keeps_by M c s m bus ss Fine h = absurd (h refl)
-capture_keeps_by M c s m bus ss (Refused r) h = (refl, refl, refl, refl)
+capture_keeps_by M c s m bus ss (Ok _) h = absurd (h refl)
+capture_keeps_by M c s m bus ss (Err r) h = (refl, refl, refl, refl)
 
 pub capture_keeps : CaptureKeeps capturing
 capture_keeps part enable s m bus ss h =
@@ -43,15 +43,15 @@ capture_keeps part enable s m bus ss h =
     (seen_verdict_of part enable (unpacked_chip_of s) (length m.cells) (length m.ident) ss) h
 
 events_keep_by : (es out : List ℕ) (v : Verdict) → (verdict_number_of (listed_by es v).verdict ≡ 0 → ⊥) → ((listed_by es v).length ≡ 0) × (listed_out es out v ≡ out)
-events_keep_by es out Fine h = absurd (h refl)
-events_keep_by es out (Refused r) h = (refl, refl)
+events_keep_by es out (Ok _) h = absurd (h refl)
+events_keep_by es out (Err r) h = (refl, refl)
 
 pub events_keep : EventsKeep listing
 events_keep bus ss out h = events_keep_by (events_of bus ss) out (list_verdict_of bus ss (length out)) h
 
 tally_keeps_by : (t : Tally) (bus : Bool) (ss : List ℕ) (v : Verdict) → (verdict_number_of v ≡ 0 → ⊥) → counted_by t bus ss v ≡ t
-tally_keeps_by t bus ss Fine h = absurd (h refl)
-tally_keeps_by t bus ss (Refused r) h = refl
+tally_keeps_by t bus ss (Ok _) h = absurd (h refl)
+tally_keeps_by t bus ss (Err r) h = refl
 
 pub tally_keeps : TallyKeeps tallying
 unfolding counted_of
@@ -61,8 +61,8 @@ tally_keeps bus ss starts stops bytes unacknowledged h = tally_keeps_by (tally s
 
 capture_state : (M : Model) (c : Chip) (m : Mem) (bus : Bool) (ss : List ℕ) (v : Verdict) → ChipFits c
     → chip_bytes_after (seen_by M c m bus ss v).verdict (seen_by M c m bus ss v).chip (packed_chip_of c) ≡ packed_chip_of (seen_by M c m bus ss v).chip
-capture_state M c m bus ss Fine f = over c (seen_by M c m bus ss Fine).chip f
-capture_state M c m bus ss (Refused r) f = refl
+capture_state M c m bus ss (Ok _) f = over c (seen_by M c m bus ss (Ok tt)).chip f
+capture_state M c m bus ss (Err r) f = refl
 
 pub capture_is_chips : CaptureIsChips capturing
 capture_is_chips part enable c m bus ss f = (

@@ -1,5 +1,6 @@
 -- `stepping`, `running` and `delivering` keep what is promised of them.
 -- Assumes nothing.
+use Rattle.std.specs.Prelude.{Ok, Err, None}
 use Prim.Native.Nat.{ℕ, zero, suc, ◌+◌}
 use mathlib.Core.Path.{◌≡◌, refl, ap}
 use mathlib.Core.Bool.{Bool, true, false, not}
@@ -11,10 +12,8 @@ use borrow.Author.Tests.{eq-eqb, ne_eqb, eqb-true}
 use Rattle.parts.specs.declared.Facts.{Facts}
 use Rattle.parts.specs.declared.Refusal.{Refusal}
 use Rattle.parts.specs.declared.Refusal.TheVariants.{NoPart, WrongEnable, WrongBuffer, BadState, BadEvent, ShortBuffer, TooMany}
-use Rattle.parts.specs.declared.Verdict.{Verdict}
-use Rattle.parts.specs.declared.Verdict.TheVariants.{Fine, Refused}
+use Rattle.parts.specs.Verdict.{Verdict}
 use Rattle.parts.specs.Table.{facts_of, id_size_of, enable_right_of, buffers_right_of}
-use Rattle.parts.specs.declared.Spot.TheVariants.{Nowhere}
 use Rattle.parts.specs.Events.{event_right_of, loss_size_of}
 use Rattle.parts.specs.Refusals.{number_of, rank_of, spot_of, place_told, verdict_number_of, verdict_place_of, claim_of, sooner_of, lent_verdict_of, loss_verdict_of}
 use Rattle.parts.proofs.Laws.{branch, fine, buffers_right_lem}
@@ -41,8 +40,8 @@ use Rattle.sapwoodle.proofs.answers.Laws.{sooner_one, unheld_refused, standby_fi
 step_keeps_by : (M : Model) (c : Chip) (s : List ℕ) (m : Mem) (e : ℕ) (v : Verdict) → (verdict_number_of (step_by M c m e v).verdict ≡ 0 → ⊥)
     → (chip_bytes_after (step_by M c m e v).verdict (step_by M c m e v).chip s ≡ s) × (step_mem M c m e v ≡ m)
     × ((step_by M c m e v).level ≡ 2) × ((step_by M c m e v).cycles ≡ 0)
-step_keeps_by M c s m e Fine h = absurd (h refl)
-step_keeps_by M c s m e (Refused r) h = (refl, refl, refl, refl)
+step_keeps_by M c s m e (Ok _) h = absurd (h refl)
+step_keeps_by M c s m e (Err r) h = (refl, refl, refl, refl)
 
 pub step_keeps : StepKeeps stepping
 step_keeps part enable page lock s m e h =
@@ -53,7 +52,7 @@ step_keeps part enable page lock s m e h =
 abbrev Placeless : Verdict → Type 0
 Placeless v = (verdict_number_of v ≡ number_of (BadEvent 0) → ⊥) → verdict_place_of v ≡ 0
 
-claim_placeless : (wrong : Bool) (r : Refusal) → spot_of r ≡ Nowhere → Placeless (claim_of wrong r)
+claim_placeless : (wrong : Bool) (r : Refusal) → spot_of r ≡ None → Placeless (claim_of wrong r)
 claim_placeless true r h k = ap place_told h
 claim_placeless false r h k = refl
 
@@ -77,8 +76,8 @@ run_keeps_by : (M : Model) (c : Chip) (s : List ℕ) (m : Mem) (es a : List ℕ)
     → (chip_bytes_after (run_by M c es v).verdict (run_by M c es v).chip s ≡ s) × (run_mem M c m es v ≡ m) × (run_answers M c m es a v ≡ a)
     × ((run_by M c es v).cycles ≡ 0)
     × ((verdict_number_of (run_by M c es v).verdict ≡ number_of (BadEvent 0) → ⊥) → verdict_place_of (run_by M c es v).verdict ≡ 0)
-run_keeps_by M c s m es a Fine p h = absurd (h refl)
-run_keeps_by M c s m es a (Refused r) p h = (refl, refl, refl, refl, p)
+run_keeps_by M c s m es a (Ok _) p h = absurd (h refl)
+run_keeps_by M c s m es a (Err r) p h = (refl, refl, refl, refl, p)
 
 pub run_keeps : RunKeeps running
 run_keeps part enable page lock s m es a h =
@@ -99,8 +98,8 @@ over c n f = rw (eq-eqb (length (packed_chip_of c)) chip_length (holds_long (pac
 
 step_state : (M : Model) (c : Chip) (m : Mem) (e : ℕ) (v : Verdict) → ChipFits c
     → chip_bytes_after (step_by M c m e v).verdict (step_by M c m e v).chip (packed_chip_of c) ≡ packed_chip_of (step_by M c m e v).chip
-step_state M c m e Fine f = over c (step_by M c m e Fine).chip f
-step_state M c m e (Refused r) f = refl
+step_state M c m e (Ok _) f = over c (step_by M c m e (Ok tt)).chip f
+step_state M c m e (Err r) f = refl
 
 pub step_is_chips : StepIsChips stepping
 step_is_chips part enable page lock c m e f =
@@ -109,18 +108,18 @@ step_is_chips part enable page lock c m e f =
 
 run_state : (M : Model) (c : Chip) (m : Mem) (es : List ℕ) (v : Verdict) → ChipFits c
     → chip_bytes_after (run_by M c es v).verdict (run_by M c es v).chip (packed_chip_of c) ≡ packed_chip_of (run_by M c es v).chip
-run_state M c m es Fine f = over c (run_by M c es Fine).chip f
-run_state M c m es (Refused r) f = refl
+run_state M c m es (Ok _) f = over c (run_by M c es (Ok tt)).chip f
+run_state M c m es (Err r) f = refl
 
 pub run_is_chips : RunIsChips running
 run_is_chips part enable page lock c m es a f =
     let w = cut_from page lock in
     rw ((chip_packs_back c f).2, run_state (ours_with w (facts_of part) enable) c m es (run_verdict part enable w c m es a) f) refl
 
-deliver_long : (part : ℕ) (s : List ℕ) (m : Mem) → deliver_verdict_in part s m ≡ Fine → length s ≡ chip_length
+deliver_long : (part : ℕ) (s : List ℕ) (m : Mem) → deliver_verdict_in part s m ≡ Ok tt → length s ≡ chip_length
 unfolding deliver_verdict_in
 deliver_long part s m =
-    branch (λ (v : Verdict). v ≡ Fine → length s ≡ chip_length) (eqb (length s) chip_length)
+    branch (λ (v : Verdict). v ≡ Ok tt → length s ≡ chip_length) (eqb (length s) chip_length)
     (λ e _. eqb-true (length s) chip_length e)
     (λ _ h. absurd (unheld_refused part 0 m h))
 
@@ -135,20 +134,20 @@ deliver_holds part s m h =
 
 module _ (part enable : ℕ) (s : List ℕ) (m : Mem) (k : (facts_of part).known ≡ true) (n : enable_right_of (facts_of part) enable ≡ true)
     (a : length m.cells ≡ (facts_of part).size) (d : length m.ident ≡ id_size_of (facts_of part)) (h : holds_chip_of s ≡ false) where
-  pub out : held_verdict_of part enable (unpacked_chip_of s) (length m.cells) (length m.ident) ≡ Refused BadState
+  pub out : held_verdict_of part enable (unpacked_chip_of s) (length m.cells) (length m.ident) ≡ Err BadState
   out = held_out part enable (unpacked_chip_of s) (length m.cells) (length m.ident) k n (buffers_right_lem (facts_of part) (length m.cells) (length m.ident) a d) (chip_refuses_others s h part)
 
   -- the page for a loss of power is right too
   module _ (w : PowerCut) (p : length w.page ≡ loss_size_of (facts_of part) w.loss) where
-    cut_out : cut_verdict_of part enable w (unpacked_chip_of s) (length m.cells) (length m.ident) ≡ Refused BadState
+    cut_out : cut_verdict_of part enable w (unpacked_chip_of s) (length m.cells) (length m.ident) ≡ Err BadState
     unfolding cut_verdict_of loss_verdict_of sooner_of
     cut_out = rw (eq-eqb _ _ p, out) refl
 
-    step_4 : (e : ℕ) → step_verdict part enable w (unpacked_chip_of s) m e ≡ Refused BadState
+    step_4 : (e : ℕ) → step_verdict part enable w (unpacked_chip_of s) m e ≡ Err BadState
     unfolding step_verdict_of
     step_4 e = rw cut_out (step_behind BadState part e (omega arith))
 
-    run_4 : (es b : List ℕ) → run_verdict part enable w (unpacked_chip_of s) m es b ≡ Refused BadState
+    run_4 : (es b : List ℕ) → run_verdict part enable w (unpacked_chip_of s) m es b ≡ Err BadState
     unfolding run_verdict_of
     run_4 es b = rw cut_out (run_behind BadState part es (length b) (omega arith))
 
@@ -178,7 +177,7 @@ unfolding loss_from
 lent_size f n zero h = rw (ne_eqb n 0 (λ e. h (omega (arith, e)))) refl
 lent_size f n (suc l) h = rw (ne_eqb (suc l) 0 (λ e. omega (arith, e))) refl
 
-loss_wrong : (f : Facts) (n lock : ℕ) → (n + lock ≡ 0 → ⊥) → (n ≡ f.page → ⊥) → loss_verdict_of f (loss_from n lock) n ≡ Refused WrongBuffer
+loss_wrong : (f : Facts) (n lock : ℕ) → (n + lock ≡ 0 → ⊥) → (n ≡ f.page → ⊥) → loss_verdict_of f (loss_from n lock) n ≡ Err WrongBuffer
 unfolding loss_verdict_of
 loss_wrong f n lock h k = rw (lent_size f n lock h, ne_eqb n f.page k) refl
 
@@ -196,15 +195,15 @@ module _ (part enable : ℕ) (page : List ℕ) (lock : ℕ) (k : (facts_of part)
       (later_sooner r _ _ (later_right r (facts_of part).known NoPart k) (later_claim r (not (buffers_right_of (facts_of part) a d)) WrongBuffer (omega arith)))
       (later_sooner r _ _ (later_right r (enable_right_of (facts_of part) enable) WrongEnable n) (later_claim r (not (in_range_of (facts_of part) c)) BadState (omega arith)))
 
-  cut_3 : (c : Chip) (a d : ℕ) → cut_verdict_of part enable (cut_from page lock) c a d ≡ Refused WrongBuffer
+  cut_3 : (c : Chip) (a d : ℕ) → cut_verdict_of part enable (cut_from page lock) c a d ≡ Err WrongBuffer
   unfolding cut_verdict_of
   cut_3 c a d = rw (loss_wrong (facts_of part) (length page) lock h p) (given_first WrongBuffer (held_verdict_of part enable c a d) (held_3 c a d))
 
-  step_3 : (c : Chip) (m : Mem) (e : ℕ) → step_verdict part enable (cut_from page lock) c m e ≡ Refused WrongBuffer
+  step_3 : (c : Chip) (m : Mem) (e : ℕ) → step_verdict part enable (cut_from page lock) c m e ≡ Err WrongBuffer
   unfolding step_verdict_of
   step_3 c m e = rw (cut_3 c (length m.cells) (length m.ident)) (step_behind WrongBuffer part e (omega arith))
 
-  run_3 : (c : Chip) (m : Mem) (es b : List ℕ) → run_verdict part enable (cut_from page lock) c m es b ≡ Refused WrongBuffer
+  run_3 : (c : Chip) (m : Mem) (es b : List ℕ) → run_verdict part enable (cut_from page lock) c m es b ≡ Err WrongBuffer
   unfolding run_verdict_of
   run_3 c m es b = rw (cut_3 c (length m.cells) (length m.ident)) (run_behind WrongBuffer part es (length b) (omega arith))
 

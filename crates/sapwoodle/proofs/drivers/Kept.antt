@@ -1,5 +1,6 @@
 -- `beginning` and `asking` keep what is promised of them.
 -- Assumes nothing.
+use Rattle.std.specs.Prelude.{Ok, Err}
 use Prim.Native.Nat.{ℕ, ◌≤◌, ◌<◌}
 use mathlib.Core.Path.{◌≡◌, refl, sym, ap, ◌∙◌}
 use mathlib.Core.Bool.{Bool, true, false, cond}
@@ -10,8 +11,7 @@ use lib.Dec.{eqb}
 use borrow.Author.Tests.{eq-eqb, eqb-true}
 use Rattle.parts.specs.declared.Refusal.{Refusal}
 use Rattle.parts.specs.declared.Refusal.TheVariants.{BadState}
-use Rattle.parts.specs.declared.Verdict.{Verdict}
-use Rattle.parts.specs.declared.Verdict.TheVariants.{Fine, Refused as Judged}
+use Rattle.parts.specs.Verdict.{Verdict}
 use Rattle.parts.specs.Table.{facts_of, enable_right_of}
 use Rattle.parts.specs.Refusals.{number_of, verdict_number_of, is_fine, sooner_of}
 use Rattle.parts.specs.Bytes.{AllBelow, word_end}
@@ -38,8 +38,8 @@ use Rattle.sapwoodle.proofs.drivers.Laws.{roomless_refused}
 use Rattle.sapwoodle.proofs.drivers.Steps.{move_well}
 
 begin_keeps_by : (d : Driver) (s : List ℕ) (v : Verdict) → (verdict_number_of v ≡ 0 → ⊥) → driver_bytes_after_begin v d s ≡ s
-begin_keeps_by d s Fine h = absurd (h refl)
-begin_keeps_by d s (Judged r) h = refl
+begin_keeps_by d s (Ok _) h = absurd (h refl)
+begin_keeps_by d s (Err r) h = refl
 
 pub begin_keeps : BeginKeeps beginning
 begin_keeps r s h = begin_keeps_by (fresh r) s (begin_verdict_in r s) h
@@ -119,10 +119,10 @@ next_is_drivers s level b a h =
 
 -- ---- the first
 
-begin_long : (r : Request) (s : List ℕ) → begin_verdict_in r s ≡ Fine → (length s ≡ driver_length) × (judge_of r ≡ Fine)
+begin_long : (r : Request) (s : List ℕ) → begin_verdict_in r s ≡ Ok tt → (length s ≡ driver_length) × (judge_of r ≡ Ok tt)
 unfolding begin_verdict_in
 begin_long r s =
-    branch (λ (v : Verdict). v ≡ Fine → (length s ≡ driver_length) × (judge_of r ≡ Fine)) (eqb (length s) driver_length)
+    branch (λ (v : Verdict). v ≡ Ok tt → (length s ≡ driver_length) × (judge_of r ≡ Ok tt)) (eqb (length s) driver_length)
     (λ e h. (eqb-true (length s) driver_length e, h))
     (λ _ h. absurd (roomless_refused r.part r.enable h))
 
@@ -130,7 +130,7 @@ budget_low : (reads : Bool) (x : ℕ) → cond reads 0 (cond reads 0 x) ≤ 1000
 budget_low true x h = omega arith
 budget_low false x h = omega arith
 
-fresh_small : (part enable what at n budget : ℕ) → judge_of (request_of part enable what at n budget) ≡ Fine → small_of (fresh (request_of part enable what at n budget)) ≡ true
+fresh_small : (part enable what at n budget : ℕ) → judge_of (request_of part enable what at n budget) ≡ Ok tt → small_of (fresh (request_of part enable what at n budget)) ≡ true
 unfolding small_of allowed_of budget_of
 fresh_small part enable what at n budget h =
     let g = good_request (request_of part enable what at n budget) (ap is_fine h) in
@@ -162,7 +162,7 @@ begin_is_drivers part enable what at n budget s p e h = rw (eq-eqb (length s) dr
 
 never_0 : (x : Refusal) → number_of x ≡ 0 → ⊥
 never_0 x h =
-    let e = fine (Judged x) h in
+    let e = fine (Err x) h in
     let z : ◌≡◌ {A = ℕ} 0 1 = cc in
     omega arith
 

@@ -1,5 +1,6 @@
 -- `saving_bytes` and `loading_bytes` keep what is promised of them.
 -- Assumes nothing.
+use Rattle.std.specs.Prelude.{Ok, Err}
 use Prim.Native.Nat.{ℕ, ◌<◌}
 use mathlib.Core.Path.{◌≡◌, refl}
 use mathlib.Core.List.{List}
@@ -7,8 +8,7 @@ use native.Mathlib.Omega.{arith}
 use lib.ListN.{length}
 use borrow.Author.Tests.{eq-eqb, lt-ltb}
 use Rattle.parts.specs.declared.Refusal.TheVariants.{BadImage}
-use Rattle.parts.specs.declared.Verdict.{Verdict}
-use Rattle.parts.specs.declared.Verdict.TheVariants.{Fine, Refused}
+use Rattle.parts.specs.Verdict.{Verdict}
 use Rattle.parts.specs.Table.{facts_of}
 use Rattle.parts.proofs.Laws.{branch, fine}
 use Rattle.chip.specs.Memory.{Mem}
@@ -34,17 +34,17 @@ load_keeps l enable s m h =
     let k = loads_nothing l _ s m (load_verdict_in l enable s m) (λ e. h (rw e refl)) in
     (k.0, k.1, refl)
 
-short_refused : (l : List ℕ) (enable n d : ℕ) → length l < 6 → load_verdict_of l enable n d ≡ Fine → ⊥
+short_refused : (l : List ℕ) (enable n d : ℕ) → length l < 6 → load_verdict_of l enable n d ≡ Ok tt → ⊥
 unfolding load_verdict_of
 short_refused l enable n d k h =
-    let e : Refused BadImage ≡ Fine = rw (lt-ltb (length l) 6 k) at h in
+    let e : Err BadImage ≡ (Ok tt) = rw (lt-ltb (length l) 6 k) at h in
     let z : ◌≡◌ {A = ℕ} 0 1 = cc in
     omega arith
 
-load_long : (l : List ℕ) (enable : ℕ) (s : List ℕ) (m : Mem) → load_verdict_in l enable s m ≡ Fine → length s ≡ chip_length
+load_long : (l : List ℕ) (enable : ℕ) (s : List ℕ) (m : Mem) → load_verdict_in l enable s m ≡ Ok tt → length s ≡ chip_length
 unfolding load_verdict_in
 load_long l enable s m =
-    branch (λ (v : Verdict). v ≡ Fine → length s ≡ chip_length) (looks_of (length s) (length l))
+    branch (λ (v : Verdict). v ≡ Ok tt → length s ≡ chip_length) (looks_of (length s) (length l))
     (looked l s (load_verdict_of l enable (length m.cells) (length m.ident)) (short_refused l enable (length m.cells) (length m.ident)))
     (λ _ h. absurd (unheld_refused (part_in l) enable m h))
 

@@ -1,5 +1,6 @@
 -- `benching` keeps what is promised of it.
 -- Assumes nothing.
+use Rattle.std.specs.Prelude.{None, Err}
 use Prim.Native.Nat.{ℕ}
 use mathlib.Core.Path.{◌≡◌, refl, sym, ap, ◌∙◌}
 use mathlib.Core.Bool.{Bool, true, false, not}
@@ -16,9 +17,7 @@ use Rattle.pack_chip.proofs.Laws.{holds_long}
 use Rattle.pack_chip.proofs.Kept.{chip_packs_back, chip_unpacks_back}
 use Rattle.parts.specs.declared.Refusal.{Refusal}
 use Rattle.parts.specs.declared.Refusal.TheVariants.{NoPart, WrongEnable, WrongBuffer, BadState, ShortBuffer, Beyond, BadLimit}
-use Rattle.parts.specs.declared.Spot.TheVariants.{Nowhere}
-use Rattle.parts.specs.declared.Verdict.{Verdict}
-use Rattle.parts.specs.declared.Verdict.TheVariants.{Refused as Judged}
+use Rattle.parts.specs.Verdict.{Verdict}
 use Rattle.parts.specs.Table.{facts_of, enable_right_of, buffers_right_of}
 use Rattle.parts.specs.Refusals.{spot_of, place_told, verdict_number_of, verdict_place_of, claim_of, lent_verdict_of}
 use Rattle.chip.specs.Model.{ours}
@@ -46,7 +45,7 @@ kept_same s b =
 abbrev NoPlace : Verdict → Type 0
 NoPlace v = verdict_place_of v ≡ 0
 
-claim_none : (wrong : Bool) (r : Refusal) → spot_of r ≡ Nowhere → NoPlace (claim_of wrong r)
+claim_none : (wrong : Bool) (r : Refusal) → spot_of r ≡ None → NoPlace (claim_of wrong r)
 claim_none true r h = ap place_told h
 claim_none false r h = refl
 
@@ -67,7 +66,7 @@ bench_none r enable d c n i b =
 
 pub bench_keeps : BenchKeeps benching
 bench_keeps r enable d s m b x a h =
-    let q : bench_of r enable d (unpacked_chip_of s) m b ≡ bench_by our_driver (ours (facts_of r.part) enable) r d (unpacked_chip_of s) m b (Judged x) =
+    let q : bench_of r enable d (unpacked_chip_of s) m b ≡ bench_by our_driver (ours (facts_of r.part) enable) r d (unpacked_chip_of s) m b (Err x) =
     ap (bench_by our_driver (ours (facts_of r.part) enable) r d (unpacked_chip_of s) m b) h in
     let count : (of : Report → ℕ) → of (bench_of r enable d (unpacked_chip_of s) m b).report ≡ of (refused_by x (unpacked_chip_of s)) = λ of. ap (λ (l : BenchLeft). of l.report) q in (
       count (λ p. verdict_number_of p.verdict),

@@ -1,11 +1,11 @@
 -- `wearing` and `bench_wearing` keep what is promised of them.
 -- Assumes nothing.
+use Rattle.std.specs.Prelude.{Ok, Err}
 use Prim.Native.Nat.{ℕ}
 use mathlib.Core.Path.{◌≡◌, ◌∙◌, refl, ap}
 use mathlib.Core.List.{List}
 use native.Mathlib.Omega.{arith}
-use Rattle.parts.specs.declared.Verdict.{Verdict}
-use Rattle.parts.specs.declared.Verdict.TheVariants.{Fine, Refused}
+use Rattle.parts.specs.Verdict.{Verdict}
 use Rattle.parts.proofs.Laws.{fine}
 use Rattle.chip.specs.Memory.{Mem}
 use Rattle.chip.specs.Model.{PowerCut}
@@ -25,12 +25,12 @@ module _ (part en : ℕ) (w : PowerCut) (s : List ℕ) (m : Mem) (counts : List 
 
   keeps_by : (v : Verdict) → ((left v).run.number ≡ 0 → ⊥)
       → ((left v).run.state ≡ s) × ((left v).run.stored ≡ m) × ((left v).run.answers ≡ a) × ((left v).run.cycles ≡ 0) × ((left v).counts ≡ counts) × ((left v).worst ≡ worst)
-  keeps_by Fine h = absurd (h refl)
-  keeps_by (Refused r) h = (refl, refl, refl, refl, refl, refl)
+  keeps_by (Ok _) h = absurd (h refl)
+  keeps_by (Err r) h = (refl, refl, refl, refl, refl, refl)
 
   walks_by : (v : Verdict) → (left v).run.number ≡ 0 → (left v).worst ≡ most_of (left v).counts
-  walks_by Fine h = refl
-  walks_by (Refused r) h = let z : Refused r ≡ Fine = fine (Refused r) h in let y : ◌≡◌ {A = ℕ} 0 1 = cc in absurd (omega arith)
+  walks_by (Ok _) h = refl
+  walks_by (Err r) h = let z : Err r ≡ (Ok tt) = fine (Err r) h in let y : ◌≡◌ {A = ℕ} 0 1 = cc in absurd (omega arith)
 
 pub wear_bytes_keep : WearBytesKeep wearing
 wear_bytes_keep =
@@ -45,8 +45,8 @@ pub bench_wear_walks : BenchWearWalks bench_wearing
 bench_wear_walks r enable d s m b counts worst e = go (bench_kept_verdict r enable d (unpacked_chip_of s) m b counts worst)
   where
     go : (v : Verdict) → let x = bench_worn_bytes s (bench_kept_by r enable d (unpacked_chip_of s) m b counts worst v) in x.worst ≡ most_of x.counts
-    go Fine = refl
-    go (Refused r) = e
+    go (Ok _) = refl
+    go (Err r) = e
 
 pub bench_wear_keeps : BenchWearKeeps bench_wearing
 bench_wear_keeps r enable d s m b counts worst x a h =

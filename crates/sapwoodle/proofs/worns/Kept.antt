@@ -1,5 +1,6 @@
 -- `saving_worn_bytes`, `loading_worn_bytes`, `to_worn_bytes` and `to_plain_bytes` keep what is promised of them.
 -- Assumes nothing.
+use Rattle.std.specs.Prelude.{Ok, Err}
 use Prim.Native.Nat.{ℕ, ◌<◌}
 use mathlib.Core.Path.{◌≡◌, refl}
 use mathlib.Core.List.{List}
@@ -7,8 +8,7 @@ use native.Mathlib.Omega.{arith}
 use lib.ListN.{length}
 use borrow.Author.Tests.{eq-eqb, lt-ltb}
 use Rattle.parts.specs.declared.Refusal.TheVariants.{BadImage}
-use Rattle.parts.specs.declared.Verdict.{Verdict}
-use Rattle.parts.specs.declared.Verdict.TheVariants.{Fine, Refused}
+use Rattle.parts.specs.Verdict.{Verdict}
 use Rattle.parts.specs.Table.{facts_of}
 use Rattle.parts.proofs.Laws.{branch, fine}
 use Rattle.chip.specs.Memory.{Mem}
@@ -38,7 +38,7 @@ to_plain_keeps l out h = writes_nothing (image_length_of (facts_of (part_in l)))
 
 load_worn_keeps : LoadWornKeeps loading_worn_bytes
 load_worn_keeps l enable s m counts worst h =
-    let o : (load_worn_verdict_in l enable s m counts ≡ Fine → ⊥) = λ e. h (rw e refl) in
+    let o : (load_worn_verdict_in l enable s m counts ≡ Ok tt → ⊥) = λ e. h (rw e refl) in
     let k = loads_nothing l _ s m counts (load_worn_verdict_in l enable s m counts) o in
     let v = load_worn_verdict_in l enable s m counts in
     (k.0, k.1, k.2, worst_held worst (load_worn_by l m counts v).counts v o, refl)
@@ -49,17 +49,17 @@ worn_bytes_kept = record { save = save_worn_keeps; load = load_worn_keeps; to_wo
 pub save_worn_is_images : SaveWornIsImages saving_worn_bytes
 save_worn_is_images part c m counts out f = rw (chip_packs_back c f).2 refl
 
-short_refused : (l : List ℕ) (enable n d k : ℕ) → length l < 6 → load_worn_verdict_of l enable n d k ≡ Fine → ⊥
+short_refused : (l : List ℕ) (enable n d k : ℕ) → length l < 6 → load_worn_verdict_of l enable n d k ≡ Ok tt → ⊥
 unfolding load_worn_verdict_of
 short_refused l enable n d k s h =
-    let e : Refused BadImage ≡ Fine = rw (lt-ltb (length l) 6 s) at h in
+    let e : Err BadImage ≡ (Ok tt) = rw (lt-ltb (length l) 6 s) at h in
     let z : ◌≡◌ {A = ℕ} 0 1 = cc in
     omega arith
 
-load_long : (l : List ℕ) (enable : ℕ) (s : List ℕ) (m : Mem) (counts : List ℕ) → load_worn_verdict_in l enable s m counts ≡ Fine → length s ≡ chip_length
+load_long : (l : List ℕ) (enable : ℕ) (s : List ℕ) (m : Mem) (counts : List ℕ) → load_worn_verdict_in l enable s m counts ≡ Ok tt → length s ≡ chip_length
 unfolding load_worn_verdict_in
 load_long l enable s m counts =
-    branch (λ (v : Verdict). v ≡ Fine → length s ≡ chip_length) (looks_of (length s) (length l))
+    branch (λ (v : Verdict). v ≡ Ok tt → length s ≡ chip_length) (looks_of (length s) (length l))
     (looked l s (load_worn_verdict_of l enable (length m.cells) (length m.ident) (length counts)) (short_refused l enable (length m.cells) (length m.ident) (length counts)))
     (λ _ h. absurd (unheld_worn_refused (part_in l) enable m (length counts) h))
 

@@ -13,7 +13,7 @@ returns-then-state-ne-LENGTH c =
     let a = c.args in
     let m = mem a.array.now a.id.now in
     let k = delivers_nothing a.part _ a.state.now m _ (unheld_refused a.part 0 m) in
-    record { answer = rw (w, c.verdict_number.ensures, c.unheld-verdict.ensures) refl; state = rw w (sym k.0); cells = rw w (ap (λ (x : Mem). x.cells) (sym k.1)); ident = rw w (ap (λ (x : Mem). x.ident) (sym k.1)) }
+    record { answer = rw (w, c.verdict_number.ensures, c.unheld.ensures) refl; state = rw w (sym k.0); cells = rw w (ap (λ (x : Mem). x.cells) (sym k.1)); ident = rw w (ap (λ (x : Mem). x.ident) (sym k.1)) }
 
 pub returns : goal.returns
 unfolding deliver_verdict_in

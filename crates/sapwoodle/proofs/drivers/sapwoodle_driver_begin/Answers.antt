@@ -8,7 +8,7 @@ pub returns-then-state-ne-LENGTH : goal.returns-then-state-ne-LENGTH
 unfolding begin_verdict_in
 returns-then-state-ne-LENGTH c =
     let w = ne_eqb _ _ c.if-state-ne-LENGTH.true in
-    let u = c.roomless-verdict.ensures in
+    let u = c.roomless.ensures in
     record { answer = rw (w, c.verdict_number.ensures, u) refl; state = rw w (sym (begins_nothing _ _ _ (roomless_refused _ _))) }
 
 pub returns : goal.returns
@@ -16,5 +16,5 @@ unfolding begin_verdict_in
 returns c =
     let w = eq-eqb _ _ c.if-state-ne-LENGTH.false in
     let b = c.begin-b.ensures in
-    let q = c.request-asked.ensures in
+    let q = c.request.ensures in
     record { answer = rw (w, c.verdict_number-2.ensures, b, q) refl; state = rw (w, c.keep_begun.ensures, b, q) refl }

@@ -9,21 +9,21 @@ use Rattle.image.proofs.Kept.{load_verdict}
 use Rattle.sapwoodle.proofs.images.Laws.{loads_nothing}
 use Rattle.sapwoodle.proofs.images.sapwoodle_load.Goals as goal
 
-pub returns-then-not-looked : goal.returns-then-not-looked
+pub returns-then-not-looks : goal.returns-then-not-looks
 unfolding load_verdict_in
-returns-then-not-looked c =
+returns-then-not-looks c =
     let a = c.args in
     let m = mem a.array.now a.id.now in
-    let w = sym c.looks-looked.ensures ∙ c.if-not-looked.true in
+    let w = sym c.looks.ensures ∙ c.if-not-looks.true in
     let p = c.part_in-own.ensures in
     let k = loads_nothing a.image.now _ a.state.now m _ (unheld_refused (part_in a.image.now) a.enable m) in
-    record { answer = rw (w, c.verdict_number.ensures, c.unheld-verdict.ensures, p) refl; state = rw w (sym k.0); cells = rw w (ap (λ (x : Mem). x.cells) (sym k.1)); ident = rw w (ap (λ (x : Mem). x.ident) (sym k.1)); part = p }
+    record { answer = rw (w, c.verdict_number.ensures, c.unheld.ensures, p) refl; state = rw w (sym k.0); cells = rw w (ap (λ (x : Mem). x.cells) (sym k.1)); ident = rw w (ap (λ (x : Mem). x.ident) (sym k.1)); part = p }
 
 pub returns : goal.returns
 unfolding load_verdict_in
 returns c =
     let a = c.args in
-    let w = sym c.looks-looked.ensures ∙ c.if-not-looked.false in
+    let w = sym c.looks.ensures ∙ c.if-not-looks.false in
     let l = c.load-l.ensures in
     let k = c.settle.ensures in
     let v = load_verdict a.image.now (load_verdict_of a.image.now a.enable (length a.array.now) (length a.id.now)) in

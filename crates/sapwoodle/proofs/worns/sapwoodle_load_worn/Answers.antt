@@ -11,22 +11,22 @@ use Rattle.sapwoodle.specs.Worns.{unheld_worn_of}
 use Rattle.sapwoodle.proofs.worns.Laws.{unheld_worn_refused, loads_nothing, worst_held, found_or_held}
 use Rattle.sapwoodle.proofs.worns.sapwoodle_load_worn.Goals as goal
 
-pub returns-then-not-looked : goal.returns-then-not-looked
+pub returns-then-not-looks : goal.returns-then-not-looks
 unfolding load_worn_verdict_in
-returns-then-not-looked c =
+returns-then-not-looks c =
     let a = c.args in
     let m = mem a.array.now a.id.now in
-    let w = sym c.looks-looked.ensures ∙ c.if-not-looked.true in
+    let w = sym c.looks.ensures ∙ c.if-not-looks.true in
     let p = c.part_in-own.ensures in
     let g = worst_held (most a.group.now a.count.now) (load_worn_by a.image.now m a.counts.now (unheld_worn_of (part_in a.image.now) a.enable m (length a.counts.now))).counts (unheld_worn_of (part_in a.image.now) a.enable m (length a.counts.now)) (unheld_worn_refused (part_in a.image.now) a.enable m (length a.counts.now)) in
     let k = loads_nothing a.image.now _ a.state.now m a.counts.now _ (unheld_worn_refused (part_in a.image.now) a.enable m (length a.counts.now)) in
-    record { answer = rw (w, c.verdict_number.ensures, c.unheld-verdict.ensures, p) refl; state = rw w (sym k.0); cells = rw w (ap (λ (x : Mem). x.cells) (sym k.1)); ident = rw w (ap (λ (x : Mem). x.ident) (sym k.1)); counts = rw w (sym k.2); part = p; group = rw w (ap (λ (z : Most). z.group) (sym g)); count = rw w (ap (λ (z : Most). z.count) (sym g)) }
+    record { answer = rw (w, c.verdict_number.ensures, c.unheld.ensures, p) refl; state = rw w (sym k.0); cells = rw w (ap (λ (x : Mem). x.cells) (sym k.1)); ident = rw w (ap (λ (x : Mem). x.ident) (sym k.1)); counts = rw w (sym k.2); part = p; group = rw w (ap (λ (z : Most). z.group) (sym g)); count = rw w (ap (λ (z : Most). z.count) (sym g)) }
 
 pub returns : goal.returns
 unfolding load_worn_verdict_in
 returns c =
     let a = c.args in
-    let w = sym c.looks-looked.ensures ∙ c.if-not-looked.false in
+    let w = sym c.looks.ensures ∙ c.if-not-looks.false in
     let l = c.load_worn-l.ensures in
     let f = c.found_or-worst.ensures in
     let k = c.settle.ensures in

@@ -1,8 +1,0 @@
-use mathlib.Core.Path.{refl}
-use Rattle.sapwoodle.proofs.images.sapwoodle_save.Goals as goal
-
-pub returns : goal.returns
-returns c =
-    let u = c.unpack-chip.ensures in
-    let s = c.save-s.ensures in
-    record { answer = rw (c.verdict_number.ensures, s.answer, u) refl; bytes = rw (s.bytes, u) refl; written = rw (s.answer, u) refl }
