@@ -6,40 +6,39 @@ use host::Host;
 // Where reading stopped.
 #[derive(Clone, Copy)]
 pub enum Halt {
-    Nowhere,
     Full,
     Ended,
     Failed,
 }
 
-// How far a file is read: the bytes of the chunk from `at` to before `got` are not looked at yet; `n` entries of the buffer are filled,
-// and `first` is the number of the first one's first sample; `all` bytes were taken out of chunks; `text`: the file begins with a line of
-// text.
-#[derive(Clone, Copy)]
-pub struct Source {
-    pub fd: i32,
-    pub at: usize,
-    pub got: usize,
-    pub n: usize,
-    pub first: usize,
-    pub all: usize,
-    pub text: bool,
-    pub halt: Halt,
-}
-
 // Which bits of a byte are clock and data, where not the two lowest.
 #[derive(Clone, Copy)]
 pub struct Bits {
-    pub picks: bool,
     pub scl: u8,
     pub sda: u8,
 }
 
-#[derive(Clone, Copy)]
-struct Packed {
-    at: usize,
+// The entries that are filled, and the number of the first one's first sample.
+#[derive(Drop)]
+pub struct Entries<'a> {
+    samples: &'a mut [u8],
+    counts: &'a mut [u16],
     n: usize,
-    full: bool,
+    first: usize,
+}
+
+// How far a file is read: the bytes of the chunk from `at` to before `got` are not looked at yet; `all` bytes were taken out of chunks; `text`:
+// the file begins with a line of text.
+#[derive(Drop)]
+pub struct Source<'a> {
+    fd: i32,
+    bits: Option<Bits>,
+    chunk: &'a mut [u8],
+    at: usize,
+    got: usize,
+    all: usize,
+    text: bool,
+    pub entries: Entries<'a>,
 }
 
 // ---- one sample
@@ -48,109 +47,94 @@ fn high(b: u8, bit: u8) -> bool {
     (b >> (bit % 8)) % 2 == 1
 }
 
-fn sample(data: bool, clock: bool) -> u8 {
-    if data {
-        return if clock { 3 } else { 2 };
+impl Bits {
+    fn sample(self, b: u8) -> u8 {
+        2 * parts::flag(high(b, self.sda)) + parts::flag(high(b, self.scl))
     }
-    if clock { 1 } else { 0 }
 }
 
-fn picked(bits: Bits, b: u8) -> u8 {
-    if bits.picks {
-        return sample(high(b, bits.sda), high(b, bits.scl));
-    }
-    b
-}
+// ---- the entries
 
-// One more of the last entry, if the sample is the same and there is room in its count.
-fn repeated(samples: &[u8], counts: &mut [u16], n: usize, s: u8) -> bool {
-    if n == 0 {
-        return false;
-    }
-    let last = n - 1;
-    if last < samples.len() {
-        if last < counts.len() {
-            if samples[last] == s {
-                let k = counts[last];
-                if k < 65535 {
-                    counts[last] = k + 1;
-                    return true;
-                }
-            }
+impl<'a> Entries<'a> {
+    pub fn new(samples: &'a mut [u8], counts: &'a mut [u16]) -> Entries<'a> {
+        Entries {
+            samples,
+            counts,
+            n: 0,
+            first: 0,
         }
     }
-    false
 }
 
-// A new entry. The number of entries stays as it is where there is no room.
-fn added(samples: &mut [u8], counts: &mut [u16], n: usize, s: u8) -> usize {
-    if n < samples.len() {
-        if n < counts.len() {
-            samples[n] = s;
-            counts[n] = 1;
-            return n + 1;
-        }
-    }
-    n
-}
-
-fn put(samples: &mut [u8], counts: &mut [u16], n: usize, s: u8) -> Packed {
-    if repeated(samples, counts, n, s) {
-        return Packed {
-            at: 0,
-            n,
-            full: false,
+impl Entries<'_> {
+    // One more of the last entry, if the sample is the same and there is room in its count.
+    fn repeats(&mut self, s: u8) -> bool {
+        let Some(last) = self.n.checked_sub(1) else {
+            return false;
         };
-    }
-    let k = added(samples, counts, n, s);
-    Packed {
-        at: 0,
-        n: k,
-        full: k == n,
-    }
-}
-
-// ---- a chunk
-
-// As many bytes as there is room for, from the start of what is left of a chunk.
-fn pack(bits: Bits, chunk: &[u8], samples: &mut [u8], counts: &mut [u16], n: usize) -> Packed {
-    let mut n = n;
-    let mut i = 0;
-    while i < chunk.len() {
-        let p = put(samples, counts, n, picked(bits, chunk[i]));
-        if p.full {
-            return Packed {
-                at: i,
-                n,
-                full: true,
-            };
+        if parts::byte_at(self.samples, last) != s {
+            return false;
         }
-        n = p.n;
-        i += 1;
+        match self.counts.get_mut(last) {
+            Some(k) if *k < u16::MAX => {
+                *k += 1;
+                true
+            }
+            _ => false,
+        }
     }
-    Packed {
-        at: i,
-        n,
-        full: false,
-    }
-}
 
-fn halt_of(full: bool) -> Halt {
-    if full {
-        return Halt::Full;
+    // A new entry, where there is room.
+    fn adds(&mut self, s: u8) -> bool {
+        let n = self.n;
+        if n < self.samples.len() && n < self.counts.len() {
+            self.samples[n] = s;
+            self.counts[n] = 1;
+            self.n = n + 1;
+            return true;
+        }
+        false
     }
-    Halt::Nowhere
-}
 
-// The rest of the chunk.
-fn rest(bits: Bits, s: Source, chunk: &[u8], samples: &mut [u8], counts: &mut [u16]) -> Source {
-    let p = pack(bits, chunk, samples, counts, s.n);
-    Source {
-        at: std::num::wrapping_add_usize(s.at, p.at),
-        n: p.n,
-        all: std::num::wrapping_add_usize(s.all, p.at),
-        halt: halt_of(p.full),
-        ..s
+    // Whether there was room.
+    fn put(&mut self, s: u8) -> bool {
+        self.repeats(s) || self.adds(s)
+    }
+
+    pub fn len(&self) -> usize {
+        self.n
+    }
+
+    pub fn all(&self) -> &[u8] {
+        self.up_to(self.n)
+    }
+
+    // The first n samples.
+    pub fn up_to(&self, n: usize) -> &[u8] {
+        &self.samples[..n.min(self.samples.len())]
+    }
+
+    // How many samples of the file came before entry k.
+    pub fn place(&self, k: usize) -> usize {
+        self.counts
+            .iter()
+            .take(k)
+            .fold(self.first, |sum, n| sum.wrapping_add(usize::from(*n)))
+    }
+
+    // The entry that makes the last Stop.
+    pub fn last_stop(&self) -> Option<usize> {
+        (0..self.n).rev().find(|k| is_stop(self.samples, *k))
+    }
+
+    // The entries from k on are the first ones now: a piece begins with the sample that ended the one before.
+    pub fn keep_from(&mut self, k: usize) {
+        self.first = self.place(k);
+        let n = self.n.min(self.samples.len()).min(self.counts.len());
+        let from = k.min(n);
+        self.samples.copy_within(from..n, 0);
+        self.counts.copy_within(from..n, 0);
+        self.n = n - from;
     }
 }
 
@@ -158,166 +142,112 @@ fn rest(bits: Bits, s: Source, chunk: &[u8], samples: &mut [u8], counts: &mut [u
 
 // The line that sigrok-cli writes before samples of a known rate.
 fn is_text(bytes: &[u8]) -> bool {
-    let first = parts::byte_at(bytes, 0) == b'M';
-    let second = parts::byte_at(bytes, 1) == b'E';
-    let third = parts::byte_at(bytes, 2) == b'T';
-    first & second & third & (parts::byte_at(bytes, 3) == b'A')
+    bytes.starts_with(b"META")
 }
 
-fn read(host: &Host, s: Source, chunk: &mut [u8]) -> Source {
-    let got = host.read(s.fd, chunk);
-    if got < 0 {
-        return Source {
-            halt: Halt::Failed,
-            ..s
-        };
-    }
-    if got == 0 {
-        return Source {
-            halt: Halt::Ended,
-            ..s
-        };
-    }
-    let k = io::count(got, chunk);
-    Source {
-        at: 0,
-        got: k,
-        text: s.text | ((s.all == 0) & is_text(&chunk[..k])),
-        halt: Halt::Nowhere,
-        ..s
-    }
-}
-
-fn step(
-    host: &Host,
-    bits: Bits,
-    s: Source,
-    chunk: &mut [u8],
-    samples: &mut [u8],
-    counts: &mut [u16],
-) -> Source {
-    let at = s.at;
-    let got = s.got;
-    if at < got {
-        if got <= chunk.len() {
-            return rest(bits, s, &chunk[at..got], samples, counts);
+impl<'a> Source<'a> {
+    pub fn new(bits: Option<Bits>, chunk: &'a mut [u8], entries: Entries<'a>) -> Source<'a> {
+        Source {
+            fd: -1,
+            bits,
+            chunk,
+            at: 0,
+            got: 0,
+            all: 0,
+            text: false,
+            entries,
         }
     }
-    read(host, s, chunk)
 }
 
-fn halted(s: Source) -> bool {
-    let halt = s.halt;
-    match halt {
-        Halt::Nowhere => false,
-        Halt::Full => true,
-        Halt::Ended => true,
-        Halt::Failed => true,
+impl Source<'_> {
+    // A file is read from where it stands.
+    pub fn begin(&mut self, fd: i32) {
+        self.fd = fd;
+        self.at = 0;
+        self.got = 0;
+        self.all = 0;
+        self.text = false;
+        self.entries.n = 0;
+        self.entries.first = 0;
     }
-}
 
-// Until the buffer is full or the file ends. Nothing says that a file ends, and a proved loop has to: so the turns are counted down from a
-// number that no run uses up.
-pub fn fill(
-    host: &Host,
-    bits: Bits,
-    source: Source,
-    chunk: &mut [u8],
-    samples: &mut [u8],
-    counts: &mut [u16],
-) -> Source {
-    let mut s = source;
-    let mut turns = u64::MAX;
-    while turns > 0 {
-        s = step(host, bits, s, chunk, samples, counts);
-        if halted(s) {
-            return s;
+    pub fn fd(&self) -> i32 {
+        self.fd
+    }
+
+    // How many samples were read.
+    pub fn all(&self) -> usize {
+        self.all
+    }
+
+    pub fn is_text(&self) -> bool {
+        self.text
+    }
+
+    // The next chunk.
+    fn read(&mut self, host: &Host) -> Option<Halt> {
+        let Some(k) = host.read(self.fd, self.chunk) else {
+            return Some(Halt::Failed);
+        };
+        if k == 0 {
+            return Some(Halt::Ended);
         }
-        turns -= 1;
+        self.at = 0;
+        self.got = k;
+        self.text = self.text || (self.all == 0 && is_text(&self.chunk[..k]));
+        None
     }
-    s
+
+    fn sample(&self, b: u8) -> u8 {
+        match self.bits {
+            Some(bits) => bits.sample(b),
+            None => b,
+        }
+    }
+
+    // As many of the chunk's bytes as there is room for.
+    fn pack(&mut self) -> Option<Halt> {
+        for i in self.at..self.got {
+            let b = parts::byte_at(self.chunk, i);
+            let s = self.sample(b);
+            if !self.entries.put(s) {
+                return Some(Halt::Full);
+            }
+            self.at = i + 1;
+            self.all = self.all.wrapping_add(1);
+        }
+        None
+    }
+
+    // The rest of the chunk, or the next one.
+    fn step(&mut self, host: &Host) -> Option<Halt> {
+        if self.at < self.got {
+            return self.pack();
+        }
+        self.read(host)
+    }
+
+    // Until the buffer is full or the file ends. Nothing says that a file ends, and a proved loop has to: so the turns are counted, up to a number
+    // that no run uses up.
+    pub fn fill(&mut self, host: &Host) -> Option<Halt> {
+        for _ in 0..u64::MAX {
+            let halt = self.step(host);
+            if halt.is_some() {
+                return halt;
+            }
+        }
+        None
+    }
 }
 
 // ---- the cut behind a Stop
 
 fn is_stop(samples: &[u8], k: usize) -> bool {
-    if 0 < k {
-        if k < samples.len() {
-            return (samples[k - 1] == 1) & (samples[k] == 3);
-        }
-    }
-    false
+    0 < k && k < samples.len() && samples[k - 1] == 1 && samples[k] == 3
 }
 
 // Whether an entry makes a Stop, or is the last.
 pub fn ends_piece(samples: &[u8], k: usize) -> bool {
-    is_stop(samples, k) | (samples.len() <= std::num::wrapping_add_usize(k, 1))
-}
-
-// The entry that makes the last Stop; 0 for none.
-pub fn last_stop(samples: &[u8], n: usize) -> usize {
-    let mut k = n;
-    while 0 < k {
-        k -= 1;
-        if is_stop(samples, k) {
-            return k;
-        }
-    }
-    0
-}
-
-fn shifted(samples: &mut [u8], counts: &mut [u16], from: usize, to: usize) {
-    if from < samples.len() {
-        if from < counts.len() {
-            if to <= from {
-                samples[to] = samples[from];
-                counts[to] = counts[from];
-            }
-        }
-    }
-}
-
-fn left(n: usize, k: usize) -> usize {
-    if k < n { n - k } else { 0 }
-}
-
-fn move_down(samples: &mut [u8], counts: &mut [u16], n: usize, k: usize) {
-    let mut i = k;
-    while i < n {
-        shifted(samples, counts, i, left(i, k));
-        i += 1;
-    }
-}
-
-// How many samples the first k entries stand for.
-pub fn span(counts: &[u16], k: usize) -> usize {
-    let mut sum = 0;
-    let mut i = 0;
-    while i < k {
-        sum = std::num::wrapping_add_usize(sum, count_at(counts, i));
-        i += 1;
-    }
-    sum
-}
-
-fn wide(n: u16) -> usize {
-    n as usize
-}
-
-fn count_at(counts: &[u16], i: usize) -> usize {
-    if i < counts.len() {
-        return wide(counts[i]);
-    }
-    0
-}
-
-// The entries from k on are the first ones now: a piece begins with the sample that ended the one before.
-pub fn keep_from(s: Source, samples: &mut [u8], counts: &mut [u16], k: usize) -> Source {
-    let passed = span(counts, k);
-    move_down(samples, counts, s.n, k);
-    Source {
-        n: left(s.n, k),
-        first: std::num::wrapping_add_usize(s.first, passed),
-        ..s
-    }
+    is_stop(samples, k) || samples.len() <= k.saturating_add(1)
 }

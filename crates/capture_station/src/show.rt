@@ -1,5 +1,5 @@
 // What a capture is answered with. Each function is told whether the lines before it were written, and says so of its own.
-use capture::{Mark, Tally};
+use capture::Tally;
 use host::Host;
 use parts::{Refusal, Verdict};
 use words::answer::{count, number, say};
@@ -13,18 +13,26 @@ pub struct Spot {
     pub value: u8,
 }
 
+// The first clock at which the line differs from the model: its sample and its number, both counted from 0, the line's level, and where it stands
+// in its byte.
+#[derive(Clone, Copy)]
+pub struct Marked {
+    pub sample: usize,
+    pub clock: usize,
+    pub level: u8,
+    pub spot: Spot,
+}
+
 // What is told of one capture. `other`: whether the other reading of it has a mark.
 #[derive(Clone, Copy)]
 pub struct Figures {
-    pub verdict: Verdict,
     pub samples: usize,
     pub events: usize,
     pub clocks: usize,
     pub ends: usize,
     pub cycles: usize,
     pub tally: Tally,
-    pub mark: Mark,
-    pub spot: Spot,
+    pub mark: Option<Marked>,
     pub other: bool,
 }
 
@@ -64,15 +72,10 @@ pub fn refused(host: &Host, r: Refusal) -> bool {
 }
 
 // A sample that is none, and what files have such.
-fn refused_at(host: &Host, ok: bool, r: Refusal) -> bool {
+pub fn refused_at(host: &Host, ok: bool, r: Refusal) -> bool {
     status::refused(host);
     let told = field(host, ok, b"refused ", text::wide(parts::number(r)));
-    let placed = count(
-        host,
-        told,
-        b" at ",
-        parts::verdict_place(Verdict::Refused(r)),
-    );
+    let placed = count(host, told, b" at ", parts::verdict_place(Err(r)));
     say(
         host,
         placed,
@@ -97,20 +100,19 @@ fn told_spot(host: &Host, ok: bool, s: Spot) -> bool {
 }
 
 // The model's level is the other one.
-fn differs(host: &Host, ok: bool, sample: usize, clock: usize, level: u8, spot: Spot) -> bool {
+fn differs(host: &Host, ok: bool, m: Marked) -> bool {
     status::refused(host);
-    let one = field(host, ok, b"differs at sample ", sample);
-    let two = field(host, one, b", clock ", clock);
-    let three = field(host, two, b": line ", text::wide(level));
-    let four = field(host, three, b", model ", text::wide(1 - level % 2));
-    told_spot(host, four, spot)
+    let one = field(host, ok, b"differs at sample ", m.sample);
+    let two = field(host, one, b", clock ", m.clock);
+    let three = field(host, two, b": line ", text::wide(m.level));
+    let four = field(host, three, b", model ", text::wide(1 - m.level % 2));
+    told_spot(host, four, m.spot)
 }
 
-fn marked(host: &Host, ok: bool, f: Figures) -> bool {
-    let mark = f.mark;
+fn tell_mark(host: &Host, ok: bool, mark: Option<Marked>) -> bool {
     match mark {
-        Mark::Same => say(host, ok, b"same\n"),
-        Mark::At(sample, clock, level) => differs(host, ok, sample, clock, level, f.spot),
+        None => say(host, ok, b"same\n"),
+        Some(m) => differs(host, ok, m),
     }
 }
 
@@ -130,24 +132,20 @@ fn tallied(host: &Host, ok: bool, t: Tally) -> bool {
     count(host, three, b" unacknowledged ", t.unacknowledged as usize)
 }
 
+// Where the other reading has no mark.
 fn advised(host: &Host, ok: bool, letter: bool, f: Figures) -> bool {
-    let mark = f.mark;
-    match mark {
-        Mark::Same => ok,
-        Mark::At(_, _, _) => {
-            if f.other {
-                return ok;
-            }
-            if letter {
-                return say(host, ok, b"as on a bus it would be the same\n");
-            }
-            say(host, ok, b"by the letter it would be the same\n")
-        }
+    if f.mark.is_none() || f.other {
+        return ok;
     }
+    if letter {
+        return say(host, ok, b"as on a bus it would be the same\n");
+    }
+    say(host, ok, b"by the letter it would be the same\n")
 }
 
-fn lines(host: &Host, ok: bool, letter: bool, f: Figures) -> bool {
-    let one = marked(host, ok, f);
+// All of one capture but its events.
+pub fn lines(host: &Host, ok: bool, letter: bool, f: Figures) -> bool {
+    let one = tell_mark(host, ok, f.mark);
     let two = reading(host, one, letter);
     let three = field(host, two, b"samples ", f.samples);
     let four = field(host, three, b" events ", f.events);
@@ -157,20 +155,9 @@ fn lines(host: &Host, ok: bool, letter: bool, f: Figures) -> bool {
     advised(host, seven, letter, f)
 }
 
-// All of one capture but its events.
-pub fn block(host: &Host, ok: bool, letter: bool, f: Figures) -> bool {
-    let verdict = f.verdict;
-    match verdict {
-        Verdict::Fine => lines(host, ok, letter, f),
-        Verdict::Refused(r) => refused_at(host, ok, r),
-    }
-}
-
 // The name of a file, as it was typed.
 pub fn name(host: &Host, ok: bool, word: usize) -> bool {
-    let mut name = io::buffer();
-    let n = host.arg(word, &mut name);
-    let told = say(host, say(host, ok, b"file "), &name[..n]);
+    let told = say(host, say(host, ok, b"file "), host.word(word).bytes());
     say(host, told, b"\n")
 }
 

@@ -1,6 +1,11 @@
 // Counts of wear as bytes: four for each, high byte first.
 fn at(i: usize, n: usize) -> usize {
-    std::num::wrapping_add_usize(i, n)
+    i.wrapping_add(n)
+}
+
+// Where the n-th count stands, of those from a place on.
+fn place(first: usize, n: usize) -> usize {
+    at(first, n.wrapping_mul(4))
 }
 
 fn count_in(bytes: &[u8], i: usize) -> u32 {
@@ -13,26 +18,13 @@ fn count_in(bytes: &[u8], i: usize) -> u32 {
 
 // As many counts as there is room for, from a place on.
 pub fn take(bytes: &[u8], first: usize, counts: &mut [u32]) {
-    let mut from = first;
-    let mut i = 0;
-    while i < counts.len() {
-        counts[i] = count_in(bytes, from);
-        from = at(from, 4);
-        i += 1;
+    for (i, count) in counts.iter_mut().enumerate() {
+        *count = count_in(bytes, place(first, i));
     }
 }
 
-fn put_count(out: &mut [u8], i: usize, n: u32) {
-    let bytes = parts::word(n as usize);
-    parts::copy(out, i, &bytes);
-}
-
 pub fn put(out: &mut [u8], first: usize, counts: &[u32]) {
-    let mut to = first;
-    let mut i = 0;
-    while i < counts.len() {
-        put_count(out, to, counts[i]);
-        to = at(to, 4);
-        i += 1;
+    for (i, count) in counts.iter().enumerate() {
+        parts::copy(out, place(first, i), &parts::word(*count as usize));
     }
 }

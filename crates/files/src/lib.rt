@@ -17,21 +17,15 @@ use hexfile::HexRead;
 use host::{Host, STDIN};
 use parts::{Loss, Refusal, Verdict};
 use wear::Most;
-use words::{Job, Number, form, status};
+use words::form::Form;
+use words::{Job, form, status};
 
-// What became of a chip before its run: it was judged, whether its file has the counts of its wear, and the worst of the counts; or standard
-// error has the reason.
+// A chip before its run: how it was judged, whether its file has the counts of its wear, and the worst of the counts.
 #[derive(Clone, Copy)]
-pub enum Ready {
-    Told,
-    Judged(Verdict, bool, Most),
-}
-
-// What became of a HEX file; of one that was read and refused, standard error has the reason too.
-#[derive(Clone, Copy)]
-pub enum HexReady {
-    Told,
-    Read(HexRead),
+pub struct Ready {
+    pub verdict: Verdict,
+    pub worn: bool,
+    pub worst: Most,
 }
 
 // The most bytes of a file that is read: a HEX file with a record a byte has half as many.
@@ -62,23 +56,21 @@ pub fn unread(host: &Host, word: usize) {
     complain(host, word, b": cannot be read\n");
 }
 
-// The file of this name, opened; below 0 where it cannot be, and standard error has the reason.
-pub fn open_named(host: &Host, name: &[u8]) -> i32 {
+// The file of this name, opened; none where it cannot be, and standard error has the reason.
+pub fn open_named(host: &Host, name: &[u8]) -> Option<i32> {
     let fd = host.open_read(name);
-    if fd < 0 {
+    if fd.is_none() {
         words::failed(host, name);
     }
     fd
 }
 
-// The file that a word names, opened; below 0 where it cannot be, and standard error has the reason.
-pub fn open(host: &Host, word: usize) -> i32 {
+// The file that a word names, opened; none where it cannot be, and standard error has the reason.
+pub fn open(host: &Host, word: usize) -> Option<i32> {
     if words::is_input(host, word) {
-        return STDIN;
+        return Some(STDIN);
     }
-    let mut name = io::buffer();
-    let n = host.arg(word, &mut name);
-    open_named(host, &name[..n])
+    open_named(host, host.word(word).bytes())
 }
 
 pub fn close(host: &Host, word: usize, fd: i32) {
@@ -87,18 +79,17 @@ pub fn close(host: &Host, word: usize, fd: i32) {
     }
 }
 
-// All that the file has which a word names, into a buffer that `room` made; of a longer one as much as there is room for.
-pub fn contents(host: &Host, word: usize, to: &mut [u8]) -> Number {
-    let fd = open(host, word);
-    if fd < 0 {
-        return Number { ok: false, n: 0 };
-    }
+// All that the file has which a word names, in a buffer that `room` made; of a longer one as much as there is room for. None where it cannot be
+// read, and standard error has the reason.
+pub fn contents<'a>(host: &Host, word: usize, to: &'a mut [u8]) -> Option<&'a [u8]> {
+    let fd = open(host, word)?;
     let got = words::read_all(host, fd, to);
-    if !got.ok {
+    if got.is_none() {
         unread(host, word);
     }
     close(host, word, fd);
-    got
+    let n = got?;
+    Some(&to[..n])
 }
 
 // ---- reading a HEX file
@@ -128,8 +119,8 @@ pub fn too_long(host: &Host, word: usize, n: usize) -> bool {
 
 fn told(host: &Host, verdict: Verdict, word: usize, part: u8, text: &[u8]) {
     match verdict {
-        Verdict::Fine => {}
-        Verdict::Refused(r) => why::tell(host, word, part, text, r),
+        Ok(()) => {}
+        Err(r) => why::tell(host, word, part, text, r),
     }
 }
 
@@ -143,37 +134,13 @@ fn hex_chip(
     array: &mut [u8],
     id: &mut [u8],
 ) -> HexRead {
-    delivered(part, held, array, id);
+    let _ = delivered(part, held, array, id);
     let read = hexfile::read(part, text, array);
-    let verdict = read.verdict;
-    told(host, verdict, word, part, text);
+    told(host, read.verdict, word, part, text);
     read
 }
 
-fn hex_from(
-    host: &Host,
-    word: usize,
-    part: u8,
-    bytes: &mut [u8],
-    held: &mut [u8],
-    array: &mut [u8],
-    id: &mut [u8],
-) -> HexReady {
-    let got = contents(host, word, bytes);
-    let n = got.n;
-    if !got.ok {
-        return HexReady::Told;
-    }
-    if too_long(host, word, n) {
-        return HexReady::Told;
-    }
-    if n <= bytes.len() {
-        return HexReady::Read(hex_chip(host, word, part, &bytes[0..n], held, array, id));
-    }
-    HexReady::Told
-}
-
-// The chip that the HEX file named by a word has.
+// The chip that the HEX file named by a word has; none where it cannot be read. Of one that is refused standard error has the reason too.
 pub fn hex_fetched(
     host: &Host,
     word: usize,
@@ -181,9 +148,13 @@ pub fn hex_fetched(
     held: &mut [u8],
     array: &mut [u8],
     id: &mut [u8],
-) -> HexReady {
+) -> Option<HexRead> {
     let mut bytes = room();
-    hex_from(host, word, part, &mut bytes, held, array, id)
+    let text = contents(host, word, &mut bytes)?;
+    if too_long(host, word, text.len()) {
+        return None;
+    }
+    Some(hex_chip(host, word, part, text, held, array, id))
 }
 
 // ---- reading an image
@@ -198,11 +169,16 @@ pub fn is_worn(bytes: &[u8]) -> bool {
     parts::byte_at(bytes, 4) == 2
 }
 
-// Whether a chip was refused.
-fn refused(ready: Ready) -> bool {
-    match ready {
-        Ready::Told => false,
-        Ready::Judged(verdict, _, _) => parts::verdict_number(verdict) != 0,
+fn is_refused(verdict: Verdict) -> bool {
+    parts::verdict_number(verdict) != 0
+}
+
+// Of a file without counts.
+fn unworn_chip(verdict: Verdict) -> Ready {
+    Ready {
+        verdict,
+        worn: false,
+        worst: unworn(),
     }
 }
 
@@ -218,13 +194,11 @@ fn is_image(part: u8, bytes: &[u8]) -> bool {
         fitted::id(part, &mut id),
         fitted::counts(part, &mut counts),
     );
-    let loaded = l.loaded;
-    let verdict = loaded.verdict;
-    parts::verdict_number(verdict) == 0
+    !is_refused(l.loaded.verdict)
 }
 
 // An image of another part is not what was meant; anything else is no image.
-fn other(host: &Host, word: usize, part: u8, bytes: &[u8]) -> Ready {
+fn other(host: &Host, word: usize, part: u8, bytes: &[u8]) -> Option<Ready> {
     let found = image::part_in(bytes);
     if is_image(found, bytes) {
         complain(host, word, b": got an image of part ");
@@ -232,9 +206,9 @@ fn other(host: &Host, word: usize, part: u8, bytes: &[u8]) -> Ready {
         warn(host, b", wanted part ");
         tell::number(host, text::wide(part));
         warn(host, b"\n");
-        return Ready::Told;
+        return None;
     }
-    Ready::Judged(Verdict::Refused(Refusal::BadImage), false, unworn())
+    Some(unworn_chip(Err(Refusal::BadImage)))
 }
 
 fn load(
@@ -247,16 +221,18 @@ fn load(
     array: &mut [u8],
     id: &mut [u8],
     counts: &mut [u32],
-) -> Ready {
+) -> Option<Ready> {
     let l = image_worn::load_worn(bytes, enable, array, id, counts);
     let loaded = l.loaded;
     if loaded.part != part {
         return other(host, word, part, bytes);
     }
-    let verdict = loaded.verdict;
-    let worst = l.worst;
     pack_chip::pack(loaded.chip, held);
-    Ready::Judged(verdict, is_worn(bytes), worst)
+    Some(Ready {
+        verdict: loaded.verdict,
+        worn: is_worn(bytes),
+        worst: l.worst,
+    })
 }
 
 // An image: of one that is refused standard error has the reason.
@@ -270,14 +246,14 @@ fn image_chip(
     array: &mut [u8],
     id: &mut [u8],
     counts: &mut [u32],
-) -> Ready {
-    let ready = load(host, word, part, enable, bytes, held, array, id, counts);
-    if refused(ready) {
+) -> Option<Ready> {
+    let ready = load(host, word, part, enable, bytes, held, array, id, counts)?;
+    if is_refused(ready.verdict) {
         shape::tell(host, word, bytes);
         shape::or_raw(host, part, bytes);
         warn(host, b"\n");
     }
-    ready
+    Some(ready)
 }
 
 // A chip as delivered with these bytes as its array.
@@ -296,26 +272,25 @@ fn raw_chip(
         return verdict;
     }
     shape::tell_length(host, word, bytes.len(), array.len());
-    Verdict::Refused(Refusal::BadImage)
+    Err(Refusal::BadImage)
 }
 
 // What a file is: its name may say it, else what stands in it does.
-pub fn form_in(host: &Host, word: usize, part: u8, bytes: &[u8]) -> u8 {
-    let f = parts::facts_of(part);
-    let named = form::of_word(host, word);
-    if named != form::UNSAID {
+pub fn form_in(host: &Host, word: usize, part: u8, bytes: &[u8]) -> Form {
+    if let Some(named) = form::of_word(host, word) {
         return named;
     }
     if is_hex(bytes) {
-        return form::HEX;
+        return Form::Hex;
     }
-    if bytes.len() == f.size {
-        return form::RAW;
+    if bytes.len() == parts::facts_of(part).size {
+        return Form::Raw;
     }
-    form::EPR
+    Form::Epr
 }
 
-// The chip of a file's bytes, of any form. What has no counts leaves those that are lent, which are zeros.
+// The chip of a file's bytes, of any form; none where they are of no use, and standard error has the reason. What has no counts leaves those
+// that are lent, which are zeros.
 pub fn chip_in(
     host: &Host,
     word: usize,
@@ -326,54 +301,21 @@ pub fn chip_in(
     array: &mut [u8],
     id: &mut [u8],
     counts: &mut [u32],
-) -> Ready {
+) -> Option<Ready> {
     match form_in(host, word, part, bytes) {
-        form::HEX => {
+        Form::Hex => {
             if too_long(host, word, bytes.len()) {
-                return Ready::Told;
+                return None;
             }
             let read = hex_chip(host, word, part, bytes, held, array, id);
-            let verdict = read.verdict;
-            Ready::Judged(verdict, false, unworn())
+            Some(unworn_chip(read.verdict))
         }
-        form::RAW => Ready::Judged(
-            raw_chip(host, word, part, bytes, held, array, id),
-            false,
-            unworn(),
-        ),
-        _ => image_chip(host, word, part, enable, bytes, held, array, id, counts),
-    }
-}
-
-fn chip_from(
-    host: &Host,
-    word: usize,
-    part: u8,
-    enable: u8,
-    bytes: &mut [u8],
-    held: &mut [u8],
-    array: &mut [u8],
-    id: &mut [u8],
-    counts: &mut [u32],
-) -> Ready {
-    let got = contents(host, word, bytes);
-    let n = got.n;
-    if got.ok {
-        if n <= bytes.len() {
-            return chip_in(
-                host,
-                word,
-                part,
-                enable,
-                &bytes[0..n],
-                held,
-                array,
-                id,
-                counts,
-            );
+        Form::Raw => {
+            let verdict = raw_chip(host, word, part, bytes, held, array, id);
+            Some(unworn_chip(verdict))
         }
+        Form::Epr => image_chip(host, word, part, enable, bytes, held, array, id, counts),
     }
-    Ready::Told
 }
 
 // The chip that the file named by a word has.
@@ -386,11 +328,10 @@ pub fn fetched(
     array: &mut [u8],
     id: &mut [u8],
     counts: &mut [u32],
-) -> Ready {
+) -> Option<Ready> {
     let mut bytes = room();
-    chip_from(
-        host, word, part, enable, &mut bytes, held, array, id, counts,
-    )
+    let got = contents(host, word, &mut bytes)?;
+    chip_in(host, word, part, enable, got, held, array, id, counts)
 }
 
 // ---- the chip that a command asks for
@@ -401,7 +342,7 @@ pub fn judged(job: Job) -> Verdict {
     let asked = parts::enable_right(f, job.enable);
     let own = parts::enable_right(f, job.own);
     let unknown = parts::claim(!f.known, Refusal::NoPart);
-    parts::sooner(unknown, parts::claim(!(asked & own), Refusal::WrongEnable))
+    parts::sooner(unknown, parts::claim(!(asked && own), Refusal::WrongEnable))
 }
 
 // As delivered, or from the image.
@@ -412,11 +353,11 @@ pub fn at_first(
     array: &mut [u8],
     id: &mut [u8],
     counts: &mut [u32],
-) -> Ready {
-    if job.image == 0 {
-        return Ready::Judged(delivered(job.part, held, array, id), false, unworn());
+) -> Option<Ready> {
+    match job.image {
+        Some(word) => fetched(host, word, job.part, job.own, held, array, id, counts),
+        None => Some(unworn_chip(delivered(job.part, held, array, id))),
     }
-    fetched(host, job.image, job.part, job.own, held, array, id, counts)
 }
 
 fn pinned(
@@ -450,44 +391,34 @@ pub fn prepared(
     id: &mut [u8],
 ) -> Verdict {
     match verdict {
-        Verdict::Fine => {
-            if job.pin == 0 {
-                return verdict;
-            }
-            pinned(job.part, job.own, job.pin, held, array, id)
-        }
-        Verdict::Refused(_) => verdict,
+        Ok(()) => match job.pin {
+            Some(pin) => pinned(job.part, job.own, pin, held, array, id),
+            None => verdict,
+        },
+        Err(_) => verdict,
     }
 }
 
-// As much of `from` as there is room for, behind the first n bytes.
+// As much of `from` as there is room for, behind the first n bytes: where it ends.
 pub fn extend(to: &mut [u8], n: usize, from: &[u8]) -> usize {
-    let mut at = n;
-    let mut i = 0;
-    while i < from.len() {
-        if to.len() <= at {
-            return at;
-        }
-        to[at] = from[i];
-        at += 1;
-        i += 1;
-    }
-    at
+    let room = to.len().saturating_sub(n);
+    parts::copy(to, n, from);
+    n + from.len().min(room)
 }
 
 // ---- writing
 
 // Whether counts are saved.
 pub fn keeps(job: Job) -> bool {
-    job.wear & (0 < job.save) & (job.form == form::EPR)
+    job.wear && job.save.is_some() && job.form == Form::Epr
 }
 
 // Whether the file stands that a job saves, in its form and without counts; or none is asked for.
 pub fn save(host: &Host, job: Job, held: &[u8], array: &[u8], id: &[u8]) -> bool {
-    if job.save == 0 {
-        return true;
+    match job.save {
+        Some(word) => saved::formed(host, job, word, held, array, id),
+        None => true,
     }
-    saved::formed(host, job, held, array, id)
 }
 
 // The same, with the counts where the job keeps them.
@@ -499,8 +430,8 @@ pub fn save_kept(
     id: &[u8],
     counts: &[u32],
 ) -> bool {
-    if keeps(job) {
-        return saved::worn(host, job.save, job.part, held, array, id, counts);
+    match job.save {
+        Some(word) if keeps(job) => saved::worn(host, word, job.part, held, array, id, counts),
+        _ => save(host, job, held, array, id),
     }
-    save(host, job, held, array, id)
 }

@@ -5,7 +5,7 @@ use state::Chip;
 
 fn as_delivered(part: u8, id: &[u8], array: &mut [u8], own: &mut [u8]) -> bool {
     chip::deliver(part, array, own);
-    check::same(id, own)
+    id == own
 }
 
 fn id_delivered(part: u8, id: &[u8]) -> bool {
@@ -21,15 +21,13 @@ fn id_delivered(part: u8, id: &[u8]) -> bool {
 
 // `worn`: there are counts of wear.
 pub fn tell(host: &Host, part: u8, chip: Chip, id: &[u8], worn: bool) {
-    let line = chip.line;
-    let core = line.core;
     if !id_delivered(part, id) {
         say(
             host,
             b"sapwoodle: the identification page is not as delivered, and HEX and raw bytes do not hold it\n",
         );
     }
-    if core.locked {
+    if chip.line.core.locked {
         say(
             host,
             b"sapwoodle: the lock is not as delivered, and HEX and raw bytes do not hold it\n",

@@ -2,22 +2,22 @@
 use crate::lost;
 use crate::store::store;
 use host::Host;
-use image::Saved;
-use words::{Job, form};
+use words::Job;
+use words::form::Form;
 
-fn save_in(host: &Host, word: usize, saved: Saved, out: &[u8]) -> bool {
-    let n = saved.length;
-    if n <= out.len() {
-        return store(host, word, &out[0..n]);
+// The first bytes, so many.
+fn save_in(host: &Host, word: usize, length: usize, out: &[u8]) -> bool {
+    match out.get(..length) {
+        Some(bytes) => store(host, word, bytes),
+        None => false,
     }
-    false
 }
 
 // Of version 1.
 fn plain(host: &Host, word: usize, part: u8, held: &[u8], array: &[u8], id: &[u8]) -> bool {
     let mut out = [0u8; 32839];
     let saved = image::save(part, pack_chip::unpack(held), array, id, &mut out);
-    save_in(host, word, saved, &out)
+    save_in(host, word, saved.length, &out)
 }
 
 // Of version 2.
@@ -32,32 +32,31 @@ pub(crate) fn worn(
 ) -> bool {
     let mut out = [0u8; 65607];
     let saved = image_worn::save_worn(part, pack_chip::unpack(held), array, id, counts, &mut out);
-    save_in(host, word, saved, &out)
-}
-
-fn spelled(host: &Host, word: usize, part: u8, array: &[u8], out: &mut [u8]) -> bool {
-    let written = hexfile::write(part, array, out);
-    let n = written.length;
-    if n <= out.len() {
-        return store(host, word, &out[0..n]);
-    }
-    false
+    save_in(host, word, saved.length, &out)
 }
 
 // The text of the largest array fits.
 fn hex(host: &Host, word: usize, part: u8, array: &[u8]) -> bool {
     let mut out = [0u8; 90124];
-    spelled(host, word, part, array, &mut out)
+    let written = hexfile::write(part, array, &mut out);
+    save_in(host, word, written.length, &out)
 }
 
-// Without counts. What the array alone does not hold is told.
-pub(crate) fn formed(host: &Host, job: Job, held: &[u8], array: &[u8], id: &[u8]) -> bool {
-    if job.form == form::EPR {
-        return plain(host, job.save, job.part, held, array, id);
+// In the form of the job, in the file that a word names, and without counts. What the array alone does not hold is told.
+pub(crate) fn formed(
+    host: &Host,
+    job: Job,
+    word: usize,
+    held: &[u8],
+    array: &[u8],
+    id: &[u8],
+) -> bool {
+    if job.form == Form::Epr {
+        return plain(host, word, job.part, held, array, id);
     }
     lost::tell(host, job.part, pack_chip::unpack(held), id, job.wear);
-    if job.form == form::HEX {
-        return hex(host, job.save, job.part, array);
+    if job.form == Form::Hex {
+        return hex(host, word, job.part, array);
     }
-    store(host, job.save, array)
+    store(host, word, array)
 }

@@ -26,22 +26,19 @@ pub fn mark(host: &Host, bytes: &[u8]) {
 }
 
 pub fn marked(bytes: &[u8], last: u8) -> bool {
-    let first = parts::byte_at(bytes, 0) == b'E';
-    let second = parts::byte_at(bytes, 1) == b'P';
-    first & second & (parts::byte_at(bytes, 2) == last)
+    bytes.starts_with(&[b'E', b'P', last])
 }
 
 // `version 0003h`
 pub fn version(host: &Host, bytes: &[u8]) {
-    let high = text::hex(parts::byte_at(bytes, 3));
     say(host, b"version ");
-    say(host, &[high[0], high[1]]);
+    say(host, &text::hex(parts::byte_at(bytes, 3)));
     byte(host, parts::byte_at(bytes, 4));
 }
 
 pub fn versioned(bytes: &[u8], least: u8, most: u8) -> bool {
     let low = parts::byte_at(bytes, 4);
-    (parts::byte_at(bytes, 3) == 0) & (least <= low) & (low <= most)
+    parts::byte_at(bytes, 3) == 0 && least <= low && low <= most
 }
 
 pub fn no_part(host: &Host, part: u8) {
@@ -57,7 +54,7 @@ pub fn found(host: &Host, n: usize, room: usize) {
         return say(host, b" byte");
     }
     say(host, b" bytes");
-    if (n == room) | (n == WHOLE) {
+    if n == room || n == WHOLE {
         say(host, b" or more");
     }
 }

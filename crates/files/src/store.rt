@@ -4,8 +4,7 @@ use crate::{extend, tell};
 use host::Host;
 use words::status;
 
-// A file under way: its descriptor, below 0 where it cannot be written, which was said; and how many bytes of the name beside are its own for
-// now, 0 where it is written where it is.
+// A file under way: its descriptor, and how many bytes of the name beside are its own for now, 0 where it is written where it is.
 #[derive(Clone, Copy)]
 pub struct Begun {
     pub fd: i32,
@@ -13,67 +12,58 @@ pub struct Begun {
 }
 
 fn is_device(name: &[u8]) -> bool {
-    if 5 < name.len() {
-        return words::same(&name[0..5], b"/dev/");
+    match name.split_at_checked(5) {
+        Some((first, rest)) => !rest.is_empty() && words::same(first, b"/dev/"),
+        None => false,
     }
-    false
+}
+
+// A file that could not be begun is told.
+fn said(host: &Host, name: &[u8], fd: Option<i32>, n: usize) -> Option<Begun> {
+    if fd.is_none() {
+        words::failed(host, name);
+    }
+    Some(Begun { fd: fd?, n })
 }
 
 // A name that no file has, so that nothing that a run before left is in the way. The file is as the system makes files.
-fn made(host: &Host, beside: &mut [u8]) -> i32 {
-    host.create_temp(beside)
-}
-
-fn said(host: &Host, name: &[u8], fd: i32, n: usize) -> Begun {
-    if fd < 0 {
-        words::failed(host, name);
-    }
-    Begun { fd, n }
-}
-
-fn begin_beside(host: &Host, name: &[u8], beside: &mut [u8]) -> Begun {
+fn begin_beside(host: &Host, name: &[u8], beside: &mut [u8]) -> Option<Begun> {
     let n = extend(beside, 0, name);
     let k = extend(beside, n, b".XXXXXX");
-    if k <= beside.len() {
-        let fd = made(host, &mut beside[0..k]);
-        return said(host, name, fd, k);
-    }
-    Begun { fd: -1, n: 0 }
+    let made = host.create_temp(beside.get_mut(..k)?);
+    said(host, name, made, k)
 }
 
-fn begin_named(host: &Host, name: &[u8], beside: &mut [u8]) -> Begun {
-    if name.len() == 0 {
+fn begin_named(host: &Host, name: &[u8], beside: &mut [u8]) -> Option<Begun> {
+    if name.is_empty() {
         words::trouble(
             host,
             b"a file that is written has a name, and one that is not too long\n",
         );
-        return Begun { fd: -1, n: 0 };
+        return None;
     }
     if is_device(name) {
-        let fd = host.open_overwrite(name);
-        return said(host, name, fd, 0);
+        return said(host, name, host.open_overwrite(name), 0);
     }
     begin_beside(host, name, beside)
 }
 
-// The file that a word names, to be written; `beside` has its name for now.
-pub fn begin(host: &Host, word: usize, beside: &mut [u8]) -> Begun {
+// The file that a word names, to be written; `beside` has its name for now. None where it cannot be written, and that was said.
+pub fn begin(host: &Host, word: usize, beside: &mut [u8]) -> Option<Begun> {
     if words::is_input(host, word) {
         words::trouble(
             host,
             b"a file that is written has a name: - is for standard input\n",
         );
-        return Begun { fd: -1, n: 0 };
+        return None;
     }
-    let mut name = io::buffer();
-    let n = host.arg(word, &mut name);
-    begin_named(host, &name[..n], beside)
+    begin_named(host, host.word(word).bytes(), beside)
 }
 
-// The bytes are on the disk, and the file is closed. What is no file of a disk has none to be on.
-fn closed(host: &Host, fd: i32, synced: i32) -> bool {
+// The file is closed, and what it has is on the disk, as `synced` says. What is no file of a disk has none to be on.
+fn closed(host: &Host, fd: i32, synced: bool) -> bool {
     let closed = host.close(fd);
-    (0 <= synced) & (0 <= closed)
+    synced && closed
 }
 
 fn given_up(host: &Host, name: &[u8], beside: &[u8]) -> bool {
@@ -84,17 +74,14 @@ fn given_up(host: &Host, name: &[u8], beside: &[u8]) -> bool {
 
 fn finish_beside(host: &Host, fd: i32, name: &[u8], beside: &[u8]) -> bool {
     let synced = host.fsync(fd);
-    if !closed(host, fd, synced) {
-        return given_up(host, name, beside);
+    if closed(host, fd, synced) && host.rename(beside, name) {
+        return true;
     }
-    if host.rename(beside, name) < 0 {
-        return given_up(host, name, beside);
-    }
-    true
+    given_up(host, name, beside)
 }
 
 fn finish_there(host: &Host, fd: i32, name: &[u8]) -> bool {
-    let done = closed(host, fd, 0);
+    let done = host.close(fd);
     if !done {
         words::failed(host, name);
     }
@@ -102,7 +89,7 @@ fn finish_there(host: &Host, fd: i32, name: &[u8]) -> bool {
 }
 
 fn finish_whole(host: &Host, fd: i32, name: &[u8], beside: &[u8]) -> bool {
-    if beside.len() == 0 {
+    if beside.is_empty() {
         return finish_there(host, fd, name);
     }
     finish_beside(host, fd, name, beside)
@@ -128,20 +115,16 @@ fn finish_named(host: &Host, fd: i32, whole: bool, name: &[u8], beside: &[u8]) -
 
 // Whether the file stands now; `whole`: all of it was written.
 pub fn finish(host: &Host, b: Begun, whole: bool, word: usize, beside: &[u8]) -> bool {
-    let mut name = io::buffer();
-    let n = host.arg(word, &mut name);
-    let k = b.n;
-    if k <= beside.len() {
-        return finish_named(host, b.fd, whole, &name[..n], &beside[0..k]);
+    match beside.get(..b.n) {
+        Some(own) => finish_named(host, b.fd, whole, host.word(word).bytes(), own),
+        None => false,
     }
-    false
 }
 
 fn store_in(host: &Host, word: usize, bytes: &[u8], beside: &mut [u8]) -> bool {
-    let b = begin(host, word, beside);
-    if b.fd < 0 {
+    let Some(b) = begin(host, word, beside) else {
         return false;
-    }
+    };
     let whole = host.write_all(b.fd, bytes);
     finish(host, b, whole, word, beside)
 }

@@ -10,9 +10,7 @@ pub fn name(host: &Host, word: usize) {
     if words::is_input(host, word) {
         return say(host, b"standard input");
     }
-    let mut name = io::buffer();
-    let n = host.arg(word, &mut name);
-    say(host, &name[..n]);
+    say(host, host.word(word).bytes());
 }
 
 pub fn number(host: &Host, n: usize) {
@@ -21,6 +19,6 @@ pub fn number(host: &Host, n: usize) {
 
 // `45h`
 pub fn byte(host: &Host, b: u8) {
-    let d = text::hex(b);
-    say(host, &[d[0], d[1], b'h']);
+    let [high, low] = text::hex(b);
+    say(host, &[high, low, b'h']);
 }

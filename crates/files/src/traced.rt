@@ -24,19 +24,17 @@ pub fn begin(host: &Host, input: bool, name: &[u8]) {
 
 // A letter as it is, any other byte as its number.
 fn shown(host: &Host, b: u8) {
-    if (32 < b) & (b < 127) {
+    if b.is_ascii_graphic() {
         return say(host, &[b]);
     }
     byte(host, b);
 }
 
-fn is_digit(b: u8) -> bool {
-    text::value(b) < 10
-}
-
 fn headed(text: &[u8]) -> bool {
-    let digits = is_digit(parts::byte_at(text, 0)) & is_digit(parts::byte_at(text, 2));
-    digits & (parts::byte_at(text, 1) == b' ') & (parts::byte_at(text, 3) == b'\n')
+    match text {
+        [part, b' ', enable, b'\n', ..] => part.is_ascii_digit() && enable.is_ascii_digit(),
+        _ => false,
+    }
 }
 
 fn four(host: &Host, text: &[u8]) {
@@ -75,11 +73,11 @@ fn wrong_enable(host: &Host, text: &[u8]) {
 }
 
 fn of_pin(b: u8) -> bool {
-    (b == b'L') | (b == b'H') | (b == b'F')
+    matches!(b, b'L' | b'H' | b'F')
 }
 
 fn bad_letter(host: &Host, text: &[u8], k: usize) {
-    let b = parts::byte_at(text, std::num::wrapping_add_usize(k, HEAD));
+    let b = parts::byte_at(text, k.wrapping_add(HEAD));
     say(host, b"letter ");
     number(host, k);
     say(host, b": found ");
@@ -97,7 +95,7 @@ fn reason(host: &Host, text: &[u8], r: Refusal) {
     match r {
         Refusal::NoPart => no_part(host, text),
         Refusal::WrongEnable => wrong_enable(host, text),
-        Refusal::BadEvent(_) => bad_letter(host, text, parts::verdict_place(Verdict::Refused(r))),
+        Refusal::BadEvent(_) => bad_letter(host, text, parts::verdict_place(Err(r))),
         Refusal::TooMany => say(host, b"got more than 32768 letters, wanted no more"),
         _ => say(host, b"not as it should be"),
     }
@@ -120,9 +118,7 @@ pub fn tell(host: &Host, input: bool, name: &[u8], text: &[u8], r: Refusal) {
 
 // The letters' event codes, into a buffer of as many bytes.
 pub fn recode(letters: &[u8], events: &mut [u8]) {
-    let mut i = 0;
-    while i < events.len() {
-        events[i] = trace::code_of(parts::byte_at(letters, i));
-        i += 1;
+    for (event, letter) in events.iter_mut().zip(letters) {
+        *event = trace::code_of(*letter);
     }
 }

@@ -3,7 +3,7 @@ use crate::tell::{name, number, say};
 use host::Host;
 use parts::{Refusal, Verdict};
 
-// The lowest address that two records name, and the line of the earlier one; line 0 for none.
+// The lowest address that two records name, and the line of the earlier one.
 #[derive(Clone, Copy)]
 struct Lap {
     line: usize,
@@ -17,101 +17,47 @@ struct Span {
 }
 
 fn byte(host: &Host, x: u8) {
-    let d = text::hex(x);
-    say(host, &[d[0], d[1]]);
+    say(host, &text::hex(x));
 }
 
 // `1FFFh`. A record goes no further than 100FEh: an address of 16 bits, and 255 bytes.
 fn address(host: &Host, a: usize) {
-    let d = text::word(a);
     if 65535 < a {
         say(host, b"1");
     }
-    say(host, &[d[0], d[1], d[2], d[3], b'h']);
+    say(host, &text::word(a));
+    say(host, b"h");
 }
 
 // ---- lines
 
-// The sum is guarded for the proof alone.
-fn counted(k: usize, b: u8) -> usize {
-    if b == b'\n' {
-        if k < 16777216 {
-            return k + 1;
-        }
-    }
-    k
+// The line of this number, counted from 1, with its LF; none where the text ends before it.
+fn line_at(text: &[u8], line: usize) -> Option<&[u8]> {
+    text.split_inclusive(|b| *b == b'\n')
+        .nth(line.saturating_sub(1))
 }
 
-// Where a line begins, counted from 1; the end of the text where it has no such line.
-fn start_of(text: &[u8], line: usize) -> usize {
-    let mut k = 1;
-    let mut at = 0;
-    while at < text.len() {
-        if line <= k {
-            return at;
-        }
-        k = counted(k, text[at]);
-        at += 1;
+// Without its end: a CR directly before its LF is no part of it.
+fn bare(line: &[u8]) -> &[u8] {
+    match line {
+        [bare @ .., b'\r', b'\n'] | [bare @ .., b'\n'] => bare,
+        _ => line,
     }
-    at
-}
-
-// The LF behind a place, or the end of the text.
-fn line_end(text: &[u8], at: usize) -> usize {
-    let mut end = at;
-    while end < text.len() {
-        if text[end] == b'\n' {
-            return end;
-        }
-        end += 1;
-    }
-    end
-}
-
-// A CR directly before its LF is no part of the line.
-fn bare(text: &[u8], at: usize, end: usize) -> usize {
-    if at < end {
-        if parts::byte_at(text, end) == b'\n' {
-            if parts::byte_at(text, end - 1) == b'\r' {
-                return end - 1;
-            }
-        }
-    }
-    end
-}
-
-fn between(text: &[u8], at: usize, end: usize) -> &[u8] {
-    if at <= end {
-        if end <= text.len() {
-            return &text[at..end];
-        }
-    }
-    text
-}
-
-// The line that begins at a place, without its end.
-fn line_at(text: &[u8], at: usize) -> &[u8] {
-    let end = bare(text, at, line_end(text, at));
-    between(text, at, end)
 }
 
 // ---- records
 
 // How many bytes the digits behind the colon make.
 fn bytes_in(line: &[u8]) -> usize {
-    if line.len() < 1 {
-        return 0;
-    }
-    (line.len() - 1) / 2
+    line.len().saturating_sub(1) / 2
 }
 
 fn joined(high: u8, low: u8) -> u8 {
-    if high < 16 {
-        if low < 16 {
-            return high * 16 + low;
-        }
+    if high < 16 && low < 16 {
+        high * 16 + low
+    } else {
+        0
     }
-    0
 }
 
 // The i-th byte of a record: first the count, the address in two, the type. 0 beyond its end. The limit is for the proof alone: a record
@@ -150,27 +96,20 @@ fn span_in(line: &[u8]) -> Span {
 
 // `'x'`, or `0x0D` of a byte that cannot be shown.
 fn shown(host: &Host, b: u8) {
-    if b < 32 {
-        say(host, b"0x");
-        return byte(host, b);
+    if matches!(b, b' '..=b'~') {
+        return say(host, &[b'\'', b, b'\'']);
     }
-    if 126 < b {
-        say(host, b"0x");
-        return byte(host, b);
-    }
-    say(host, &[b'\'', b, b'\'']);
+    say(host, b"0x");
+    byte(host, b);
 }
 
-// The first byte behind the colon that is no digit; the line's length where all are.
-fn no_digit(line: &[u8]) -> usize {
-    let mut i = 1;
-    while i < line.len() {
-        if 15 < text::value(line[i]) {
-            return i;
-        }
-        i += 1;
-    }
-    line.len()
+// The first byte behind the colon that is no digit.
+fn no_digit(line: &[u8]) -> Option<usize> {
+    line.iter()
+        .enumerate()
+        .skip(1)
+        .find(|(_, b)| 15 < text::value(**b))
+        .map(|(i, _)| i)
 }
 
 fn stray(host: &Host, line: &[u8], i: usize, wanted: &[u8]) {
@@ -215,14 +154,13 @@ fn miscounted(host: &Host, line: &[u8]) {
 }
 
 fn malformed(host: &Host, line: &[u8]) {
-    if line.len() == 0 {
+    if line.is_empty() {
         return say(host, b"the line is empty, wanted a record");
     }
     if line[0] != b':' {
         return stray(host, line, 0, b"':'");
     }
-    let i = no_digit(line);
-    if i < line.len() {
+    if let Some(i) = no_digit(line) {
         return stray(host, line, i, b"a hexadecimal digit");
     }
     if line.len() % 2 == 0 {
@@ -235,13 +173,7 @@ fn malformed(host: &Host, line: &[u8]) {
 
 // The sum of the first n bytes.
 fn sum_of(line: &[u8], n: usize) -> u8 {
-    let mut sum = 0;
-    let mut i = 0;
-    while i < n {
-        sum = std::num::wrapping_add_u8(sum, byte_in(line, i));
-        i += 1;
-    }
-    sum
+    (0..n).fold(0u8, |sum, i| sum.wrapping_add(byte_in(line, i)))
 }
 
 fn missummed(host: &Host, line: &[u8]) {
@@ -250,63 +182,28 @@ fn missummed(host: &Host, line: &[u8]) {
         say(host, b"found sum ");
         byte(host, byte_in(line, n - 1));
         say(host, b", wanted ");
-        byte(host, std::num::wrapping_sub_u8(0, sum_of(line, n - 1)));
+        byte(host, sum_of(line, n - 1).wrapping_neg());
     }
 }
 
 // ---- 18, overlap, or beyond the array
 
-fn later(a: usize, b: usize) -> usize {
-    if a < b { b } else { a }
+// Where the record of a line meets another; a record of no bytes meets none.
+fn meet(a: Span, line: usize, b: Span) -> Option<Lap> {
+    if a.from < a.end && a.from < b.end && b.from < a.end {
+        let at = a.from.max(b.from);
+        return Some(Lap { line, at });
+    }
+    None
 }
 
-// Where the record of line k meets another; a record of no bytes meets none.
-fn meet(a: Span, k: usize, b: Span) -> Lap {
-    if a.from < a.end {
-        if a.from < b.end {
-            if b.from < a.end {
-                return Lap {
-                    line: k,
-                    at: later(a.from, b.from),
-                };
-            }
-        }
-    }
-    Lap { line: 0, at: 0 }
-}
-
-fn lower(a: Lap, b: Lap) -> Lap {
-    if b.line == 0 {
-        return a;
-    }
-    if a.line == 0 {
-        return b;
-    }
-    if b.at < a.at { b } else { a }
-}
-
-// Of the lines before a place, which are good records.
-fn first_lap(text: &[u8], stop: usize, span: Span) -> Lap {
-    let mut found = Lap { line: 0, at: 0 };
-    let mut k = 1;
-    let mut at = 0;
-    while at < stop {
-        let end = line_end(text, at);
-        if end < at {
-            return found;
-        }
-        if text.len() <= end {
-            return found;
-        }
-        found = lower(found, meet(span_in(line_at(text, at)), k, span));
-        k = counted(k, b'\n');
-        at = end + 1;
-    }
-    found
-}
-
-fn before(a: usize) -> usize {
-    if 0 < a { a - 1 } else { 0 }
+// Of the lines before one, which are good records.
+fn first_lap(text: &[u8], line: usize, span: Span) -> Option<Lap> {
+    text.split_inclusive(|b| *b == b'\n')
+        .enumerate()
+        .take(line.saturating_sub(1))
+        .filter_map(|(i, record)| meet(span_in(bare(record)), i.saturating_add(1), span))
+        .min_by_key(|lap| lap.at)
 }
 
 // A record of no bytes is beyond too, by its address.
@@ -318,17 +215,18 @@ fn beyond(host: &Host, span: Span, size: usize) {
         return address(host, size);
     }
     say(host, b"found bytes to ");
-    address(host, before(span.end));
+    address(host, span.end.saturating_sub(1));
     say(host, b", wanted none beyond ");
-    address(host, before(size));
+    address(host, size.saturating_sub(1));
 }
 
-fn misplaced(host: &Host, text: &[u8], at: usize, span: Span, part: u8) {
+fn misplaced(host: &Host, text: &[u8], line: usize, span: Span, part: u8) {
     let f = parts::facts_of(part);
     if f.size < span.end {
         return beyond(host, span, f.size);
     }
-    let found = first_lap(text, at, span);
+    let nowhere = Lap { line: 0, at: 0 };
+    let found = first_lap(text, line, span).unwrap_or(nowhere);
     say(host, b"found ");
     address(host, found.at);
     say(host, b", named by line ");
@@ -338,8 +236,8 @@ fn misplaced(host: &Host, text: &[u8], at: usize, span: Span, part: u8) {
 
 // ---- 19, the end
 
-fn endless(host: &Host, text: &[u8], at: usize) {
-    if at < text.len() {
+fn endless(host: &Host, rest: Option<&[u8]>) {
+    if rest.is_some() {
         return say(host, b"found text behind the end record, wanted none");
     }
     say(host, b"found the end of the text, wanted :00000001FF");
@@ -354,21 +252,22 @@ fn begin(host: &Host, word: usize, line: usize) {
     say(host, b": ");
 }
 
-fn reason(host: &Host, part: u8, text: &[u8], at: usize, r: Refusal) {
-    let line = line_at(text, at);
+fn reason(host: &Host, part: u8, text: &[u8], line: usize, r: Refusal) {
+    let found = line_at(text, line);
+    let record = bare(found.unwrap_or(b""));
     match r {
-        Refusal::BadRecord(_) => malformed(host, line),
-        Refusal::BadSum(_) => missummed(host, line),
-        Refusal::Misplaced(_) => misplaced(host, text, at, span_in(line), part),
-        Refusal::NoEnd(_) => endless(host, text, at),
+        Refusal::BadRecord(_) => malformed(host, record),
+        Refusal::BadSum(_) => missummed(host, record),
+        Refusal::Misplaced(_) => misplaced(host, text, line, span_in(record), part),
+        Refusal::NoEnd(_) => endless(host, found),
         _ => {}
     }
 }
 
 // The refusals of a text: the others have no line.
 pub(crate) fn tell(host: &Host, word: usize, part: u8, text: &[u8], r: Refusal) {
-    let line = parts::verdict_place(Verdict::Refused(r));
+    let line = parts::verdict_place(Err(r));
     begin(host, word, line);
-    reason(host, part, text, start_of(text, line), r);
+    reason(host, part, text, line, r);
     say(host, b"\n");
 }

@@ -1,4 +1,7 @@
 // The last error of the system: kept by its number, and told as the system tells it.
+ghost use Rattle.std.specs.Prelude.{◌≡◌};
+ghost use Rattle.std.specs.Result.{result_ok};
+
 use crate::line::Line;
 use crate::{Host, STDERR};
 use std::fmt::Write;
@@ -10,6 +13,9 @@ pub(crate) const BAD_DESCRIPTOR: i32 = 9;
 const NO_MEMORY: i32 = 12;
 
 pub(crate) const BUSY: i32 = 16;
+
+// What a file is refused with where one has its name.
+pub(crate) const EXISTS: i32 = 17;
 
 pub(crate) const INVALID: i32 = 22;
 
@@ -29,7 +35,7 @@ fn number_of_kind(kind: io::ErrorKind) -> i32 {
     }
 }
 
-pub(crate) fn number_of(error: io::Error) -> i32 {
+fn number_of(error: io::Error) -> i32 {
     match error.raw_os_error() {
         Some(code) => code,
         None => number_of_kind(error.kind()),
@@ -41,13 +47,15 @@ impl Host {
         self.error.set(code);
     }
 
-    // 0 or -1, as the C library answers.
-    pub(crate) fn settled(&self, done: io::Result<()>) -> i32 {
+    // What was asked of the system; none where it failed, and why is kept.
+    pub(crate) fn kept<T: Drop>(&self, done: io::Result<T>) -> Option<T>
+        ensures { result ≡ result_ok done }
+    {
         match done {
-            Ok(()) => 0,
+            Ok(value) => Some(value),
             Err(error) => {
                 self.keep(number_of(error));
-                -1
+                None
             }
         }
     }

@@ -1,8 +1,9 @@
 // Open files, each by its descriptor: what is read, written and closed.
+ghost use Rattle.std.specs.Prelude.{IfSome};
 ghost use Rattle.io.specs.Counts.{IsPrefixLen};
 ghost use Rattle.std.specs.Io.{ReadsAtMost};
 
-use crate::error::{BAD_DESCRIPTOR, BUSY, number_of};
+use crate::error::{BAD_DESCRIPTOR, BUSY};
 use crate::{Host, STDERR, STDIN, STDOUT};
 use std::fs::File;
 use std::io;
@@ -11,53 +12,41 @@ use std::io::{Print, Read, Write};
 // The descriptor of the first file that is opened.
 const FIRST: i32 = 3;
 
-const NO_FILE: usize = usize::MAX;
-
-fn index_of(fd: i32) -> usize {
-    if fd < FIRST {
-        return NO_FILE;
-    }
-    (fd - FIRST) as usize
+fn index_of(fd: i32) -> Option<usize> {
+    usize::try_from(fd.checked_sub(FIRST)?).ok()
 }
 
-fn descriptor_of(i: usize) -> i32 {
-    match i32::try_from(i) {
-        Ok(n) if n < 1000000 => n + FIRST,
-        _ => -1,
-    }
+fn descriptor_of(i: usize) -> Option<i32> {
+    i32::try_from(i).ok()?.checked_add(FIRST)
 }
 
 pub(crate) fn failed(code: i32) -> io::Error {
     io::Error::from_raw_os_error(code)
 }
 
-// Where no file stands, or the end.
-fn free(files: &[Option<File>]) -> usize {
-    let mut i = 0;
-    while i < files.len() {
-        if files[i].is_none() {
-            return i;
+// Where no file stands, or at the end.
+fn put(files: &mut Vec<Option<File>>, file: File) -> io::Result<usize> {
+    match files.iter().position(|f| f.is_none()) {
+        Some(i) => {
+            files[i] = Some(file);
+            Ok(i)
         }
-        i += 1;
+        None => {
+            files.push(Some(file))?;
+            Ok(files.len() - 1)
+        }
     }
-    i
 }
 
-fn put(files: &mut Vec<Option<File>>, file: File) -> io::Result<usize> {
-    let i = free(files);
-    if i < files.len() {
-        files[i] = Some(file);
-        return Ok(i);
+fn slot_at(files: &mut Vec<Option<File>>, fd: i32) -> io::Result<&mut Option<File>> {
+    match index_of(fd) {
+        Some(i) => files.get_mut(i).ok_or(failed(BAD_DESCRIPTOR)),
+        None => Err(failed(BAD_DESCRIPTOR)),
     }
-    files.push(Some(file))?;
-    Ok(i)
 }
 
 pub(crate) fn file_at(files: &mut Vec<Option<File>>, fd: i32) -> io::Result<&mut File> {
-    match files.get_mut(index_of(fd)) {
-        Some(Some(file)) => Ok(file),
-        _ => Err(failed(BAD_DESCRIPTOR)),
-    }
+    slot_at(files, fd)?.as_mut().ok_or(failed(BAD_DESCRIPTOR))
 }
 
 impl Host {
@@ -68,15 +57,9 @@ impl Host {
         }
     }
 
-    // The descriptor of a file that was opened, or -1.
-    pub(crate) fn taken(&self, opened: io::Result<File>) -> i32 {
-        match self.place(opened) {
-            Ok(i) => descriptor_of(i),
-            Err(error) => {
-                self.keep(number_of(error));
-                -1
-            }
-        }
+    // The descriptor of a file that was opened.
+    pub(crate) fn taken(&self, opened: io::Result<File>) -> Option<i32> {
+        descriptor_of(self.kept(self.place(opened))?)
     }
 }
 
@@ -107,28 +90,12 @@ impl Host {
         }
     }
 
-    // Reads some bytes to the start of the buffer: how many, 0 at the end of the file, or -1.
-    pub fn read(&self, fd: i32, buf: &mut [u8]) -> isize {
-        match self.read_some(fd, buf) {
-            Ok(n) => n.cast_signed(),
-            Err(error) => {
-                self.keep(number_of(error));
-                -1
-            }
-        }
-    }
-
-    // The same, where a read that failed has 0 bytes.
-    fn read_to(&self, fd: i32, buf: &mut [u8]) -> usize
-        ensures { IsPrefixLen result buf.new }
+    // Reads some bytes to the start of the buffer: how many, 0 at the end of the file.
+    pub fn read(&self, fd: i32, buf: &mut [u8]) -> Option<usize>
+        ensures { IfSome result (λ n. IsPrefixLen n buf.new) }
     {
-        match self.read_some(fd, buf) {
-            Ok(n) => n,
-            Err(error) => {
-                self.keep(number_of(error));
-                0
-            }
-        }
+        let got = self.read_some(fd, buf);
+        self.kept(got)
     }
 
     // Reads until the buffer is full, the input ends or a read fails: how many bytes stand at its start.
@@ -136,8 +103,9 @@ impl Host {
         ensures { IsPrefixLen result buf.new }
     {
         let mut done = 0;
+        // (a `while`, since no `for` goes on by what each turn has read)
         while done < buf.len() {
-            let n = self.read_to(fd, &mut buf[done..]);
+            let n = self.read(fd, &mut buf[done..]).unwrap_or(0);
             if n == 0 {
                 break;
             }
@@ -167,7 +135,7 @@ impl Host {
 
     // Whether all of the bytes were written.
     pub fn write_all(&self, fd: i32, bytes: &[u8]) -> bool {
-        0 <= self.settled(self.write_some(fd, bytes))
+        self.kept(self.write_some(fd, bytes)).is_some()
     }
 }
 
@@ -181,26 +149,23 @@ impl Host {
         }
     }
 
-    // What was written to the file is on its disk: 0, or -1.
-    pub fn fsync(&self, fd: i32) -> i32 {
-        self.settled(self.synced(fd))
+    // Whether what was written to the file is on its disk.
+    pub fn fsync(&self, fd: i32) -> bool {
+        self.kept(self.synced(fd)).is_some()
     }
 
     fn closed(&self, fd: i32) -> io::Result<()> {
         match self.files.try_borrow_mut() {
-            Ok(mut files) => match files.get_mut(index_of(fd)) {
-                Some(slot) => {
-                    *slot = None;
-                    Ok(())
-                }
-                None => Err(failed(BAD_DESCRIPTOR)),
-            },
+            Ok(mut files) => {
+                *slot_at(&mut files, fd)? = None;
+                Ok(())
+            }
             Err(_) => Err(failed(BUSY)),
         }
     }
 
-    // 0, or -1.
-    pub fn close(&self, fd: i32) -> i32 {
-        self.settled(self.closed(fd))
+    // Whether it was done.
+    pub fn close(&self, fd: i32) -> bool {
+        self.kept(self.closed(fd)).is_some()
     }
 }

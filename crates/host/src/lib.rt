@@ -12,6 +12,7 @@ mod words;
 
 use std::cell::{Cell, RefCell};
 use std::fs::File;
+pub use words::Word;
 
 // Descriptors of the standard streams; a file that is opened has a higher one.
 pub const STDIN: i32 = 0;

@@ -1,4 +1,6 @@
 // A line that is written into memory, and holds as much as there is room for.
+ghost use Rattle.std.specs.Prelude.{◌≤◌};
+
 use std::fmt;
 
 const MOST: usize = 128;
@@ -6,43 +8,34 @@ const MOST: usize = 128;
 #[derive(Drop)]
 pub(crate) struct Line {
     bytes: [u8; 128],
-    n: usize,
+    length: usize,
+    ghost fits: { length ≤ 128 },
 }
 
 impl Line {
     pub(crate) fn new() -> Line {
         Line {
             bytes: [0; 128],
-            n: 0,
+            length: 0,
         }
     }
 
     fn push(&mut self, b: u8) {
-        if self.n < MOST {
-            self.bytes[self.n] = b;
-            self.n += 1;
+        if self.length < MOST {
+            self.bytes[self.length] = b;
+            self.length += 1;
         }
     }
 
-    // Where the last ` (` stands, or the end: behind it an error tells its number.
-    fn end(&self) -> usize {
-        let mut i = self.n;
-        while 1 < i {
-            i -= 1;
-            if i < MOST && self.bytes[i] == b'(' {
-                return i - 1;
-            }
-        }
-        self.n
+    fn written(&self) -> &[u8] {
+        &self.bytes[..self.length]
     }
 
-    // Without the number.
+    // Up to the last ` (`: behind it an error tells its number.
     pub(crate) fn unnumbered(&self) -> &[u8] {
-        let n = self.end();
-        if n <= MOST {
-            return &self.bytes[..n];
-        }
-        &self.bytes
+        let all = self.written();
+        let number = all.iter().rposition(|b| *b == b'(').unwrap_or(0);
+        if number == 0 { all } else { &all[..number - 1] }
     }
 }
 

@@ -1,6 +1,6 @@
 // Files by name. A name is bytes; one that is no UTF-8 is refused, since std takes text.
 use crate::Host;
-use crate::error::{INVALID, NO_TEXT, number_of};
+use crate::error::{EXISTS, INVALID, NO_TEXT};
 use std::fs::OpenOptions;
 use std::{fs, io};
 
@@ -13,14 +13,7 @@ fn number_of_name(name: &[u8]) -> i32 {
 }
 
 fn text_of(name: &[u8]) -> io::Result<&str> {
-    match std::str::from_utf8(name) {
-        Ok(text) => Ok(text),
-        Err(_) => Err(io::Error::from_raw_os_error(number_of_name(name))),
-    }
-}
-
-fn exists(code: i32) -> bool {
-    code == 17
+    std::str::from_utf8(name).map_err(|_| io::Error::from_raw_os_error(number_of_name(name)))
 }
 
 // A letter or a digit.
@@ -32,71 +25,60 @@ fn letter(n: u32) -> u8 {
 // Puts the number in place of the last six bytes.
 fn spell(name: &mut [u8], number: u32) {
     let mut rest = number;
-    let mut k = 0;
-    while k < 6 {
-        k += 1;
-        if k <= name.len() {
-            let at = name.len() - k;
-            name[at] = letter(rest);
-        }
+    for byte in name.iter_mut().rev().take(6) {
+        *byte = letter(rest);
         rest /= 36;
     }
 }
 
 impl Host {
-    fn opened(&self, how: &OpenOptions, name: &[u8]) -> i32 {
-        match text_of(name) {
-            Ok(text) => self.taken(how.open(&self.rt, text)),
-            Err(error) => {
-                self.keep(number_of(error));
-                -1
-            }
-        }
+    fn opened(&self, how: &OpenOptions, name: &[u8]) -> Option<i32> {
+        let text = self.kept(text_of(name))?;
+        self.taken(how.open(&self.rt, text))
     }
 
-    // Opens the file for reading: its descriptor, or -1.
-    pub fn open_read(&self, name: &[u8]) -> i32 {
+    // Opens the file for reading: its descriptor.
+    pub fn open_read(&self, name: &[u8]) -> Option<i32> {
         let mut how = OpenOptions::new();
         how.read(true);
         self.opened(&how, name)
     }
 
-    // Opens the file for writing and empties it, or makes it where it is missing: its descriptor, or -1.
-    pub fn open_overwrite(&self, name: &[u8]) -> i32 {
+    // Opens the file for writing and empties it, or makes it where it is missing: its descriptor.
+    pub fn open_overwrite(&self, name: &[u8]) -> Option<i32> {
         let mut how = OpenOptions::new();
         how.write(true).create(true).truncate(true);
         self.opened(&how, name)
     }
 
-    // Makes the file: its descriptor, open for writing, or -1, as where the name is taken.
-    pub fn create(&self, name: &[u8]) -> i32 {
+    // Makes the file, which no name may have yet: its descriptor, open for writing.
+    pub fn create(&self, name: &[u8]) -> Option<i32> {
         let mut how = OpenOptions::new();
         how.write(true).create_new(true);
         self.opened(&how, name)
     }
 
-    // Makes a file under a name that no file has: the last six bytes are replaced. Its descriptor, or -1.
-    pub fn create_temp(&self, name: &mut [u8]) -> i32 {
+    // Makes a file under a name that no file has: the last six bytes are replaced. Its descriptor.
+    pub fn create_temp(&self, name: &mut [u8]) -> Option<i32> {
         let first = std::process::id(self.rt.process());
-        let mut fd = -1;
         for i in 0..TRIES {
             spell(name, first.wrapping_mul(TRIES).wrapping_add(i));
-            fd = self.create(name);
-            if 0 <= fd || !exists(self.errno()) {
-                return fd;
+            let made = self.create(name);
+            if made.is_some() || self.errno() != EXISTS {
+                return made;
             }
         }
-        fd
+        None
     }
 
-    // 0, or -1.
-    pub fn rename(&self, from: &[u8], to: &[u8]) -> i32 {
-        self.settled(renamed(self.rt, from, to))
+    // Whether it was done.
+    pub fn rename(&self, from: &[u8], to: &[u8]) -> bool {
+        self.kept(renamed(self.rt, from, to)).is_some()
     }
 
-    // 0, or -1.
-    pub fn unlink(&self, name: &[u8]) -> i32 {
-        self.settled(unlinked(self.rt, name))
+    // Whether it was done.
+    pub fn unlink(&self, name: &[u8]) -> bool {
+        self.kept(unlinked(self.rt, name)).is_some()
     }
 }
 

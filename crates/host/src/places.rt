@@ -1,5 +1,5 @@
 // Where a file is read: what can be read for a second time, and from where.
-use crate::error::{BUSY, INVALID, number_of};
+use crate::error::{BUSY, INVALID};
 use crate::files::{failed, file_at};
 use crate::{Host, STDIN};
 use std::fs::File;
@@ -15,18 +15,12 @@ const NO_PLACE: i32 = 29;
 
 // The number behind the first blanks: the system writes `pos:`, a tab and the number in the first line.
 fn first_number(facts: &[u8]) -> u64 {
-    let mut n = 0u64;
-    let mut seen = false;
-    for b in facts {
-        let d = text::value(*b);
-        if d < 10 {
-            seen = true;
-            n = n.wrapping_mul(10).wrapping_add(u64::from(d));
-        } else if seen {
-            return n;
-        }
-    }
-    n
+    facts
+        .iter()
+        .map(|b| text::value(*b))
+        .skip_while(|d| 9 < *d)
+        .take_while(|d| *d < 10)
+        .fold(0u64, |n, d| n.wrapping_mul(10).wrapping_add(u64::from(d)))
 }
 
 // Standard input, opened once more.
@@ -46,14 +40,9 @@ fn input_place(rt: HostRuntime) -> io::Result<u64> {
     Ok(first_number(&text[..n]))
 }
 
-fn moved(file: &mut File, from: i64) -> io::Result<()> {
-    match u64::try_from(from) {
-        Ok(place) => {
-            file.seek(SeekFrom::Start(place))?;
-            Ok(())
-        }
-        Err(_) => Err(failed(INVALID)),
-    }
+fn moved(file: &mut File, from: u64) -> io::Result<()> {
+    file.seek(SeekFrom::Start(from))?;
+    Ok(())
 }
 
 impl Host {
@@ -67,19 +56,13 @@ impl Host {
         }
     }
 
-    // Where the file is read next; -1 of what has no such place, as a pipe.
-    pub fn position(&self, fd: i32) -> i64 {
-        match self.place_of(fd) {
-            Ok(place) => place.cast_signed(),
-            Err(error) => {
-                self.keep(number_of(error));
-                -1
-            }
-        }
+    // Where the file is read next; none of what has no such place, as a pipe.
+    pub fn position(&self, fd: i32) -> Option<u64> {
+        self.kept(self.place_of(fd))
     }
 
     // From then on standard input is read by a file of its own.
-    fn input_moved(&self, from: i64) -> io::Result<()> {
+    fn input_moved(&self, from: u64) -> io::Result<()> {
         let mut file = input_again(self.rt)?;
         moved(&mut file, from)?;
         match self.again.try_borrow_mut() {
@@ -91,18 +74,20 @@ impl Host {
         }
     }
 
-    fn file_moved(&self, fd: i32, from: i64) -> io::Result<()> {
+    fn file_moved(&self, fd: i32, from: u64) -> io::Result<()> {
         match self.files.try_borrow_mut() {
             Ok(mut files) => moved(file_at(&mut files, fd)?, from),
             Err(_) => Err(failed(BUSY)),
         }
     }
 
-    // The file is read from this place on: 0, or -1.
-    pub fn seek(&self, fd: i32, from: i64) -> i32 {
-        if fd == STDIN {
-            return self.settled(self.input_moved(from));
-        }
-        self.settled(self.file_moved(fd, from))
+    // Whether the file is read from this place on.
+    pub fn seek(&self, fd: i32, from: u64) -> bool {
+        let moved = if fd == STDIN {
+            self.input_moved(from)
+        } else {
+            self.file_moved(fd, from)
+        };
+        self.kept(moved).is_some()
     }
 }

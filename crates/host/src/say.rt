@@ -19,10 +19,7 @@ impl Host {
     // At most 20 spaces.
     fn spaces(&self, n: usize) -> bool {
         let blank = [b' '; 20];
-        if n <= 20 {
-            return self.say(&blank[0..n]);
-        }
-        self.say(&blank)
+        self.say(&blank[..n.min(20)])
     }
 
     // A number at the right end of so many columns.
@@ -37,13 +34,13 @@ impl Host {
 
     // `5Ah`
     pub fn say_byte(&self, x: u8) -> bool {
-        let d = text::hex(x);
-        self.say(&[d[0], d[1], b'h'])
+        let [high, low] = text::hex(x);
+        self.say(&[high, low, b'h'])
     }
 
     // `01FEh`
     pub fn say_address(&self, a: usize) -> bool {
-        let d = text::word(a);
-        self.say(&[d[0], d[1], d[2], d[3], b'h'])
+        let [first, second, third, fourth] = text::word(a);
+        self.say(&[first, second, third, fourth, b'h'])
     }
 }

@@ -6,6 +6,7 @@ pub mod show;
 use files::shape;
 use host::Host;
 use image::Saved;
+use image_worn::LoadedWorn;
 use parts::{Refusal, Verdict};
 use words::answer;
 use words::answer::{number, say};
@@ -18,66 +19,47 @@ fn refuse(host: &Host, word: usize, bytes: &[u8], r: Refusal) -> bool {
     shape::tell(host, word, bytes);
     files::tell::say(host, b"\n");
     let told = answer::refused(host, r);
-    if parts::number(r) == parts::number(Refusal::NoPart) {
-        return answer::no_part(host, told);
+    match r {
+        Refusal::NoPart => answer::no_part(host, told),
+        _ => answer::no_image(host, told),
     }
-    answer::no_image(host, told)
 }
 
 // ---- what an image holds
 
-// Every part has the enable 0.
-fn load(
-    host: &Host,
-    word: usize,
-    bytes: &[u8],
-    array: &mut [u8],
-    id: &mut [u8],
-    counts: &mut [u32],
-) -> bool {
-    let l = image_worn::load_worn(bytes, 0, array, id, counts);
-    let loaded = l.loaded;
-    let verdict = loaded.verdict;
-    match verdict {
-        Verdict::Fine => show::info(host, bytes, l.worst, counts),
-        Verdict::Refused(r) => refuse(host, word, bytes, r),
-    }
-}
-
-fn info_of(host: &Host, word: usize, bytes: &[u8]) -> bool {
+// What an image holds; its counts are put into those that are lent, of which there are as many as its part has groups. Every part has the
+// enable 0.
+fn load(bytes: &[u8], counts: &mut [u32]) -> LoadedWorn {
     let part = image::part_in(bytes);
     let mut array = [0u8; 32768];
     let mut id = [0u8; 64];
-    let mut counts = [0u32; 8192];
-    load(
-        host,
-        word,
+    image_worn::load_worn(
         bytes,
+        0,
         fitted::array(part, &mut array),
         fitted::id(part, &mut id),
-        fitted::counts(part, &mut counts),
+        counts,
     )
+}
+
+fn info_of(host: &Host, word: usize, bytes: &[u8]) -> bool {
+    let mut room = [0u32; 8192];
+    let counts = fitted::counts(image::part_in(bytes), &mut room);
+    let l = load(bytes, counts);
+    match l.loaded.verdict {
+        Ok(()) => show::info(host, bytes, l.worst, counts),
+        Err(r) => refuse(host, word, bytes, r),
+    }
 }
 
 // ---- a version made into the other
 
-fn worn_with(bytes: &[u8], array: &mut [u8], id: &mut [u8], counts: &mut [u32]) -> usize {
-    image_worn::load_worn(bytes, 0, array, id, counts);
-    show::worn(counts)
-}
-
 // How many groups of an image are worn.
 fn worn_in(bytes: &[u8]) -> usize {
-    let part = image::part_in(bytes);
-    let mut array = [0u8; 32768];
-    let mut id = [0u8; 64];
-    let mut counts = [0u32; 8192];
-    worn_with(
-        bytes,
-        fitted::array(part, &mut array),
-        fitted::id(part, &mut id),
-        fitted::counts(part, &mut counts),
-    )
+    let mut room = [0u32; 8192];
+    let counts = fitted::counts(image::part_in(bytes), &mut room);
+    load(bytes, counts);
+    show::worn(counts)
 }
 
 // `refused 21: `
@@ -111,18 +93,12 @@ fn name(host: &Host, ok: bool, word: usize) -> bool {
     if words::is_input(host, word) {
         return say(host, ok, b"standard input");
     }
-    let mut text = io::buffer();
-    let n = host.arg(word, &mut text);
-    say(host, ok, &text[..n])
+    say(host, ok, host.word(word).bytes())
 }
 
-fn already(host: &Host, asked: Imaging) -> bool {
-    let named = name(host, refused(host, Refusal::BadImage), asked.file);
-    let told = number(
-        host,
-        say(host, named, b" is version "),
-        text::wide(asked.version),
-    );
+fn already(host: &Host, file: usize, version: u8) -> bool {
+    let named = name(host, refused(host, Refusal::BadImage), file);
+    let told = number(host, say(host, named, b" is version "), text::wide(version));
     say(host, told, b" already\n")
 }
 
@@ -131,92 +107,59 @@ fn formed(version: u8, bytes: &[u8]) -> bool {
     image::formed(version, shape::length_of(version, part), part, bytes)
 }
 
-fn unmade(host: &Host, asked: Imaging, bytes: &[u8], r: Refusal) -> bool {
-    let n = parts::number(r);
-    if n == parts::number(Refusal::CountsLost) {
-        return lost(host, worn_in(bytes));
+fn unmade(host: &Host, file: usize, version: u8, bytes: &[u8], r: Refusal) -> bool {
+    match r {
+        Refusal::CountsLost => lost(host, worn_in(bytes)),
+        Refusal::BadImage if formed(version, bytes) => already(host, file, version),
+        _ => refuse(host, file, bytes, r),
     }
-    if n == parts::number(Refusal::BadImage) {
-        if formed(asked.version, bytes) {
-            return already(host, asked);
-        }
-    }
-    refuse(host, asked.file, bytes, r)
 }
 
 // The file stands before anything is told.
-fn made(host: &Host, asked: Imaging, bytes: &[u8]) -> bool {
-    if files::store::store(host, asked.out, bytes) {
-        let told = number(
-            host,
-            say(host, true, b"version "),
-            text::wide(asked.version),
-        );
-        return say(
-            host,
-            number(host, say(host, told, b", "), bytes.len()),
-            b" bytes\n",
-        );
+fn made(host: &Host, out: usize, version: u8, bytes: &[u8]) -> bool {
+    if !files::store::store(host, out, bytes) {
+        return false;
     }
-    false
+    let told = number(host, say(host, true, b"version "), text::wide(version));
+    say(
+        host,
+        number(host, say(host, told, b", "), bytes.len()),
+        b" bytes\n",
+    )
 }
 
 fn converted(version: u8, bytes: &[u8], out: &mut [u8]) -> Saved {
     if version == 1 {
-        return image_worn::to_plain(bytes, out);
-    }
-    image_worn::to_worn(bytes, out)
-}
-
-fn convert_in(host: &Host, asked: Imaging, bytes: &[u8], out: &mut [u8]) -> bool {
-    let saved = converted(asked.version, bytes, out);
-    let verdict = saved.verdict;
-    let n = saved.length;
-    match verdict {
-        Verdict::Fine => {
-            if n <= out.len() {
-                return made(host, asked, &out[0..n]);
-            }
-            false
-        }
-        Verdict::Refused(r) => unmade(host, asked, bytes, r),
+        image_worn::to_plain(bytes, out)
+    } else {
+        image_worn::to_worn(bytes, out)
     }
 }
 
 // The largest image fits.
-fn convert(host: &Host, asked: Imaging, bytes: &[u8]) -> bool {
-    let mut out = [0u8; shape::ROOM];
-    convert_in(host, asked, bytes, &mut out)
-}
-
-// ---- the file
-
-fn work_on(host: &Host, asked: Imaging, bytes: &[u8]) -> bool {
-    if asked.converts {
-        return convert(host, asked, bytes);
+fn convert(host: &Host, file: usize, out: usize, version: u8, bytes: &[u8]) -> bool {
+    let mut room = [0u8; shape::ROOM];
+    let saved = converted(version, bytes, &mut room);
+    let n = saved.length;
+    match saved.verdict {
+        Ok(()) => n <= room.len() && made(host, out, version, &room[..n]),
+        Err(r) => unmade(host, file, version, bytes, r),
     }
-    info_of(host, asked.file, bytes)
-}
-
-fn read(host: &Host, asked: Imaging, bytes: &mut [u8]) -> bool {
-    let got = files::contents(host, asked.file, bytes);
-    let n = got.n;
-    if got.ok {
-        if n <= bytes.len() {
-            return work_on(host, asked, &bytes[0..n]);
-        }
-    }
-    false
 }
 
 // ---- the command: `next` is the first word behind `image`, and the words end before `end`
 
 // False where nothing, or not all, could be answered: standard error has the reason.
 pub fn image_command(host: &Host, next: usize, end: usize) -> bool {
-    let asked = words::imaging::asked(host, next, end);
-    if !asked.ok {
+    let Some(asked) = words::imaging::asked(host, next, end) else {
         return false;
+    };
+    let mut room = [0u8; shape::ROOM];
+    let Some(bytes) = files::contents(host, asked.file(), &mut room) else {
+        return false;
+    };
+    match asked {
+        Imaging::Info { file } => info_of(host, file, bytes),
+        Imaging::Convert { file, out, version } => convert(host, file, out, version, bytes),
     }
-    let mut bytes = [0u8; shape::ROOM];
-    read(host, asked, &mut bytes)
 }

@@ -14,25 +14,9 @@ pub fn big(host: &Host, ok: bool, n: u64) -> bool {
     say(host, ok, &text[..k])
 }
 
-// The limit is for the proof alone.
-fn counted(n: usize, count: u32) -> usize {
-    if 0 < count {
-        if n < 65536 {
-            return n + 1;
-        }
-    }
-    n
-}
-
 // How many groups are worn.
 pub fn worn(counts: &[u32]) -> usize {
-    let mut n = 0;
-    let mut i = 0;
-    while i < counts.len() {
-        n = counted(n, counts[i]);
-        i += 1;
-    }
-    n
+    counts.iter().filter(|count| 0 < **count).count()
 }
 
 // ---- an image
@@ -49,9 +33,10 @@ pub fn part_named(host: &Host, ok: bool, part: u8, between: &[u8]) -> bool {
 
 fn lock(host: &Host, ok: bool, locked: bool) -> bool {
     if locked {
-        return say(host, ok, b", locked, ");
+        say(host, ok, b", locked, ")
+    } else {
+        say(host, ok, b", unlocked, ")
     }
-    say(host, ok, b", unlocked, ")
 }
 
 fn head(host: &Host, version: u8, image: &[u8]) -> bool {
@@ -75,15 +60,14 @@ fn most(host: &Host, ok: bool, size: usize, worst: Most) -> bool {
 fn tally(host: &Host, ok: bool, part: u8, worst: Most, counts: &[u32]) -> bool {
     let f = parts::facts_of(part);
     let r = wear::report(part, counts);
-    let verdict = r.verdict;
-    match verdict {
-        Verdict::Fine => {
+    match r.verdict {
+        Ok(()) => {
             let one = number(host, say(host, ok, b"worn groups "), worn(counts));
             let two = big(host, say(host, one, b", total "), r.total);
             let three = most(host, or_more(host, two, worst.count), f.group, worst);
             say(host, three, b"\n")
         }
-        Verdict::Refused(_) => false,
+        Err(_) => false,
     }
 }
 

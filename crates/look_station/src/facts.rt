@@ -5,16 +5,19 @@ use words::answer::{number, say};
 
 fn addressed(host: &Host, ok: bool, wide: bool) -> bool {
     if wide {
-        return say(host, ok, b", 2 address bytes");
+        say(host, ok, b", 2 address bytes")
+    } else {
+        say(host, ok, b", 1 address byte")
     }
-    say(host, ok, b", 1 address byte")
 }
 
 fn has(host: &Host, ok: bool, there: bool, what: &[u8]) -> bool {
-    if there {
-        return say(host, say(host, ok, b", "), what);
-    }
-    say(host, say(host, ok, b", no "), what)
+    let named = if there {
+        say(host, ok, b", ")
+    } else {
+        say(host, ok, b", no ")
+    };
+    say(host, named, what)
 }
 
 fn enabled(host: &Host, ok: bool, enables: u8) -> bool {

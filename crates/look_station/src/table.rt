@@ -17,23 +17,15 @@ fn left(host: &Host, ok: bool, name: &[u8]) -> bool {
 
 fn named(host: &Host, ok: bool, part: u8) -> bool {
     let name = parts::name_of(part);
-    let bytes = name.bytes;
-    let n = name.length;
-    left(host, ok, &bytes[..n])
+    left(host, ok, &name.bytes[..name.length])
 }
 
-fn ident(host: &Host, ok: bool, there: bool) -> bool {
+fn has(host: &Host, ok: bool, there: bool) -> bool {
     if there {
-        return say(host, ok, b" yes   ");
+        say(host, ok, b"yes ")
+    } else {
+        say(host, ok, b"no  ")
     }
-    say(host, ok, b" no    ")
-}
-
-fn pin(host: &Host, ok: bool, there: bool) -> bool {
-    if there {
-        return say(host, ok, b"yes ");
-    }
-    say(host, ok, b"no  ")
 }
 
 fn enables(host: &Host, ok: bool, n: u8) -> bool {
@@ -61,32 +53,23 @@ fn line(host: &Host, ok: bool, part: u8) -> bool {
         parts::address_bytes(f),
         8,
     );
-    enables(
-        host,
-        pin(host, ident(host, three, f.ident), f.pin),
-        f.enables,
-    )
-}
-
-fn known(part: u8) -> bool {
-    let f = parts::facts_of(part);
-    f.known
+    let four = has(host, say(host, three, b" "), f.ident);
+    let five = has(host, say(host, four, b"  "), f.pin);
+    enables(host, five, f.enables)
 }
 
 // The parts are numbered from 0 on.
 pub(crate) fn tell(host: &Host) -> bool {
-    let mut ok = say(
+    let mut told = say(
         host,
         true,
         b"part name        array page group address ident pin enables\n",
     );
-    let mut part = 0;
-    while part < 255 {
-        if !known(part) {
-            return ok;
+    for part in 0..u8::MAX {
+        if !parts::facts_of(part).known {
+            break;
         }
-        ok = line(host, ok, part);
-        part += 1;
+        told = line(host, told, part);
     }
-    ok
+    told
 }

@@ -2,11 +2,13 @@
 // each Stop that begins a cycle a copy of the chip loses its power. Also what `write --cut` shares with it.
 #![tactic(auto)]
 
+pub mod board;
 pub mod cut;
 
 ghost use Rattle.std.specs.Prelude.{◌≡◌, length};
 
-use cut::Under;
+use bench::Recorded;
+use board::{Board, Under};
 use driver::{Place, Request};
 use host::Host;
 use parts::{ArrayAddress, IdLocation, Verdict};
@@ -18,37 +20,12 @@ use words::{Job, answer, report};
 // more than a dozen times.
 pub const TAPE: usize = 393216;
 
-// What a run reports, and how many events it sent.
-#[derive(Clone, Copy)]
-pub struct Ended {
-    pub verdict: Verdict,
-    pub bytes: usize,
-    pub polls: usize,
-    pub cycles: usize,
-    pub clocks: usize,
-    pub sent: usize,
-}
-
-// What a chip answers to an event, and whether that begins a cycle.
-#[derive(Clone, Copy)]
-pub struct Taken {
-    pub level: u8,
-    pub begins: bool,
-}
-
-// The bytes that a write asks for, and where.
-#[derive(Clone, Copy)]
-struct Asked {
-    part: u8,
-    enable: u8,
-    at: usize,
-    length: usize,
-}
+// The most bytes that a request can be for: one more than any array has.
+const MOST: usize = 32769;
 
 // What was told: the pages, the bytes that may be spoiled, and those of them that are beside.
 #[derive(Clone, Copy)]
 struct Told {
-    ok: bool,
     pages: usize,
     bytes: usize,
     beside: usize,
@@ -64,84 +41,29 @@ pub fn tape() -> [u8; 393216]
 
 fn place(ident: bool, at: usize) -> Place {
     if ident {
-        return Place::Ident(IdLocation(at));
+        Place::Ident(IdLocation(at))
+    } else {
+        Place::Array(ArrayAddress(at))
     }
-    Place::Array(ArrayAddress(at))
 }
 
 // More than any array has is refused as one byte more is; so the buffer is never what a request is refused for.
-fn limited(length: usize) -> usize {
-    if length < 32769 { length } else { 32769 }
-}
-
 pub fn request(job: Job) -> Request {
     Request {
         part: job.part,
         enable: job.enable,
         place: place(job.ident, job.at),
         reads: job.reads,
-        length: limited(job.length),
+        length: job.length.min(MOST),
         budget: job.budget,
     }
 }
 
 pub fn ground(job: Job) -> Ground {
-    let f = parts::facts_of(job.part);
     Ground {
-        page: f.page,
+        page: parts::facts_of(job.part).page,
         ident: job.ident,
         from: job.at,
-    }
-}
-
-// Driver and chip together; the chip is held as its bytes.
-pub fn recorded(
-    job: Job,
-    held: &mut [u8],
-    array: &mut [u8],
-    id: &mut [u8],
-    data: &mut [u8],
-    events: &mut [u8],
-    levels: &mut [u8],
-) -> Ended {
-    let run = bench::record(
-        request(job),
-        job.own,
-        job.ends,
-        pack_chip::unpack(held),
-        array,
-        id,
-        data,
-        events,
-        levels,
-    );
-    let told = run.report;
-    let verdict = told.verdict;
-    pack_chip::pack(told.chip, held);
-    Ended {
-        verdict: verdict,
-        bytes: told.bytes,
-        polls: told.polls,
-        cycles: told.cycles,
-        clocks: told.clocks,
-        sent: run.sent,
-    }
-}
-
-// One event of a tape; its chip was judged when the tape was made.
-pub fn take(
-    part: u8,
-    enable: u8,
-    code: u8,
-    held: &mut [u8],
-    array: &mut [u8],
-    id: &mut [u8],
-) -> Taken {
-    let s = chip::take(part, enable, pack_chip::unpack(held), array, id, code);
-    pack_chip::pack(s.chip, held);
-    Taken {
-        level: s.level,
-        begins: 0 < s.cycles,
     }
 }
 
@@ -172,248 +94,121 @@ fn beside(host: &Host, ok: bool, n: usize) -> bool {
     say(host, told, b" beside those written\n")
 }
 
-// Guarded for the proof alone: no array has so many bytes.
-fn sum(n: usize, more: usize) -> usize {
-    if n < 65536 {
-        if more < 65536 {
-            return n + more;
-        }
-    }
-    n
-}
-
-// `0024h..0027h, 2 bytes beside those written`
-fn spoiled(host: &Host, a: Asked, w: Told, before: &[u8], after: &[u8]) -> Told {
+// `0024h..0027h, 2 bytes beside those written`, where what stands before it was told. Nothing where standard output did not take it.
+fn spoiled(host: &Host, job: Job, ok: bool, w: Told, before: &[u8], after: &[u8]) -> Option<Told> {
     let all = cut::differing(before, after, 0, 0);
-    let more = cut::differing(before, after, a.at, a.length);
-    Told {
-        ok: beside(host, answer::spans(host, w.ok, before, after), more),
-        pages: cut::counted(w.pages, true),
-        bytes: sum(w.bytes, all),
-        beside: sum(w.beside, more),
-        ..w
-    }
+    let more = cut::differing(before, after, job.at, job.length);
+    let told = beside(host, answer::spans(host, ok, before, after), more);
+    told.then_some(Told {
+        pages: w.pages.saturating_add(1),
+        bytes: w.bytes.saturating_add(all),
+        beside: w.beside.saturating_add(more),
+    })
 }
 
-fn named(host: &Host, a: Asked, w: Told, p: usize) -> Told {
-    let f = parts::facts_of(a.part);
-    let told = say(host, w.ok, b"page ");
+// `page 0020h: `
+fn named(host: &Host, part: u8, p: usize) -> bool {
+    let f = parts::facts_of(part);
+    let told = say(host, true, b"page ");
     let placed = answer::address(host, told, report::first_of(p, f.page));
-    Told {
-        ok: say(host, placed, b": "),
-        ..w
-    }
-}
-
-fn named_ident(host: &Host, w: Told) -> Told {
-    Told {
-        ok: say(host, w.ok, b"identification page: "),
-        ..w
-    }
+    say(host, placed, b": ")
 }
 
 fn totals(host: &Host, w: Told) -> bool {
-    let pages = number(host, say(host, w.ok, b"pages "), w.pages);
+    let pages = number(host, say(host, true, b"pages "), w.pages);
     let bytes = number(host, say(host, pages, b" bytes "), w.bytes);
     count(host, bytes, b" beside ", w.beside)
 }
 
 // ---- the run
 
-// The two memories of a chip, copied.
-pub fn copy(array: &[u8], id: &[u8], other: &mut [u8], other_id: &mut [u8]) {
-    files::extend(other, 0, array);
-    files::extend(other_id, 0, id);
-}
-
 // The copy loses its power.
-fn lose_page(
-    a: Asked,
-    held: &[u8],
-    array: &[u8],
-    id: &[u8],
-    other: &mut [u8],
-    other_id: &mut [u8],
-    page: &mut [u8],
-) {
-    cut::turned(a.part, pack_chip::unpack(held), array, id, page);
-    cut::lose(
-        a.part,
-        a.enable,
-        false,
-        page,
-        pack_chip::unpack(held),
-        other,
-        other_id,
-    );
-}
-
-fn lose_with(
-    a: Asked,
-    held: &[u8],
-    array: &[u8],
-    id: &[u8],
-    other: &mut [u8],
-    other_id: &mut [u8],
-) {
-    let f = parts::facts_of(a.part);
-    let mut page = [0u8; 64];
-    lose_page(
-        a,
-        held,
-        array,
-        id,
-        other,
-        other_id,
-        fitted::first(&mut page, f.page),
-    );
+fn lose(other: &mut Board) {
+    let f = parts::facts_of(other.part);
+    let mut room = [0u8; 64];
+    let page = fitted::first(&mut room, f.page);
+    other.turned(page);
+    other.lose(false, page);
 }
 
 // What then differs. The driver never locks.
-fn tell_lost(
-    host: &Host,
-    a: Asked,
-    w: Told,
-    held: &[u8],
-    array: &[u8],
-    id: &[u8],
-    other: &[u8],
-    other_id: &[u8],
-) -> Told {
-    let now = cut::cycle_of(a.part, pack_chip::unpack(held));
-    match now {
-        Under::Nothing => w,
-        Under::Page(p) => spoiled(host, a, named(host, a, w, p), array, other),
-        Under::Ident => spoiled(host, a, named_ident(host, w), id, other_id),
-        Under::Lock => w,
+fn tell_lost(host: &Host, job: Job, w: Told, board: &Board, other: &Board) -> Option<Told> {
+    match board.cycle() {
+        Some(Under::Page(p)) => {
+            let ok = named(host, job.part, p);
+            spoiled(host, job, ok, w, board.array, other.array)
+        }
+        Some(Under::Ident) => {
+            let ok = say(host, true, b"identification page: ");
+            spoiled(host, job, ok, w, board.id, other.id)
+        }
+        Some(Under::Lock) | None => Some(w),
     }
 }
 
 // One event of the tape; where it begins a cycle, that one is cut on the copy.
 fn step(
     host: &Host,
-    a: Asked,
+    job: Job,
     w: Told,
     code: u8,
-    held: &mut [u8],
-    array: &mut [u8],
-    id: &mut [u8],
-    other: &mut [u8],
-    other_id: &mut [u8],
-) -> Told {
-    let t = take(a.part, a.enable, code, held, array, id);
-    if t.begins {
-        copy(array, id, other, other_id);
-        lose_with(a, held, array, id, other, other_id);
-        return tell_lost(host, a, w, held, array, id, other, other_id);
+    board: &mut Board,
+    other: &mut Board,
+) -> Option<Told> {
+    if board.take(code).cycles == 0 {
+        return Some(w);
     }
-    w
+    other.copy(board);
+    lose(other);
+    tell_lost(host, job, w, board, other)
 }
 
 fn walk(
     host: &Host,
-    a: Asked,
-    first: Told,
-    held: &mut [u8],
-    array: &mut [u8],
-    id: &mut [u8],
-    other: &mut [u8],
-    other_id: &mut [u8],
+    job: Job,
+    board: &mut Board,
+    other: &mut Board,
     events: &[u8],
-) -> Told {
-    let mut w = first;
-    let mut i = 0;
-    while i < events.len() {
-        w = step(host, a, w, events[i], held, array, id, other, other_id);
-        i += 1;
-    }
-    w
-}
-
-// The tape goes over a part as delivered.
-fn tell_all(
-    host: &Host,
-    a: Asked,
-    held: &mut [u8],
-    array: &mut [u8],
-    id: &mut [u8],
-    other: &mut [u8],
-    other_id: &mut [u8],
-    events: &[u8],
-) -> bool {
-    files::delivered(a.part, held, array, id);
-    let first = Told {
-        ok: heading(host, a.part),
+) -> Option<Told> {
+    let mut w = Told {
         pages: 0,
         bytes: 0,
         beside: 0,
     };
-    totals(
-        host,
-        walk(host, a, first, held, array, id, other, other_id, events),
-    )
-}
-
-// The tape's first events, all that there are: no write with one poll a page has more than it keeps.
-fn tell_sent(
-    host: &Host,
-    job: Job,
-    sent: usize,
-    held: &mut [u8],
-    array: &mut [u8],
-    id: &mut [u8],
-    other: &mut [u8],
-    other_id: &mut [u8],
-    events: &[u8],
-) -> bool {
-    let a = Asked {
-        part: job.part,
-        enable: job.enable,
-        at: job.at,
-        length: job.length,
-    };
-    if sent <= events.len() {
-        return tell_all(host, a, held, array, id, other, other_id, &events[0..sent]);
+    for code in events {
+        w = step(host, job, w, *code, board, other)?;
     }
-    false
+    Some(w)
 }
 
-// The write on a part as delivered.
-fn tried(
-    job: Job,
-    held: &mut [u8],
-    array: &mut [u8],
-    id: &mut [u8],
-    data: &mut [u8],
-    events: &mut [u8],
-    levels: &mut [u8],
-) -> Ended {
-    files::delivered(job.part, held, array, id);
-    recorded(job, held, array, id, data, events, levels)
+// The tape goes over a part as delivered.
+fn tell_all(host: &Host, job: Job, board: &mut Board, other: &mut Board, events: &[u8]) -> bool {
+    board.deliver();
+    if !heading(host, job.part) {
+        return false;
+    }
+    match walk(host, job, board, other, events) {
+        Some(w) => totals(host, w),
+        None => false,
+    }
 }
 
-fn run(
-    host: &Host,
-    job: Job,
-    held: &mut [u8],
-    array: &mut [u8],
-    id: &mut [u8],
-    other: &mut [u8],
-    other_id: &mut [u8],
-    data: &mut [u8],
-) -> bool {
+// The write on a part as delivered; no write with one poll a page has more events than the tape keeps.
+fn run(host: &Host, job: Job, board: &mut Board, other: &mut Board, data: &mut [u8]) -> bool {
     let mut events = tape();
     let mut levels = tape();
-    let e = tried(job, held, array, id, data, &mut events, &mut levels);
-    let verdict = e.verdict;
-    match verdict {
-        Verdict::Fine => tell_sent(host, job, e.sent, held, array, id, other, other_id, &events),
-        Verdict::Refused(r) => report::refused(host, ground(job), r),
+    let Recorded { report, sent } = board.record(job, data, &mut events, &mut levels);
+    match report.verdict {
+        Ok(()) => match events.get(..sent) {
+            Some(all) => tell_all(host, job, board, other, all),
+            None => false,
+        },
+        Err(r) => report::refused(host, ground(job), r),
     }
 }
 
-fn lend(host: &Host, job: Job, data: &mut [u8]) -> bool {
-    let mut held = [0u8; pack_chip::LENGTH];
+// What is written does not matter: zeros.
+fn answer_in(host: &Host, job: Job, data: &mut [u8]) -> bool {
     let mut array = [0u8; 32768];
     let mut id = [0u8; 64];
     let mut other = [0u8; 32768];
@@ -421,28 +216,23 @@ fn lend(host: &Host, job: Job, data: &mut [u8]) -> bool {
     run(
         host,
         job,
-        &mut held,
-        fitted::array(job.part, &mut array),
-        fitted::id(job.part, &mut id),
-        fitted::array(job.part, &mut other),
-        fitted::id(job.part, &mut other_id),
+        &mut Board::new(job.part, job.own, &mut array, &mut id),
+        &mut Board::new(job.part, job.own, &mut other, &mut other_id),
         data,
     )
-}
-
-// What is written does not matter: zeros.
-fn answer_in(host: &Host, job: Job, data: &mut [u8]) -> bool {
-    let n = limited(job.length);
-    lend(host, Job { length: n, ..job }, fitted::first(data, n))
 }
 
 // `power PART ADDRESS LENGTH ..`: `next` is the first word behind the command's, and the words end before `end`. False where not all could be
 // answered: standard error has the reason.
 pub fn power_command(host: &Host, next: usize, end: usize) -> bool {
-    let job = words::power_asked(host, next, end);
-    if job.ok {
-        let mut data = [0u8; 32769];
-        return answer_in(host, job, &mut data);
-    }
-    false
+    let Some(job) = words::power_asked(host, next, end) else {
+        return false;
+    };
+    let mut data = [0u8; MOST];
+    let length = job.length.min(MOST);
+    answer_in(
+        host,
+        Job { length, ..job },
+        fitted::first(&mut data, length),
+    )
 }

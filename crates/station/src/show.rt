@@ -28,14 +28,11 @@ fn row(host: &Host, ok: bool, from: usize, i: usize) -> bool {
 }
 
 pub fn dump(host: &Host, ok: bool, from: usize, shown: &[u8]) -> bool {
-    let mut told = ok;
-    let mut i = 0;
-    while i < shown.len() {
-        told = row(host, told, from, i);
-        told = hex(host, told, shown[i]);
-        i += 1;
-    }
-    if i == 0 {
+    let told = shown
+        .iter()
+        .enumerate()
+        .fold(ok, |told, (i, b)| hex(host, row(host, told, from, i), *b));
+    if shown.is_empty() {
         return told;
     }
     say(host, told, b"\n")

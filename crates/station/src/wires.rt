@@ -14,42 +14,27 @@ fn blank() -> [u8; 1572865]
 // One stroke behind the first n samples.
 fn put(out: &mut [u8], n: usize, s: Stroke) -> usize {
     let four = s.samples;
-    let k = s.count;
-    if k <= 4 {
-        return files::extend(out, n, &four[..k]);
-    }
-    n
-}
-
-// What the line shows of an event.
-fn shown(events: &[u8], levels: &[u8], i: usize) -> u8 {
-    capture::lined(parts::byte_at(events, i), parts::byte_at(levels, i))
+    files::extend(out, n, &four[..s.count.min(4)])
 }
 
 // From rest on; answers how many samples there are.
 fn draw_all(events: &[u8], levels: &[u8], out: &mut [u8]) -> usize {
     let mut wires = Wires::Rest;
     let mut n = files::extend(out, 0, &[3]);
-    let mut i = 0;
-    while i < events.len() {
-        let s = capture::draw(wires, shown(events, levels, i));
+    for (event, level) in events.iter().zip(levels) {
+        let s = capture::draw(wires, capture::lined(*event, *level));
         n = put(out, n, s);
         wires = s.wires;
-        i += 1;
     }
     n
-}
-
-fn store_in(host: &Host, word: usize, events: &[u8], levels: &[u8], out: &mut [u8]) -> bool {
-    let n = draw_all(events, levels, out);
-    if n <= out.len() {
-        return files::store::store(host, word, &out[0..n]);
-    }
-    false
 }
 
 // Whether the file stands that a word names.
 pub fn store(host: &Host, word: usize, events: &[u8], levels: &[u8]) -> bool {
     let mut out = blank();
-    store_in(host, word, events, levels, &mut out)
+    let n = draw_all(events, levels, &mut out);
+    if n <= out.len() {
+        return files::store::store(host, word, &out[0..n]);
+    }
+    false
 }

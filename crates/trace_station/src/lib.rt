@@ -6,12 +6,8 @@ use parts::{Loss, Verdict};
 use words::answer::say;
 use words::tracing::{Role, Tracing};
 
-// How far the words are: whether all before was answered, and what the last word was.
-#[derive(Clone, Copy)]
-struct Turn {
-    ok: bool,
-    role: Role,
-}
+// The longest trace, and one byte more.
+const ROOM: usize = 32774;
 
 // ---- the picture
 
@@ -23,14 +19,13 @@ fn answered_by(
     events: &[u8],
     levels: &mut [u8],
 ) {
-    let first = chip::deliver(part, array, id);
-    let chip = first.chip;
+    let delivered = chip::deliver(part, array, id);
     chip::run(
         part,
         enable,
         Loss::Old,
         b"",
-        chip,
+        delivered.chip,
         array,
         id,
         events,
@@ -39,172 +34,96 @@ fn answered_by(
 }
 
 // A run from delivery leaves the levels; the drawing begins at delivery again.
-fn draw_run(
-    host: &Host,
-    word: usize,
-    part: u8,
-    enable: u8,
-    array: &mut [u8],
-    id: &mut [u8],
-    events: &[u8],
-    levels: &mut [u8],
-) -> bool {
-    let mut held = [0u8; pack_chip::LENGTH];
-    answered_by(part, enable, array, id, events, levels);
-    files::delivered(part, &mut held, array, id);
-    vcd::store(host, word, part, enable, &held, array, id, events, levels)
-}
-
-fn draw_events(
-    host: &Host,
-    word: usize,
-    part: u8,
-    enable: u8,
-    letters: &[u8],
-    events: &mut [u8],
-    levels: &mut [u8],
-) -> bool {
-    let mut array = [0u8; 32768];
-    let mut id = [0u8; 64];
-    files::traced::recode(letters, events);
-    draw_run(
-        host,
-        word,
-        part,
-        enable,
-        fitted::array(part, &mut array),
-        fitted::id(part, &mut id),
-        events,
-        levels,
-    )
-}
-
 fn draw(host: &Host, word: usize, part: u8, enable: u8, letters: &[u8]) -> bool {
-    let mut events = [0u8; 32768];
-    let mut levels = [0u8; 32768];
-    draw_events(
-        host,
-        word,
-        part,
-        enable,
-        letters,
-        fitted::first(&mut events, letters.len()),
-        fitted::first(&mut levels, letters.len()),
-    )
+    let mut array_room = [0u8; 32768];
+    let mut id_room = [0u8; 64];
+    let mut event_room = [0u8; 32768];
+    let mut level_room = [0u8; 32768];
+    let mut held = [0u8; pack_chip::LENGTH];
+    let array = fitted::array(part, &mut array_room);
+    let id = fitted::id(part, &mut id_room);
+    let events = fitted::first(&mut event_room, letters.len());
+    let levels = fitted::first(&mut level_room, letters.len());
+    files::traced::recode(letters, events);
+    answered_by(part, enable, array, id, events, levels);
+    let _ = files::delivered(part, &mut held, array, id);
+    vcd::store(host, word, part, enable, &held, array, id, events, levels)
 }
 
 // Of a refused trace there is none.
 fn drawn(host: &Host, asked: Tracing, text: &[u8]) -> bool {
-    if asked.vcd == 0 {
+    let Some(word) = asked.vcd else {
         return true;
-    }
+    };
     let j = trace::judge(text);
-    let verdict = j.verdict;
-    match verdict {
-        Verdict::Fine => draw(host, asked.vcd, j.part, j.enable, trace::letters(text)),
-        Verdict::Refused(_) => true,
+    match j.verdict {
+        Ok(()) => draw(host, word, j.part, j.enable, trace::letters(text)),
+        Err(_) => true,
     }
 }
 
 // ---- the answer
 
-// Every answer fits (AnswerFits of the crate trace).
-fn levels_in(host: &Host, text: &[u8], out: &mut [u8]) -> bool {
-    let t = trace::trace(text, out);
-    let n = t.length;
-    if n <= out.len() {
-        return say(host, true, &out[0..n]);
-    }
-    false
-}
-
-// The trace told byte by byte, then its answer; of a refused one only the answer.
-fn bytes_in(host: &Host, text: &[u8], out: &mut [u8]) -> bool {
-    let t = explain::explain(host, text, out);
-    let n = t.length;
-    if n <= out.len() {
-        return say(host, true, &out[0..n]);
-    }
-    false
-}
-
+// The trace told byte by byte, where that is asked for, then its answer; of a refused one only the answer. Every answer fits (AnswerFits of the
+// crate trace).
 fn answered(host: &Host, asked: Tracing, text: &[u8]) -> bool {
     let mut out = [0u8; 32800];
-    if asked.bytes {
-        return bytes_in(host, text, &mut out);
-    }
-    levels_in(host, text, &mut out)
+    let n = if asked.bytes {
+        explain::explain(host, text, &mut out).length
+    } else {
+        trace::trace(text, &mut out).length
+    };
+    n <= out.len() && say(host, true, &out[..n])
 }
 
-// Why a trace is refused, behind its answer.
-fn reasoned(host: &Host, ok: bool, input: bool, name: &[u8], text: &[u8]) -> bool {
-    let j = trace::judge(text);
-    let verdict = j.verdict;
-    match verdict {
-        Verdict::Fine => ok,
-        Verdict::Refused(r) => {
-            files::traced::tell(host, input, name, text, r);
-            ok
+// The picture stands before anything is told; why a trace is refused stands behind its answer. `name`: the file's, as it was typed; standard
+// input has none.
+fn told(host: &Host, asked: Tracing, name: Option<&[u8]>, text: &[u8]) -> bool {
+    if !drawn(host, asked, text) {
+        return false;
+    }
+    let told = answered(host, asked, text);
+    match trace::judge(text).verdict {
+        Ok(()) => told,
+        Err(r) => {
+            files::traced::tell(host, name.is_none(), name.unwrap_or(b""), text, r);
+            told
         }
     }
-}
-
-// The picture stands before anything is told.
-fn told(host: &Host, asked: Tracing, input: bool, name: &[u8], text: &[u8]) -> bool {
-    if drawn(host, asked, text) {
-        return reasoned(host, answered(host, asked, text), input, name, text);
-    }
-    false
 }
 
 // ---- files
 
 // What there is no room for does not change the answer (ReadsNoFurther of the crate trace); reading it all the same spares the writer a broken
-// pipe. Nothing says that an input ends, and a proved loop has to: so the turns are counted down from a number that no run uses up.
+// pipe. Nothing says that an input ends, and a proved loop has to: so there are as many turns as no run uses up.
 fn rest_read(host: &Host, fd: i32) -> bool {
-    let mut turns = u64::MAX;
-    while turns > 0 {
+    for _ in 0..u64::MAX {
         let mut chunk = io::buffer();
-        let got = host.read(fd, &mut chunk);
-        if got <= 0 {
-            return got == 0;
+        match host.read(fd, &mut chunk) {
+            None => return false,
+            Some(0) => return true,
+            Some(_) => {}
         }
-        turns -= 1;
-    }
-    false
-}
-
-fn run_input_in(host: &Host, asked: Tracing, text: &mut [u8]) -> bool {
-    let n = host.read_full(STDIN, text);
-    if !rest_read(host, STDIN) {
-        words::failed(host, b"standard input");
-        return false;
-    }
-    if n <= text.len() {
-        return told(host, asked, true, b"", &text[0..n]);
     }
     false
 }
 
 fn run_input(host: &Host, asked: Tracing) -> bool {
-    let mut text = [0u8; 32774];
-    run_input_in(host, asked, &mut text)
-}
-
-fn run_named_in(host: &Host, asked: Tracing, word: usize, name: &[u8], text: &mut [u8]) -> bool {
-    let got = files::contents(host, word, text);
-    let n = got.n;
-    if got.ok {
-        if n <= text.len() {
-            return told(host, asked, false, name, &text[0..n]);
-        }
+    let mut text = [0u8; ROOM];
+    let n = host.read_full(STDIN, &mut text);
+    if !rest_read(host, STDIN) {
+        words::failed(host, b"standard input");
+        return false;
     }
-    false
+    told(host, asked, None, &text[..n])
 }
 
 fn run_named(host: &Host, asked: Tracing, word: usize, name: &[u8]) -> bool {
-    let mut text = [0u8; 32774];
-    run_named_in(host, asked, word, name, &mut text)
+    let mut room = [0u8; ROOM];
+    match files::contents(host, word, &mut room) {
+        Some(text) => told(host, asked, Some(name), text),
+        None => false,
+    }
 }
 
 // Of several files each is named before its answer.
@@ -217,61 +136,37 @@ fn headed(host: &Host, asked: Tracing, name: &[u8]) -> bool {
 }
 
 fn run_file(host: &Host, asked: Tracing, word: usize) -> bool {
-    let mut name = io::buffer();
-    let n = host.arg(word, &mut name);
-    if !headed(host, asked, &name[..n]) {
+    let name = host.word(word);
+    if !headed(host, asked, name.bytes()) {
         return false;
     }
     if words::is_input(host, word) {
         return run_input(host, asked);
     }
-    run_named(host, asked, word, &name[..n])
+    run_named(host, asked, word, name.bytes())
 }
 
 // ---- the words, in their order
 
 // A file that cannot be read is told, and the next one is run.
-fn filed(host: &Host, t: Turn, asked: Tracing, role: Role, word: usize) -> Turn {
-    match role {
-        Role::File => Turn {
-            ok: t.ok & run_file(host, asked, word),
-            role,
-        },
-        _ => Turn { role, ..t },
-    }
-}
-
-fn next_word(host: &Host, t: Turn, asked: Tracing, word: usize) -> Turn {
-    let before = t.role;
-    filed(
-        host,
-        t,
-        asked,
-        words::tracing::role_of(host, before, word),
-        word,
-    )
-}
-
 fn run_files(host: &Host, asked: Tracing, next: usize, end: usize) -> bool {
-    let mut t = Turn {
-        ok: true,
-        role: Role::Bytes,
-    };
-    let mut i = next;
-    while i < end {
-        t = next_word(host, t, asked, i);
-        i += 1;
+    let mut told = true;
+    let mut role = Role::Bytes;
+    for word in next..end {
+        role = words::tracing::role_of(host, role, word);
+        if matches!(role, Role::File) {
+            told &= run_file(host, asked, word);
+        }
     }
-    t.ok
+    told
 }
 
 // `trace [--bytes] [--vcd FILE] [FILE..]`; without a file, standard input. False where nothing, or not all, could be answered: standard error
 // has the reason.
 pub fn trace_command(host: &Host, next: usize, end: usize) -> bool {
-    let asked = words::tracing::asked(host, next, end);
-    if !asked.ok {
+    let Some(asked) = words::tracing::asked(host, next, end) else {
         return false;
-    }
+    };
     if asked.files == 0 {
         return run_input(host, asked);
     }

@@ -1,180 +1,120 @@
 // A list of traces: a name a line, LF or CR LF; empty lines are left out. It is read in pieces, so a list of any length goes through.
-use crate::{tell, work};
+ghost use Rattle.std.specs.Prelude.{◌≤◌};
+
+use crate::source::{Source, Told};
+use crate::work;
 use host::Host;
 use work::Worn;
 
-// How far a list is read: how many bytes of the line are kept, the line's number, and whether no more is to be read.
-#[derive(Clone, Copy)]
-struct Listed {
-    worn: Worn,
-    n: usize,
-    line: usize,
-    done: bool,
+// The line that is read: its number, and as much of it as has come.
+#[derive(Drop)]
+struct Line {
+    number: usize,
+    letters: [u8; 4096],
+    length: usize,
+    ghost fits: { length ≤ 4096 },
 }
 
-fn done(l: Listed) -> Listed {
-    Listed { done: true, ..l }
-}
+impl Line {
+    fn first() -> Line {
+        Line {
+            number: 1,
+            letters: io::buffer(),
+            length: 0,
+        }
+    }
 
-fn failed(l: Listed) -> Listed {
-    let worn = work::stopped(l.worn);
-    Listed {
-        worn,
-        done: true,
-        ..l
+    fn text(&self) -> &[u8] {
+        &self.letters[..self.length]
+    }
+
+    // False where there is no room for another byte.
+    fn keep(&mut self, b: u8) -> bool {
+        if self.length == self.letters.len() {
+            return false;
+        }
+        self.letters[self.length] = b;
+        self.length += 1;
+        true
+    }
+
+    fn end(&mut self) {
+        self.number = self.number.wrapping_add(1);
+        self.length = 0;
     }
 }
 
 // A CR directly before its LF is no part of the line.
-fn bare(line: &[u8], n: usize) -> usize {
-    if 0 < n {
-        if parts::byte_at(line, n - 1) == b'\r' {
-            return n - 1;
-        }
+fn bare(line: &[u8]) -> &[u8] {
+    match line {
+        [name @ .., b'\r'] => name,
+        _ => line,
     }
-    n
 }
 
 // The trace that the line names. A name of a list is a file's, be it `-`.
-fn named(host: &Host, l: Listed, n: usize, line: &[u8], counts: &mut [u32]) -> Listed {
-    if n == 0 {
-        return l;
+fn named(host: &Host, w: Worn, name: &[u8], counts: &mut [u32]) -> Result<Worn, Told> {
+    if name.is_empty() {
+        return Ok(w);
     }
-    if n <= line.len() {
-        let worn = work::one_trace(host, l.worn, false, &line[0..n], counts);
-        return Listed {
-            worn,
-            done: !worn.ok,
-            ..l
-        };
-    }
-    failed(l)
-}
-
-// Behind an LF.
-fn next_line(host: &Host, l: Listed, line: &[u8], counts: &mut [u32]) -> Listed {
-    let behind = named(host, l, bare(line, l.n), line, counts);
-    Listed {
-        n: 0,
-        line: std::num::wrapping_add_usize(l.line, 1),
-        ..behind
-    }
-}
-
-fn too_long(host: &Host, l: Listed, input: bool, name: &[u8], most: usize) -> Listed {
-    tell::long_line(host, input, name, l.line, most);
-    failed(l)
-}
-
-fn kept(host: &Host, l: Listed, b: u8, input: bool, name: &[u8], line: &mut [u8]) -> Listed {
-    let n = l.n;
-    if n < line.len() {
-        line[n] = b;
-        return Listed { n: n + 1, ..l };
-    }
-    too_long(host, l, input, name, line.len())
+    let source = Source {
+        host,
+        is_input: false,
+        name,
+    };
+    work::one_trace(w, source, counts)
 }
 
 fn byte(
-    host: &Host,
-    l: Listed,
+    w: Worn,
     b: u8,
-    input: bool,
-    name: &[u8],
-    line: &mut [u8],
+    list: Source<'_>,
+    line: &mut Line,
     counts: &mut [u32],
-) -> Listed {
+) -> Result<Worn, Told> {
     if b == b'\n' {
-        return next_line(host, l, line, counts);
+        let behind = named(list.host, w, bare(line.text()), counts)?;
+        line.end();
+        return Ok(behind);
     }
-    kept(host, l, b, input, name, line)
+    if line.keep(b) {
+        Ok(w)
+    } else {
+        Err(list.long_line(line.number, line.text().len()))
+    }
 }
 
 fn piece(
-    host: &Host,
-    first: Listed,
+    mut w: Worn,
     chunk: &[u8],
-    input: bool,
-    name: &[u8],
-    line: &mut [u8],
+    list: Source<'_>,
+    line: &mut Line,
     counts: &mut [u32],
-) -> Listed {
-    let mut l = first;
-    let mut i = 0;
-    while i < chunk.len() {
-        l = byte(host, l, chunk[i], input, name, line, counts);
-        if l.done {
-            return l;
+) -> Result<Worn, Told> {
+    for b in chunk {
+        w = byte(w, *b, list, line, counts)?;
+    }
+    Ok(w)
+}
+
+// The last line end may be missing. Nothing says that a file ends, and a proved loop has to: so there are as many turns as no run uses up.
+fn read(mut w: Worn, fd: i32, list: Source<'_>, counts: &mut [u32]) -> Result<Worn, Told> {
+    let mut line = Line::first();
+    for _ in 0..u64::MAX {
+        let mut chunk = io::buffer();
+        match list.host.read(fd, &mut chunk) {
+            None => return Err(list.unread()),
+            Some(0) => return named(list.host, w, line.text(), counts),
+            Some(n) => w = piece(w, &chunk[..n], list, &mut line, counts)?,
         }
-        i += 1;
     }
-    l
-}
-
-// One read. The last line end may be missing.
-fn turn(
-    host: &Host,
-    l: Listed,
-    fd: i32,
-    input: bool,
-    name: &[u8],
-    line: &mut [u8],
-    counts: &mut [u32],
-) -> Listed {
-    let mut chunk = io::buffer();
-    let got = host.read(fd, &mut chunk);
-    if got < 0 {
-        tell::unread(host, input, name);
-        return failed(l);
-    }
-    if got == 0 {
-        return done(named(host, l, l.n, line, counts));
-    }
-    let k = io::count(got, &chunk);
-    piece(host, l, &chunk[..k], input, name, line, counts)
-}
-
-// Nothing says that a file ends, and a proved loop has to: so the turns are counted down from a number that no run uses up.
-fn walk(
-    host: &Host,
-    first: Listed,
-    fd: i32,
-    input: bool,
-    name: &[u8],
-    line: &mut [u8],
-    counts: &mut [u32],
-) -> Listed {
-    let mut l = first;
-    let mut turns = u64::MAX;
-    while turns > 0 {
-        l = turn(host, l, fd, input, name, line, counts);
-        if l.done {
-            return l;
-        }
-        turns -= 1;
-    }
-    failed(l)
-}
-
-fn read(host: &Host, worn: Worn, fd: i32, input: bool, name: &[u8], counts: &mut [u32]) -> Worn {
-    let first = Listed {
-        worn,
-        n: 0,
-        line: 1,
-        done: false,
-    };
-    let mut line = io::buffer();
-    let last = walk(host, first, fd, input, name, &mut line, counts);
-    last.worn
+    Err(Told)
 }
 
 // The traces that a list names.
-pub fn one_list(host: &Host, w: Worn, input: bool, name: &[u8], counts: &mut [u32]) -> Worn {
-    let fd = work::opened(host, input, name);
-    if fd < 0 {
-        return work::stopped(w);
-    }
-    let next = read(host, w, fd, input, name, counts);
-    work::closed(host, input, fd);
-    next
+pub fn one_list(w: Worn, list: Source<'_>, counts: &mut [u32]) -> Result<Worn, Told> {
+    let fd = list.open()?;
+    let behind = read(w, fd, list, counts);
+    list.close(fd);
+    behind
 }

@@ -1,4 +1,5 @@
 // What is told of the counts. Each function is told whether the lines before it were written, and says so of its own.
+use crate::work::Worn;
 use host::Host;
 use image_station::show::{big, worn};
 use wear::Most;
@@ -8,36 +9,25 @@ use words::{answer, report};
 
 const BARS: usize = 10;
 
-fn wide(n: u32) -> usize {
-    n as usize
-}
-
 // `1 trace`, `3 traces`
 fn some(host: &Host, ok: bool, n: usize, name: &[u8]) -> bool {
     let told = number(host, ok, n);
     let named = say(host, told, name);
     if n == 1 {
-        return named;
+        named
+    } else {
+        say(host, named, b"s")
     }
-    say(host, named, b"s")
 }
 
 // ---- the first three lines
 
-fn head(
-    host: &Host,
-    ok: bool,
-    part: u8,
-    size: usize,
-    groups: usize,
-    traces: usize,
-    cycles: usize,
-) -> bool {
-    let parted = image_station::show::part_named(host, ok, part, b", ");
+fn head(host: &Host, part: u8, size: usize, groups: usize, w: Worn) -> bool {
+    let parted = image_station::show::part_named(host, true, part, b", ");
     let two = some(host, say(host, parted, b": "), groups, b" group");
     let three = some(host, say(host, two, b" of "), size, b" byte");
-    let four = some(host, say(host, three, b"; "), traces, b" trace");
-    let five = some(host, say(host, four, b", "), cycles, b" cycle");
+    let four = some(host, say(host, three, b"; "), w.traces, b" trace");
+    let five = some(host, say(host, four, b", "), w.cycles, b" cycle");
     say(host, five, b"\n")
 }
 
@@ -75,16 +65,12 @@ fn share(count: u32, most: u32) -> usize {
     if most == 0 {
         return 0;
     }
-    let n = count as usize * 40 / most as usize;
-    if n == 0 { 1 } else { n }
+    (count as usize * 40 / most as usize).max(1)
 }
 
 fn row(host: &Host, ok: bool, n: usize) -> bool {
     let marks = [b'#'; 40];
-    if n <= 40 {
-        return say(host, ok, &marks[0..n]);
-    }
-    say(host, ok, &marks)
+    say(host, ok, &marks[..n.min(40)])
 }
 
 // A group that is not worn has no bar.
@@ -93,35 +79,29 @@ fn bar(host: &Host, ok: bool, size: usize, top: Most, most: u32) -> bool {
         return ok;
     }
     let named = say(host, address(host, ok, first_of(top.group, size)), b"  ");
-    let counted = named && answer::written(host, host.say_right(wide(top.count), columns(most)));
+    let counted = named && answer::written(host, host.say_right(top.count as usize, columns(most)));
     let drawn = row(host, say(host, counted, b" "), share(top.count, most));
     say(host, drawn, b"\n")
 }
 
 // Whether a group stands behind another in the order of the bars: most first, lowest group first on a tie.
 fn behind(group: usize, count: u32, last: Most) -> bool {
-    if count == last.count {
-        return last.group < group;
-    }
-    count < last.count
+    count < last.count || (count == last.count && last.group < group)
 }
 
 fn better(best: Most, group: usize, count: u32, last: Most) -> Most {
-    if behind(group, count, last) {
-        if best.count < count {
-            return Most { group, count };
-        }
+    if behind(group, count, last) && best.count < count {
+        Most { group, count }
+    } else {
+        best
     }
-    best
 }
 
 // The first of those that stand behind another; a count of 0 where none is worn.
 fn next(counts: &[u32], last: Most) -> Most {
     let mut best = Most { group: 0, count: 0 };
-    let mut i = 0;
-    while i < counts.len() {
-        best = better(best, i, counts[i], last);
-        i += 1;
+    for (group, count) in counts.iter().enumerate() {
+        best = better(best, group, *count, last);
     }
     best
 }
@@ -129,11 +109,9 @@ fn next(counts: &[u32], last: Most) -> Most {
 fn bars(host: &Host, ok: bool, size: usize, first: Most, counts: &[u32]) -> bool {
     let mut told = ok;
     let mut top = first;
-    let mut k = 0;
-    while k < BARS {
+    for _ in 0..BARS {
         told = bar(host, told, size, top, first.count);
         top = next(counts, top);
-        k += 1;
     }
     told
 }
@@ -149,20 +127,12 @@ fn rest(host: &Host, ok: bool, worn: usize) -> bool {
 // ---- all of it
 
 // For people: the sum, the worst, which is the first bar, and the bars.
-pub fn told(
-    host: &Host,
-    part: u8,
-    sum: u64,
-    first: Most,
-    traces: usize,
-    cycles: usize,
-    counts: &[u32],
-) -> bool {
-    let f = parts::facts_of(part);
-    let one = head(host, true, part, f.group, counts.len(), traces, cycles);
-    let two = total(host, one, sum, first.count);
-    let three = most(host, two, f.group, first);
-    let four = bars(host, three, f.group, first, counts);
+pub fn told(host: &Host, part: u8, sum: u64, w: Worn, counts: &[u32]) -> bool {
+    let size = parts::facts_of(part).group;
+    let one = head(host, part, size, counts.len(), w);
+    let two = total(host, one, sum, w.worst.count);
+    let three = most(host, two, size, w.worst);
+    let four = bars(host, three, size, w.worst, counts);
     rest(host, four, worn(counts))
 }
 
@@ -171,17 +141,15 @@ fn line(host: &Host, ok: bool, group: usize, count: u32) -> bool {
         return ok;
     }
     let named = number(host, ok, group);
-    let told = number(host, say(host, named, b" "), wide(count));
+    let told = number(host, say(host, named, b" "), count as usize);
     say(host, told, b"\n")
 }
 
 // For other tools: each group that is worn, and its count.
 pub fn all(host: &Host, counts: &[u32]) -> bool {
     let mut told = true;
-    let mut i = 0;
-    while i < counts.len() {
-        told = line(host, told, i, counts[i]);
-        i += 1;
+    for (group, count) in counts.iter().enumerate() {
+        told = line(host, told, group, *count);
     }
     told
 }

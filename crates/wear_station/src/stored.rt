@@ -1,4 +1,5 @@
 // The file of counts: the mark `EPC`, version 0001h high byte first, the part, then each group's count as four bytes, high byte first.
+use crate::source::{Source, Told};
 use files::tell::{number, say};
 use files::{shape, traced};
 use host::Host;
@@ -13,14 +14,7 @@ const PART: usize = 5;
 
 // The bytes of a file with so many counts. The limit is for the proof alone: no part has so many groups.
 pub fn size_of(groups: usize) -> usize {
-    if groups < 65536 {
-        return HEAD + 4 * groups;
-    }
-    0
-}
-
-pub fn part_in(bytes: &[u8]) -> u8 {
-    parts::byte_at(bytes, PART)
+    if groups < 65536 { HEAD + 4 * groups } else { 0 }
 }
 
 // ---- reading
@@ -32,103 +26,91 @@ pub fn load(bytes: &[u8], counts: &mut [u32]) {
 
 // ---- what is no file of counts
 
-fn begin(host: &Host, input: bool, name: &[u8]) {
-    traced::begin(host, input, name);
-    say(host, b"no file of counts: found ");
+fn begin(source: Source<'_>) {
+    source.begin();
+    say(source.host, b"no file of counts: found ");
 }
 
-fn begin_length(host: &Host, input: bool, name: &[u8], n: usize) {
-    traced::begin(host, input, name);
-    say(host, b"no file of counts: got ");
-    shape::found(host, n, ROOM);
-    say(host, b", wanted ");
+fn begin_length(source: Source<'_>, n: usize) {
+    source.begin();
+    say(source.host, b"no file of counts: got ");
+    shape::found(source.host, n, ROOM);
+    say(source.host, b", wanted ");
 }
 
-fn end(host: &Host) -> bool {
-    traced::end(host, Refusal::BadImage);
-    false
+fn end(source: Source<'_>) -> Told {
+    traced::end(source.host, Refusal::BadImage);
+    Told
 }
 
-fn no_mark(host: &Host, input: bool, name: &[u8], bytes: &[u8]) -> bool {
-    begin(host, input, name);
-    shape::mark(host, bytes);
-    say(host, b", wanted 45h 50h 43h, EPC");
-    end(host)
+fn no_mark(source: Source<'_>, bytes: &[u8]) -> Told {
+    begin(source);
+    shape::mark(source.host, bytes);
+    say(source.host, b", wanted 45h 50h 43h, EPC");
+    end(source)
 }
 
-fn no_version(host: &Host, input: bool, name: &[u8], bytes: &[u8]) -> bool {
-    begin(host, input, name);
-    shape::version(host, bytes);
-    say(host, b", wanted 0001h");
-    end(host)
+fn no_version(source: Source<'_>, bytes: &[u8]) -> Told {
+    begin(source);
+    shape::version(source.host, bytes);
+    say(source.host, b", wanted 0001h");
+    end(source)
 }
 
-fn no_part(host: &Host, input: bool, name: &[u8], part: u8) -> bool {
-    begin(host, input, name);
-    shape::no_part(host, part);
-    end(host)
+fn no_part(source: Source<'_>, part: u8) -> Told {
+    begin(source);
+    shape::no_part(source.host, part);
+    end(source)
 }
 
-fn no_head(host: &Host, input: bool, name: &[u8], n: usize) -> bool {
-    begin_length(host, input, name, n);
-    number(host, size_of(wear::groups(0)));
-    say(host, b" or ");
-    number(host, size_of(wear::groups(5)));
-    end(host)
+fn no_head(source: Source<'_>, n: usize) -> Told {
+    begin_length(source, n);
+    number(source.host, size_of(wear::groups(0)));
+    say(source.host, b" or ");
+    number(source.host, size_of(wear::groups(5)));
+    end(source)
 }
 
-fn no_length(host: &Host, input: bool, name: &[u8], n: usize, part: u8) -> bool {
-    begin_length(host, input, name, n);
-    number(host, size_of(wear::groups(part)));
-    say(host, b" for part ");
-    number(host, text::wide(part));
-    end(host)
+fn no_length(source: Source<'_>, n: usize, part: u8) -> Told {
+    begin_length(source, n);
+    number(source.host, size_of(wear::groups(part)));
+    say(source.host, b" for part ");
+    number(source.host, text::wide(part));
+    end(source)
 }
 
-fn right_length(host: &Host, input: bool, name: &[u8], bytes: &[u8]) -> bool {
-    let part = part_in(bytes);
-    let f = parts::facts_of(part);
-    if !f.known {
-        return no_part(host, input, name, part);
-    }
-    if bytes.len() == size_of(wear::groups(part)) {
-        return true;
-    }
-    no_length(host, input, name, bytes.len(), part)
-}
-
-// Whether the bytes are a file of counts; standard error has the reason where they are none.
-pub fn right(host: &Host, input: bool, name: &[u8], bytes: &[u8]) -> bool {
+// The part that a file of counts is of; standard error has the reason where the bytes are none.
+pub fn part_in(source: Source<'_>, bytes: &[u8]) -> Result<u8, Told> {
+    let part = parts::byte_at(bytes, PART);
     if bytes.len() < HEAD {
-        return no_head(host, input, name, bytes.len());
+        Err(no_head(source, bytes.len()))
+    } else if !shape::marked(bytes, b'C') {
+        Err(no_mark(source, bytes))
+    } else if !shape::versioned(bytes, 1, 1) {
+        Err(no_version(source, bytes))
+    } else if !parts::facts_of(part).known {
+        Err(no_part(source, part))
+    } else if bytes.len() != size_of(wear::groups(part)) {
+        Err(no_length(source, bytes.len(), part))
+    } else {
+        Ok(part)
     }
-    if !shape::marked(bytes, b'C') {
-        return no_mark(host, input, name, bytes);
-    }
-    if !shape::versioned(bytes, 1, 1) {
-        return no_version(host, input, name, bytes);
-    }
-    right_length(host, input, name, bytes)
 }
 
 // ---- writing
 
-fn save_in(host: &Host, word: usize, part: u8, counts: &[u32], out: &mut [u8]) -> bool {
-    let head = [b'E', b'P', b'C', 0, 1, part];
-    parts::copy(out, 0, &head);
-    files::counts::put(out, HEAD, counts);
+fn store(host: &Host, word: usize, part: u8, counts: &[u32]) -> bool {
+    let mut out = [0u8; ROOM];
+    parts::copy(&mut out, 0, &[b'E', b'P', b'C', 0, 1, part]);
+    files::counts::put(&mut out, HEAD, counts);
     let n = size_of(counts.len());
-    if n <= out.len() {
-        return files::store::store(host, word, &out[0..n]);
-    }
-    false
+    n <= out.len() && files::store::store(host, word, &out[..n])
 }
 
 // Whether the file stands that a word names, or none is asked for.
-pub fn save(host: &Host, word: usize, part: u8, counts: &[u32]) -> bool {
-    if word == 0 {
-        return true;
+pub fn save(host: &Host, word: Option<usize>, part: u8, counts: &[u32]) -> bool {
+    match word {
+        Some(word) => store(host, word, part, counts),
+        None => true,
     }
-    let mut out = [0u8; ROOM];
-    save_in(host, word, part, counts, &mut out)
 }

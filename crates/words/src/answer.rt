@@ -90,10 +90,8 @@ fn sign(levels: bool, x: u8) -> u8 {
 
 // Codes become letters, or levels their marks.
 fn spell(levels: bool, tape: &mut [u8]) {
-    let mut i = 0;
-    while i < tape.len() {
-        tape[i] = sign(levels, tape[i]);
-        i += 1;
+    for x in tape.iter_mut() {
+        *x = sign(levels, *x);
     }
 }
 
@@ -105,11 +103,8 @@ pub fn letters(host: &Host, ok: bool, levels: bool, codes: &mut [u8]) -> bool {
 
 // As much of a tape of `sent` events as was kept, as one line.
 pub fn tape(host: &Host, ok: bool, levels: bool, sent: usize, kept: &mut [u8]) -> bool {
-    if sent < kept.len() {
-        let told = letters(host, ok, levels, &mut kept[0..sent]);
-        return say(host, told, b"\n");
-    }
-    let told = letters(host, ok, levels, kept);
+    let n = sent.min(kept.len());
+    let told = letters(host, ok, levels, &mut kept[..n]);
     say(host, told, b"\n")
 }
 
@@ -117,67 +112,54 @@ pub fn tape(host: &Host, ok: bool, levels: bool, sent: usize, kept: &mut [u8]) -
 
 // `5Ah`
 pub fn byte(host: &Host, ok: bool, b: u8) -> bool {
-    let d = text::hex(b);
-    say(host, ok, &[d[0], d[1], b'h'])
+    let [high, low] = text::hex(b);
+    say(host, ok, &[high, low, b'h'])
 }
 
 // `001Fh`
 pub fn address(host: &Host, ok: bool, a: usize) -> bool {
-    let d = text::word(a);
-    say(host, ok, &[d[0], d[1], d[2], d[3], b'h'])
-}
-
-// The limit is for the proof alone: no memory is so large.
-fn more(n: usize) -> usize {
-    if n < 65536 { n + 1 } else { n }
+    let [first, second, third, fourth] = text::word(a);
+    say(host, ok, &[first, second, third, fourth, b'h'])
 }
 
 // `0024h..0027h`, or `0024h` where it is one byte: the places from one on to before another.
 pub fn span(host: &Host, ok: bool, from: usize, end: usize) -> bool {
     let low = address(host, ok, from);
-    if end <= more(from) {
+    let last = end.saturating_sub(1);
+    if last <= from {
         return low;
     }
     let to = say(host, low, b"..");
-    address(host, to, end - 1)
+    address(host, to, last)
 }
 
-// How far two memories are looked through: the spans told, and where one is open that is not told yet.
+// How far two memories are looked through: whether all was written, whether a span was told, and where one begins that is not told yet.
 #[derive(Clone, Copy)]
 struct Seen {
     ok: bool,
-    spans: usize,
-    open: bool,
-    from: usize,
+    any: bool,
+    open: Option<usize>,
 }
 
-// The span that is open ends before a place.
+// The span that is open, if any, ends before a place.
 fn closed(host: &Host, l: Seen, end: usize) -> Seen {
-    let next = if 0 < l.spans {
-        say(host, l.ok, b", ")
-    } else {
-        l.ok
+    let Some(from) = l.open else {
+        return l;
     };
+    let next = if l.any { say(host, l.ok, b", ") } else { l.ok };
     Seen {
-        ok: span(host, next, l.from, end),
-        spans: more(l.spans),
-        open: false,
-        from: end,
+        ok: span(host, next, from, end),
+        any: true,
+        open: None,
     }
 }
 
 fn looked(host: &Host, l: Seen, i: usize, differs: bool) -> Seen {
-    if l.open {
-        if differs {
-            return l;
-        }
+    if !differs {
         return closed(host, l, i);
     }
-    Seen {
-        open: differs,
-        from: i,
-        ..l
-    }
+    let open = Some(l.open.unwrap_or(i));
+    Seen { open, ..l }
 }
 
 pub fn differs(before: &[u8], after: &[u8], i: usize) -> bool {
@@ -187,23 +169,20 @@ pub fn differs(before: &[u8], after: &[u8], i: usize) -> bool {
 fn look(host: &Host, ok: bool, before: &[u8], after: &[u8]) -> Seen {
     let mut l = Seen {
         ok,
-        spans: 0,
-        open: false,
-        from: 0,
+        any: false,
+        open: None,
     };
-    let mut i = 0;
-    while i < after.len() {
+    for i in 0..after.len() {
         l = looked(host, l, i, differs(before, after, i));
-        i += 1;
     }
-    if l.open { closed(host, l, i) } else { l }
+    closed(host, l, after.len())
 }
 
 // The places at which two memories differ, with no line end: `0000h..0003h, 001Ch..001Fh`, or `none`.
 pub fn spans(host: &Host, ok: bool, before: &[u8], after: &[u8]) -> bool {
     let l = look(host, ok, before, after);
-    if l.spans == 0 {
-        return say(host, l.ok, b"none");
+    if l.any {
+        return l.ok;
     }
-    l.ok
+    say(host, l.ok, b"none")
 }

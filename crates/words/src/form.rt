@@ -1,61 +1,57 @@
 // The forms of a stored chip: an EPR image, Intel HEX, raw bytes.
-use crate::{NONE, same};
+use crate::same;
 use host::Host;
 
-// Nothing says which.
-pub const UNSAID: u8 = 0;
-
-pub const EPR: u8 = 1;
-
-pub const HEX: u8 = 2;
-
-pub const RAW: u8 = 3;
-
-// Behind `--as`.
-pub(crate) fn named(word: &[u8]) -> usize {
-    if same(word, b"epr") {
-        return 1;
-    }
-    if same(word, b"hex") {
-        return 2;
-    }
-    if same(word, b"raw") { 3 } else { NONE }
+#[derive(Clone, Copy, PartialEq, Eq)]
+pub enum Form {
+    Epr,
+    Hex,
+    Raw,
 }
 
-fn ends(name: &[u8], last: &[u8]) -> bool {
-    if 4 < name.len() {
-        let n = name.len() - 4;
-        return same(&name[n..], last);
+// Behind `--as`.
+pub(crate) fn named(word: &[u8]) -> Option<Form> {
+    if same(word, b"epr") {
+        return Some(Form::Epr);
     }
-    false
+    if same(word, b"hex") {
+        return Some(Form::Hex);
+    }
+    if same(word, b"raw") {
+        return Some(Form::Raw);
+    }
+    None
+}
+
+// Whether a name ends so, behind one letter at least.
+fn ends(name: &[u8], last: &[u8; 4]) -> bool {
+    match name.split_last_chunk::<4>() {
+        Some((first, end)) => !first.is_empty() && same(end, last),
+        None => false,
+    }
 }
 
 // What a file's name says.
-pub fn of_name(name: &[u8]) -> u8 {
-    if ends(name, b".hex") | ends(name, b".ihx") {
-        return HEX;
+pub fn of_name(name: &[u8]) -> Option<Form> {
+    if ends(name, b".hex") || ends(name, b".ihx") {
+        return Some(Form::Hex);
     }
-    if ends(name, b".bin") | ends(name, b".raw") {
-        return RAW;
+    if ends(name, b".bin") || ends(name, b".raw") {
+        return Some(Form::Raw);
     }
-    UNSAID
+    None
 }
 
-// What the name says that word i is; 0 names no word.
-pub fn of_word(host: &Host, i: usize) -> u8 {
-    if i == 0 {
-        return UNSAID;
-    }
-    let mut word = io::buffer();
-    let n = host.arg(i, &mut word);
-    of_name(&word[..n])
+// What the name says that word i is.
+pub fn of_word(host: &Host, i: usize) -> Option<Form> {
+    of_name(host.word(i).bytes())
 }
 
 // The form that is saved in the file that a word names: what `--as` says, else the name, else an image.
-pub(crate) fn saved(host: &Host, said: usize, word: usize) -> u8 {
-    if 0 < said {
-        return text::narrow(said);
+pub(crate) fn saved(host: &Host, said: Option<Form>, word: Option<usize>) -> Form {
+    match (said, word) {
+        (Some(form), _) => form,
+        (None, Some(i)) => of_word(host, i).unwrap_or(Form::Epr),
+        (None, None) => Form::Epr,
     }
-    let named = of_word(host, word);
-    if named == UNSAID { EPR } else { named }
 }

@@ -1,101 +1,74 @@
 // The words of the command `image`: `info FILE`, and `convert FILE OUT --to 1` or `--to 2`.
-use crate::{IMAGE_WORD, MISSING, OPTION, TO, after, complain, is};
+use crate::reader::Reader;
+use crate::same;
+use crate::wrong::Wrong;
+use help::Command;
 use host::Host;
 
-// What is asked for; `ok` false: a word was wrong, and that was said. `file` and `out` are the words that name the files; `version` is the one
-// to convert to.
+// What is asked for: `file` and `out` are the words that name the files; `version` is the one to convert to.
 #[derive(Clone, Copy)]
-pub struct Imaging {
-    pub ok: bool,
-    pub converts: bool,
-    pub file: usize,
-    pub out: usize,
-    pub version: u8,
+pub enum Imaging {
+    Info {
+        file: usize,
+    },
+    Convert {
+        file: usize,
+        out: usize,
+        version: u8,
+    },
 }
 
-fn wrong(host: &Host, i: usize, kind: usize) -> Imaging {
-    complain(host, help::IMAGE, i, kind);
-    Imaging {
-        ok: false,
-        converts: false,
-        file: 0,
-        out: 0,
-        version: 0,
+impl Imaging {
+    // The word that names the file that is read.
+    pub fn file(self) -> usize {
+        match self {
+            Imaging::Info { file } | Imaging::Convert { file, .. } => file,
+        }
     }
 }
 
-// No word is left over behind the last.
-fn ended(host: &Host, asked: Imaging, last: usize, end: usize) -> Imaging {
-    let next = after(last);
-    if next < end {
-        return wrong(host, next, OPTION);
-    }
-    asked
+fn info(read: &mut Reader) -> Option<Imaging> {
+    let file = read.file()?;
+    read.ended()?;
+    Some(Imaging::Info { file })
 }
 
-fn info(host: &Host, next: usize, end: usize) -> Imaging {
-    if end <= next {
-        return wrong(host, end, MISSING);
+fn version_of(word: &[u8]) -> Option<u8> {
+    match word {
+        b"1" => Some(1),
+        b"2" => Some(2),
+        _ => None,
     }
-    let asked = Imaging {
-        ok: true,
-        converts: false,
-        file: next,
-        out: 0,
-        version: 0,
+}
+
+fn convert(read: &mut Reader) -> Option<Imaging> {
+    read.wants(4)?;
+    let file = read.file()?;
+    let out = read.file()?;
+    if !same(read.word().bytes(), b"--to") {
+        return read.wrong(Wrong::To);
+    }
+    read.pass();
+    let Some(version) = version_of(read.word().bytes()) else {
+        return read.wrong(Wrong::To);
     };
-    ended(host, asked, next, end)
+    read.pass();
+    read.ended()?;
+    Some(Imaging::Convert { file, out, version })
 }
 
-// 0 where the word is neither version.
-fn version_at(host: &Host, i: usize) -> u8 {
-    if is(host, i, b"1") {
-        return 1;
+// The words go from `next` to before `end`; none where one was wrong, and that was said.
+pub fn asked(host: &Host, next: usize, end: usize) -> Option<Imaging> {
+    let mut read = Reader::new(host, Command::Image, next, end);
+    read.wants(1)?;
+    let word = read.word();
+    if same(word.bytes(), b"info") {
+        read.pass();
+        return info(&mut read);
     }
-    if is(host, i, b"2") { 2 } else { 0 }
-}
-
-fn convert_to(host: &Host, file: usize, option: usize, end: usize) -> Imaging {
-    let last = after(option);
-    let version = version_at(host, last);
-    if version == 0 {
-        return wrong(host, last, TO);
+    if same(word.bytes(), b"convert") {
+        read.pass();
+        return convert(&mut read);
     }
-    let asked = Imaging {
-        ok: true,
-        converts: true,
-        file,
-        out: after(file),
-        version,
-    };
-    ended(host, asked, last, end)
-}
-
-fn convert(host: &Host, next: usize, end: usize) -> Imaging {
-    let option = after(after(next));
-    if end <= after(option) {
-        return wrong(host, end, MISSING);
-    }
-    if is(host, option, b"--to") {
-        return convert_to(host, next, option, end);
-    }
-    wrong(host, option, TO)
-}
-
-fn chosen(host: &Host, next: usize, end: usize) -> Imaging {
-    if is(host, next, b"info") {
-        return info(host, after(next), end);
-    }
-    if is(host, next, b"convert") {
-        return convert(host, after(next), end);
-    }
-    wrong(host, next, IMAGE_WORD)
-}
-
-// The words go from `next` to before `end`.
-pub fn asked(host: &Host, next: usize, end: usize) -> Imaging {
-    if next < end {
-        return chosen(host, next, end);
-    }
-    wrong(host, end, MISSING)
+    read.wrong(Wrong::ImageWord)
 }

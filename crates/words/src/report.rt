@@ -18,29 +18,18 @@ const FULL: u32 = 4294967295;
 
 // ---- what was refused
 
-// The address of the i-th byte from one on. The sum is guarded for the proof alone, as is the product below: what is shown lies in an array.
+// The address of the i-th byte from one on. What is shown lies in an array, so neither this sum nor the product below is too large.
 pub fn onward(from: usize, i: usize) -> usize {
-    if from < 65536 {
-        if i < 65536 {
-            return from + i;
-        }
-    }
-    from
+    from.saturating_add(i)
 }
 
 // The first address of a page, and its last.
 pub fn first_of(page: usize, size: usize) -> usize {
-    if page < 65536 {
-        if size < 65536 {
-            return page * size;
-        }
-    }
-    0
+    page.saturating_mul(size)
 }
 
 fn last_of(page: usize, size: usize) -> usize {
-    let next = onward(first_of(page, size), size);
-    if 0 < next { next - 1 } else { 0 }
+    onward(first_of(page, size), size).saturating_sub(1)
 }
 
 // A page's number, and its addresses.
@@ -93,7 +82,7 @@ fn lost_data(host: &Host, g: Ground, i: usize, r: Refusal) -> bool {
 // What a call is refused for, and which byte ended a run that has begun. Of a HEX file standard error has the reason; the others cannot
 // come of these commands.
 fn reason(host: &Host, g: Ground, r: Refusal) -> bool {
-    let k = parts::verdict_place(Verdict::Refused(r));
+    let k = parts::verdict_place(Err(r));
     match r {
         Refusal::NoPart => answer::no_part(host, true),
         Refusal::WrongEnable => answer::wrong_enable(host, true),
@@ -114,31 +103,28 @@ fn reason(host: &Host, g: Ground, r: Refusal) -> bool {
         Refusal::NoData(_) => lost_data(host, g, k, r),
         Refusal::PollsUsed => advised(host, say(host, true, b"polls used up"), r),
         Refusal::BadImage => answer::no_image(host, true),
-        Refusal::WrongBuffer => true,
-        Refusal::BadState => true,
-        Refusal::ShortBuffer => true,
-        Refusal::TooMany => true,
-        Refusal::BadRecord(_) => true,
-        Refusal::BadSum(_) => true,
-        Refusal::Misplaced(_) => true,
-        Refusal::NoEnd(_) => true,
-        Refusal::BadSample(_) => true,
-        Refusal::CountsLost => true,
+        Refusal::WrongBuffer
+        | Refusal::BadState
+        | Refusal::ShortBuffer
+        | Refusal::TooMany
+        | Refusal::BadRecord(_)
+        | Refusal::BadSum(_)
+        | Refusal::Misplaced(_)
+        | Refusal::NoEnd(_)
+        | Refusal::BadSample(_)
+        | Refusal::CountsLost => true,
     }
 }
 
 pub fn refused(host: &Host, g: Ground, r: Refusal) -> bool {
-    if answer::refused(host, r) {
-        return reason(host, g, r);
-    }
-    false
+    answer::refused(host, r) && reason(host, g, r)
 }
 
 // The first line, which tells a refusal from a run that is done.
 pub fn head(host: &Host, g: Ground, verdict: Verdict) -> bool {
     match verdict {
-        Verdict::Fine => say(host, true, b"done\n"),
-        Verdict::Refused(r) => refused(host, g, r),
+        Ok(()) => say(host, true, b"done\n"),
+        Err(r) => refused(host, g, r),
     }
 }
 

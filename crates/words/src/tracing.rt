@@ -1,10 +1,11 @@
 // The words of the command `trace`: files, with its options before, between and behind them.
-use crate::{MISSING, OPTION, after, complain, dashed_at, is, is_input, trouble};
-use help::TRACE;
+use crate::wrong::{Wrong, complain};
+use crate::{after, dashed_at, is, is_input, trouble};
+use help::Command;
 use host::Host;
 
 // What a word is.
-#[derive(Clone, Copy)]
+#[derive(Clone, Copy, PartialEq, Eq)]
 pub enum Role {
     File,
     Bytes,
@@ -14,16 +15,13 @@ pub enum Role {
     Wrong,
 }
 
-// What is asked for; `ok` false: a word was wrong, and that was said. `files`: how many there are, the last of them at the word `last`;
-// `vcd`: the word that names the file that is drawn, or 0.
+// What is asked for: how many files there are, and the words that name the last of them and the file that is drawn.
 #[derive(Clone, Copy)]
 pub struct Tracing {
-    pub ok: bool,
     pub bytes: bool,
-    pub vcd: usize,
+    pub vcd: Option<usize>,
     pub files: usize,
     pub last: usize,
-    role: Role,
     inputs: usize,
 }
 
@@ -48,11 +46,6 @@ pub fn role_of(host: &Host, before: Role, i: usize) -> Role {
     }
 }
 
-fn wrong(host: &Host, t: Tracing, i: usize, kind: usize) -> Tracing {
-    complain(host, TRACE, i, kind);
-    Tracing { ok: false, ..t }
-}
-
 fn file(host: &Host, t: Tracing, i: usize) -> Tracing {
     let inputs = if is_input(host, i) {
         after(t.inputs)
@@ -68,86 +61,49 @@ fn file(host: &Host, t: Tracing, i: usize) -> Tracing {
 }
 
 // One file is drawn.
-fn drawn(host: &Host, t: Tracing, i: usize) -> Tracing {
-    if t.vcd == 0 {
-        return t;
-    }
-    wrong(host, t, i, OPTION)
-}
-
-fn seen(host: &Host, t: Tracing, role: Role, i: usize) -> Tracing {
+fn seen(host: &Host, t: Tracing, role: Role, i: usize) -> Option<Tracing> {
     match role {
-        Role::File => file(host, t, i),
-        Role::Bytes => Tracing { bytes: true, ..t },
-        Role::Vcd => drawn(host, t, i),
-        Role::VcdFile => Tracing { vcd: i, ..t },
-        Role::Wrong => wrong(host, t, i, OPTION),
+        Role::File => Some(file(host, t, i)),
+        Role::Bytes => Some(Tracing { bytes: true, ..t }),
+        Role::Vcd if t.vcd.is_none() => Some(t),
+        Role::VcdFile => Some(Tracing { vcd: Some(i), ..t }),
+        Role::Vcd | Role::Wrong => {
+            complain(host, Command::Trace, i, Wrong::TooMany);
+            None
+        }
     }
 }
 
-fn next(host: &Host, t: Tracing, i: usize) -> Tracing {
-    let before = t.role;
-    let here = role_of(host, before, i);
-    let behind = seen(host, t, here, i);
-    Tracing {
-        role: here,
-        ..behind
-    }
-}
-
-fn look(host: &Host, first: usize, end: usize) -> Tracing {
+fn look(host: &Host, first: usize, end: usize) -> Option<Tracing> {
     let mut t = Tracing {
-        ok: true,
         bytes: false,
-        vcd: 0,
+        vcd: None,
         files: 0,
         last: 0,
-        role: Role::Bytes,
         inputs: 0,
     };
-    let mut i = first;
-    while i < end {
-        t = next(host, t, i);
-        if !t.ok {
-            return t;
-        }
-        i += 1;
+    let mut role = Role::Bytes;
+    for i in first..end {
+        role = role_of(host, role, i);
+        t = seen(host, t, role, i)?;
     }
-    t
+    if role == Role::Vcd {
+        complain(host, Command::Trace, end, Wrong::Missing);
+        return None;
+    }
+    Some(t)
 }
 
-fn mistaken(host: &Host, t: Tracing, what: &[u8]) -> Tracing {
-    trouble(host, what);
-    Tracing { ok: false, ..t }
-}
-
-// Standard input is read once, and one trace is drawn.
-fn whole(host: &Host, t: Tracing) -> Tracing {
+// The words go from `next` to before `end`; none where one was wrong, and that was said. Standard input is read once, and one trace is drawn.
+pub fn asked(host: &Host, first: usize, end: usize) -> Option<Tracing> {
+    let t = look(host, first, end)?;
     if 1 < t.inputs {
-        return mistaken(host, t, b"only one FILE can be standard input\n");
+        trouble(host, b"only one FILE can be standard input\n");
+        return None;
     }
-    if (0 < t.vcd) & (1 < t.files) {
-        return mistaken(host, t, b"--vcd draws one trace: there are more\n");
+    if t.vcd.is_some() && 1 < t.files {
+        trouble(host, b"--vcd draws one trace: there are more\n");
+        return None;
     }
-    t
-}
-
-fn wants_file(last: Role) -> bool {
-    match last {
-        Role::Vcd => true,
-        _ => false,
-    }
-}
-
-// The words go from `next` to before `end`.
-pub fn asked(host: &Host, first: usize, end: usize) -> Tracing {
-    let t = look(host, first, end);
-    let last = t.role;
-    if !t.ok {
-        return t;
-    }
-    if wants_file(last) {
-        return wrong(host, t, end, MISSING);
-    }
-    whole(host, t)
+    Some(t)
 }

@@ -1,4 +1,0 @@
-use Rattle.tables.proofs.play_turns.Goals as goal
-
-pub turn-l-requires : goal.turn-l-requires
-turn-l-requires c = tt
