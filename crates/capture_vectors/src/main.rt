@@ -7,34 +7,16 @@
 // 60000 on a count is that much below the top as the number is below 65535.
 #![tactic(auto)]
 
-ghost use Rattle.std.specs.Prelude.{◌≡◌, length};
-
-use capture::{Mark, Seen, Stroke, Tally, Wires};
-use cases::mixed;
+use capture::{Mark, Seen, Wires};
+use cases::told::{tell, tell_done};
+use cases::{Laid, Lent, ended, fill, first, label, mixed, numbers, split_once};
 use host::{Host, STDIN};
 use line::{Core, Line};
-use parts::{Loss, Verdict};
+use parts::Loss;
 use state::Chip;
-use text::wide;
+use text::{narrow, wide};
 
 // ---- what is told
-
-fn tell(host: &Host, name: &[u8], n: usize) {
-    host.say(name);
-    host.say_number(n);
-}
-
-fn tell_verdict(host: &Host, verdict: Verdict) {
-    match verdict {
-        Verdict::Fine => {
-            host.say(b"done");
-        }
-        Verdict::Refused(_) => {
-            tell(host, b"refused ", wide(parts::verdict_number(verdict)));
-            tell(host, b" at ", parts::verdict_place(verdict));
-        }
-    }
-}
 
 fn tell_mark(host: &Host, mark: Mark) {
     match mark {
@@ -50,22 +32,19 @@ fn tell_mark(host: &Host, mark: Mark) {
 }
 
 fn tell_chip(host: &Host, chip: Chip) {
-    let line = chip.line;
-    let core = line.core;
-    tell(host, b", counter ", core.counter as usize);
-    tell(host, b" left ", wide(line.left));
-    tell(host, b" locked ", wide(parts::flag(core.locked)));
+    let core = chip.line.core;
+    tell(host, b", counter ", usize::from(core.counter));
+    tell(host, b" left ", wide(chip.line.left));
+    tell(host, b" locked ", usize::from(core.locked));
 }
 
 fn tell_seen(host: &Host, s: Seen, array: &[u8], id: &[u8]) {
-    let verdict = s.verdict;
-    let mark = s.mark;
-    tell_verdict(host, verdict);
+    tell_done(host, s.verdict);
     tell(host, b", events ", s.events);
     tell(host, b" clocks ", s.clocks);
     tell(host, b" ends ", s.ends);
     tell(host, b" cycles ", s.cycles);
-    tell_mark(host, mark);
+    tell_mark(host, s.mark);
     tell_chip(host, s.chip);
     tell(host, b", array ", mixed(array));
     tell(host, b" id ", mixed(id));
@@ -74,312 +53,212 @@ fn tell_seen(host: &Host, s: Seen, array: &[u8], id: &[u8]) {
 
 // ---- letters and samples
 
-fn digit(x: u8) -> u8 {
-    if x < 48 { 0 } else { x - 48 }
+const EVENTS: usize = 4096;
+
+const SAMPLES: usize = 16384;
+
+fn spell<'a, F: Fn(u8) -> u8>(typed: &[u8], meant: F, room: &'a mut [u8]) -> Laid<'a>
+    requires { F.IsAlwaysCallable meant }
+{
+    let mut laid = Laid::new(room);
+    for x in typed {
+        laid.push(meant(*x));
+    }
+    laid
 }
 
-fn meant(letters: bool, x: u8) -> u8 {
-    if letters {
-        return trace::code_of(x);
-    }
-    digit(x)
+fn codes<'a>(typed: &[u8], room: &'a mut [u8]) -> Laid<'a> {
+    spell(typed, |x| trace::code_of(x), room)
 }
 
-fn spell(letters: bool, typed: &[u8], to: &mut [u8]) -> usize {
-    let mut i = 0;
-    while i < typed.len() {
-        if to.len() <= i {
-            return i;
-        }
-        to[i] = meant(letters, typed[i]);
-        i += 1;
+fn samples<'a>(typed: &[u8], room: &'a mut [u8]) -> Laid<'a> {
+    spell(typed, |x| x.saturating_sub(b'0'), room)
+}
+
+// ---- a chip on which letters were run
+
+// What a capture is run on, beside the chip.
+#[derive(Clone, Copy)]
+struct Case {
+    part: u8,
+    enable: u8,
+    bus: bool,
+}
+
+fn spoilt(chip: Chip) -> Chip {
+    Chip {
+        line: Line {
+            core: Core {
+                counter: 65535,
+                ..chip.line.core
+            },
+            ..chip.line
+        },
+        ..chip
     }
-    i
+}
+
+fn before(case: Case, typed: &[u8], lent: &mut Lent) -> Chip {
+    let mut room = [0u8; EVENTS];
+    let mut levels = [0u8; EVENTS];
+    let codes = codes(typed, &mut room);
+    let (array, id) = lent.part(case.part);
+    let chip = chip::standby(case.part, false);
+    let r = chip::run(
+        case.part,
+        case.enable,
+        Loss::Old,
+        b"",
+        chip,
+        array,
+        id,
+        codes.bytes(),
+        &mut levels,
+    );
+    r.chip
+}
+
+fn see(host: &Host, case: Case, chip: Chip, samples: &[u8], array: &mut [u8], id: &mut [u8]) {
+    let s = capture::run(case.part, case.enable, chip, array, id, case.bus, samples);
+    tell_seen(host, s, array, id);
 }
 
 fn own(n: usize, length: usize) -> usize {
     if n < 70000 { n } else { length }
 }
 
-// ---- a chip on which letters were run
-
-fn spoilt(chip: Chip, bad: bool) -> Chip {
-    if !bad {
-        return chip;
-    }
-    let line = chip.line;
-    let core = line.core;
-    Chip {
-        line: Line {
-            core: Core {
-                counter: 65535,
-                ..core
-            },
-            ..line
-        },
-        ..chip
-    }
+fn ran(host: &Host, line: &[u8]) {
+    let [part, enable, array, id, bad, bus, ..] = numbers(line);
+    let typed = label(line);
+    let (letters, digits) = split_once(typed, b'/').unwrap_or((typed, typed));
+    let case = Case {
+        part: narrow(part),
+        enable: narrow(enable),
+        bus: bus == 1,
+    };
+    let f = parts::facts_of(case.part);
+    let mut room = [0u8; SAMPLES];
+    let mut lent = Lent::filled();
+    let left = before(case, letters, &mut lent);
+    let chip = if bad == 1 { spoilt(left) } else { left };
+    let samples = samples(digits, &mut room);
+    let (array, id) = lent.first(own(array, f.size), own(id, parts::id_size(f)));
+    see(host, case, chip, samples.bytes(), array, id);
 }
 
-fn before(
-    part: u8,
-    enable: u8,
-    bad: bool,
-    typed: &[u8],
-    array: &mut [u8],
-    id: &mut [u8],
-    levels: &mut [u8],
-) -> Chip {
-    let mut codes = [0u8; 4096];
-    let n = spell(true, typed, &mut codes);
-    let chip = chip::standby(part, false);
+// ---- wires, drawn
+
+fn draw_all<'a>(codes: &[u8], levels: &[u8], room: &'a mut [u8]) -> Laid<'a> {
+    let mut laid = Laid::new(room);
+    let mut wires = Wires::Rest;
+    laid.push(3);
+    for (i, code) in codes.iter().enumerate() {
+        let stroke = capture::draw(wires, capture::lined(*code, parts::byte_at(levels, i)));
+        laid.extend(first(&stroke.samples, stroke.count));
+        wires = stroke.wires;
+    }
+    laid
+}
+
+fn run_drawn(host: &Host, case: Case, codes: &[u8], levels: &mut [u8]) {
+    let mut lent = Lent::filled();
+    let (array, id) = lent.part(case.part);
+    let chip = chip::standby(case.part, false);
     let r = chip::run(
-        part,
-        enable,
+        case.part,
+        case.enable,
         Loss::Old,
         b"",
         chip,
         array,
         id,
-        cases::cut(&codes, 0, n),
+        codes,
         levels,
     );
-    spoilt(r.chip, bad)
-}
-
-fn see(host: &Host, v: [usize; 16], chip: Chip, typed: &[u8], array: &mut [u8], id: &mut [u8]) {
-    let mut samples = [0u8; 16384];
-    let n = spell(false, typed, &mut samples);
-    let s = capture::run(
-        text::narrow(v[0]),
-        text::narrow(v[1]),
-        chip,
-        array,
-        id,
-        v[5] == 1,
-        cases::cut(&samples, 0, n),
-    );
-    tell_seen(host, s, array, id);
-}
-
-fn run_in(
-    host: &Host,
-    v: [usize; 16],
-    typed: &[u8],
-    array: &mut [u8],
-    id: &mut [u8],
-    levels: &mut [u8],
-) {
-    let part = text::narrow(v[0]);
-    let f = parts::facts_of(part);
-    let at = cases::place(typed, b'/');
-    let letters = cases::cut(typed, 0, at);
-    let digits = cases::cut(typed, cases::more(at), typed.len());
-    let chip = before(
-        part,
-        text::narrow(v[1]),
-        v[4] == 1,
-        letters,
-        fitted::array(part, array),
-        fitted::id(part, id),
-        levels,
-    );
-    let n = own(v[2], f.size);
-    let d = own(v[3], parts::id_size(f));
-    see(
-        host,
-        v,
-        chip,
-        digits,
-        fitted::first(array, n),
-        fitted::first(id, d),
-    );
-}
-
-fn ran(host: &Host, line: &[u8]) {
-    let mut array = [0u8; 32769];
-    let mut id = [0u8; 65];
-    let mut levels = [0u8; 4096];
-    fresh(&mut array, &mut id);
-    run_in(
-        host,
-        cases::numbers(line),
-        cases::label(line),
-        &mut array,
-        &mut id,
-        &mut levels,
-    );
-}
-
-// ---- wires, drawn
-
-#[derive(Clone, Copy)]
-struct Laid {
-    n: usize,
-    wires: Wires,
-}
-
-// Behind the first n bytes, where there is room.
-fn add(on: bool, to: &mut [u8], n: usize, x: u8) -> usize {
-    if on {
-        if n < to.len() {
-            to[n] = x;
-            return n + 1;
-        }
-    }
-    n
-}
-
-fn lay(to: &mut [u8], n: usize, stroke: Stroke) -> Laid {
-    let s = stroke.samples;
-    let wires = stroke.wires;
-    let mut k = n;
-    let mut i = 0;
-    while i < 4 {
-        k = add(i < stroke.count, to, k, s[i]);
-        i += 1;
-    }
-    Laid { n: k, wires }
-}
-
-fn draw_all(codes: &[u8], levels: &[u8], to: &mut [u8]) -> usize {
-    let mut d = Laid {
-        n: add(true, to, 0, 3),
-        wires: Wires::Rest,
-    };
-    let mut i = 0;
-    while i < codes.len() {
-        let code = capture::lined(codes[i], parts::byte_at(levels, i));
-        let wires = d.wires;
-        let stroke = capture::draw(wires, code);
-        d = lay(to, d.n, stroke);
-        i += 1;
-    }
-    d.n
-}
-
-fn turn(samples: &mut [u8], at: usize) {
-    if at < samples.len() {
-        samples[at] = samples[at] ^ 2;
-    }
-}
-
-fn fresh(array: &mut [u8], id: &mut [u8]) {
-    cases::fill(array, 0);
-    cases::fill(id, 100);
-}
-
-fn see_drawn(host: &Host, v: [usize; 16], samples: &[u8], array: &mut [u8], id: &mut [u8]) {
-    let part = text::narrow(v[0]);
-    let chip = chip::standby(part, false);
-    fresh(array, id);
-    let s = capture::run(
-        part,
-        text::narrow(v[1]),
-        chip,
-        array,
-        id,
-        v[2] == 1,
-        samples,
-    );
-    tell_seen(host, s, array, id);
-}
-
-fn run_drawn(
-    host: &Host,
-    v: [usize; 16],
-    codes: &[u8],
-    levels: &mut [u8],
-    array: &mut [u8],
-    id: &mut [u8],
-) {
-    let part = text::narrow(v[0]);
-    let chip = chip::standby(part, false);
-    fresh(array, id);
-    let enable = text::narrow(v[1]);
-    let r = chip::run(part, enable, Loss::Old, b"", chip, array, id, codes, levels);
     tell(host, b"cycles ", r.cycles);
     tell(host, b" array ", mixed(array));
 }
 
-fn lay_all(host: &Host, v: [usize; 16], codes: &[u8], levels: &[u8], samples: &mut [u8]) -> usize {
-    let n = draw_all(codes, levels, samples);
-    turn(samples, v[3]);
-    tell(host, b", samples ", n);
-    tell(host, b" ", mixed(cases::cut(samples, 0, n)));
+fn see_drawn(host: &Host, case: Case, samples: &[u8]) {
+    let mut lent = Lent::filled();
+    let (array, id) = lent.part(case.part);
+    tell(host, b", samples ", samples.len());
+    tell(host, b" ", mixed(samples));
     host.say(b": ");
-    n
-}
-
-fn drawn_in(
-    host: &Host,
-    v: [usize; 16],
-    codes: &[u8],
-    samples: &mut [u8],
-    array: &mut [u8],
-    id: &mut [u8],
-) {
-    let mut levels = [0u8; 4096];
-    run_drawn(host, v, codes, &mut levels, array, id);
-    let n = lay_all(host, v, codes, &levels, samples);
-    see_drawn(host, v, cases::cut(samples, 0, n), array, id);
+    see(
+        host,
+        case,
+        chip::standby(case.part, false),
+        samples,
+        array,
+        id,
+    );
 }
 
 fn drawn(host: &Host, line: &[u8]) {
-    let v = cases::numbers(line);
-    let mut codes = [0u8; 4096];
-    let mut samples = [0u8; 16384];
-    let mut array = [0u8; 32769];
-    let mut id = [0u8; 65];
-    let n = spell(true, cases::label(line), &mut codes);
-    let part = text::narrow(v[0]);
-    drawn_in(
-        host,
-        v,
-        cases::cut(&codes, 0, n),
-        &mut samples,
-        fitted::array(part, &mut array),
-        fitted::id(part, &mut id),
-    );
+    let [part, enable, bus, turn, ..] = numbers(line);
+    let case = Case {
+        part: narrow(part),
+        enable: narrow(enable),
+        bus: bus == 1,
+    };
+    let mut letters = [0u8; EVENTS];
+    let mut levels = [0u8; EVENTS];
+    let mut room = [0u8; SAMPLES];
+    let codes = codes(label(line), &mut letters);
+    run_drawn(host, case, codes.bytes(), &mut levels);
+    let samples = draw_all(codes.bytes(), &levels, &mut room).into_bytes();
+    if let Some(sample) = samples.get_mut(turn) {
+        *sample ^= 2;
+    }
+    see_drawn(host, case, samples);
 }
 
 // ---- events and counts
 
 fn list_in(host: &Host, bus: bool, samples: &[u8], out: &mut [u8]) {
     let l = capture::events(bus, samples, out);
-    let verdict = l.verdict;
-    tell_verdict(host, verdict);
+    tell_done(host, l.verdict);
     tell(host, b", events ", l.length);
     tell(host, b", out ", mixed(out));
     host.say(b"\n");
 }
 
 fn listed(host: &Host, line: &[u8]) {
-    let v = cases::numbers(line);
-    let mut samples = [0u8; 16384];
-    let mut out = [0u8; 4096];
-    cases::fill(&mut out, 50);
-    let n = spell(false, cases::label(line), &mut samples);
+    let [bus, lent, ..] = numbers(line);
+    let mut room = [0u8; SAMPLES];
+    let mut out = [0u8; EVENTS];
+    fill(&mut out, 50);
+    let samples = samples(label(line), &mut room);
     list_in(
         host,
-        v[0] == 1,
-        cases::cut(&samples, 0, n),
-        fitted::first(&mut out, v[1]),
+        bus == 1,
+        samples.bytes(),
+        fitted::first(&mut out, lent),
     );
 }
 
 fn below_top(n: usize) -> u32 {
-    if n < 60000 {
-        return n as u32;
+    match u32::try_from(n) {
+        Ok(n) if n < 60000 => n,
+        Ok(n) if n < 65536 => u32::MAX - (65535 - n),
+        _ => 0,
     }
-    if n < 65536 {
-        return 4294967295 - (65535 - n) as u32;
-    }
-    0
 }
 
-fn tell_tally(host: &Host, verdict: Verdict, t: Tally) {
-    tell_verdict(host, verdict);
+fn counted(host: &Host, line: &[u8]) {
+    let [bus, starts, stops, bytes, misses, ..] = numbers(line);
+    let mut room = [0u8; SAMPLES];
+    let laid = samples(label(line), &mut room);
+    let t = capture::tallied_by(
+        below_top(starts),
+        below_top(stops),
+        below_top(bytes),
+        below_top(misses),
+        bus == 1,
+        laid.bytes(),
+    );
+    tell_done(host, capture::judge(laid.bytes()));
     tell(host, b", starts ", t.starts as usize);
     tell(host, b" stops ", t.stops as usize);
     tell(host, b" bytes ", t.bytes as usize);
@@ -387,30 +266,15 @@ fn tell_tally(host: &Host, verdict: Verdict, t: Tally) {
     host.say(b"\n");
 }
 
-fn counted(host: &Host, line: &[u8]) {
-    let v = cases::numbers(line);
-    let mut samples = [0u8; 16384];
-    let n = spell(false, cases::label(line), &mut samples);
-    let t = capture::tallied_by(
-        below_top(v[1]),
-        below_top(v[2]),
-        below_top(v[3]),
-        below_top(v[4]),
-        v[0] == 1,
-        cases::cut(&samples, 0, n),
-    );
-    tell_tally(host, capture::judge(cases::cut(&samples, 0, n)), t);
-}
-
 // ---- lines
 
 fn one(host: &Host, line: &[u8]) {
-    if line.len() == 0 {
+    let Some(letter) = line.first() else {
         return;
-    }
+    };
     host.say(line);
     host.say(b"\n  ");
-    match line[0] {
+    match letter {
         b'r' => ran(host, line),
         b'd' => drawn(host, line),
         b'e' => listed(host, line),
@@ -418,38 +282,11 @@ fn one(host: &Host, line: &[u8]) {
     }
 }
 
-// The limit is for the proof alone.
-fn after(i: usize) -> usize {
-    if i < 1000000 { i + 1 } else { i }
-}
-
-// Where the line that is under way begins, once byte i is seen.
-fn ended(host: &Host, input: &[u8], start: usize, i: usize) -> usize {
-    if parts::byte_at(input, i) != b'\n' {
-        return start;
-    }
-    one(host, cases::cut(input, start, i));
-    after(i)
-}
-
-fn each(host: &Host, input: &[u8]) {
-    let mut start = 0;
-    let mut i = 0;
-    while i < input.len() {
-        start = ended(host, input, start, i);
-        i += 1;
-    }
-}
-
-fn blank() -> [u8; 262144]
-    ensures { 262144 ≡ length result }
-{
-    [0; 262144]
-}
-
 fn main(rt: HostRuntime) {
     let host = Host::new(rt);
-    let mut input = blank();
+    let mut input = [0u8; 262144];
     let n = host.read_full(STDIN, &mut input);
-    each(&host, cases::cut(&input, 0, n));
+    for line in ended(&input[..n], b'\n') {
+        one(&host, line);
+    }
 }

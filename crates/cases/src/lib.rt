@@ -1,125 +1,102 @@
-// The lines that a trying program reads: a letter for what is done, up to sixteen numbers and, after a colon, what is tried.
+// The lines that a trying program reads: a letter for what is done, up to sixteen numbers and, after a colon, what is tried. And what the trying
+// programs have in common: what they lend to a call, and how they tell its answer.
 #![tactic(auto)]
 
+ghost use Rattle.std.specs.Prelude.{◌≡◌, ◌+◌, ◌<◌, length, take, IfSome};
+
 pub mod counts;
+mod laid;
+mod lent;
+mod marks;
+mod pattern;
+pub mod told;
 
-// The part from `a` to `e`, for a caller whose slice has it.
-pub fn cut(s: &[u8], a: usize, e: usize) -> &[u8] {
-    if a <= e {
-        if e <= s.len() {
-            return &s[a..e];
-        }
+pub use laid::Laid;
+pub use lent::Lent;
+pub use marks::{Marked, ended};
+use parts::Loss;
+pub use pattern::{Pattern, fill, filled};
+
+// ---- parts of a buffer
+
+// The first n; all of a buffer that has fewer.
+pub fn first<T>(s: &[T], n: usize) -> &[T]
+    ensures { result.now ≡ take n s.now }
+{
+    &s[..n.min(s.len())]
+}
+
+pub fn set<T: Copy>(s: &mut [T], at: usize, x: T) {
+    if let Some(place) = s.get_mut(at) {
+        *place = x;
     }
-    s
 }
 
-pub fn more(n: usize) -> usize {
-    if n < 65536 { n + 1 } else { n }
-}
+// ---- lines
 
 // A number with one digit more; anything but a digit leaves it, and so does an eleventh digit.
 fn with_digit(n: usize, x: u8) -> usize {
-    if x < 48 {
-        return n;
-    }
-    if 57 < x {
-        return n;
-    }
-    if n < 1000000000 {
-        return n * 10 + (x - 48) as usize;
-    }
-    n
-}
-
-fn put(values: &mut [usize; 16], k: usize, x: u8) {
-    if k < 16 {
-        values[k] = with_digit(values[k], x);
+    match x {
+        b'0'..=b'9' if n < 1000000000 => n * 10 + usize::from(x - b'0'),
+        _ => n,
     }
 }
 
-fn read(line: &[u8], values: &mut [usize; 16]) {
-    let mut k = 0;
-    let mut i = 2;
-    while i < line.len() {
-        if line[i] == b' ' {
-            k = more(k);
-        }
-        put(values, k, line[i]);
-        i += 1;
-    }
+fn number(digits: &[u8]) -> usize {
+    digits.iter().fold(0, |n, x| with_digit(n, *x))
 }
 
 // The numbers of a line after its first two bytes, a space between them; what follows the sixteenth is passed over.
 pub fn numbers(line: &[u8]) -> [usize; 16] {
     let mut values = [0; 16];
-    read(line, &mut values);
+    let typed = line.get(2..).unwrap_or(b"");
+    for (value, digits) in values.iter_mut().zip(typed.split(|x| *x == b' ')) {
+        *value = number(digits);
+    }
     values
 }
 
-// Where a byte first stands; where there is none, the end.
-pub fn place(line: &[u8], mark: u8) -> usize {
-    let mut i = 0;
-    while i < line.len() {
-        if line[i] == mark {
-            return i;
-        }
-        i += 1;
-    }
-    line.len()
+// What stands before the first such byte, and what behind it.
+pub fn split_once(s: &[u8], mark: u8) -> Option<(&[u8], &[u8])>
+    ensures { IfSome result (λ p. length p.0.now + length p.1.now + 1 ≡ length s.now) }
+{
+    let n = s.iter().position(|x| *x == mark)?;
+    Some((&s[..n], &s[n + 1..]))
 }
 
-// What is tried: the text behind the colon and a space.
+// The same, where nothing stands behind a byte that is not there.
+pub fn halves(s: &[u8], mark: u8) -> (&[u8], &[u8]) {
+    split_once(s, mark).unwrap_or((s, b""))
+}
+
+// What is tried: the text behind the colon and a space; all of a line without them.
 pub fn label(line: &[u8]) -> &[u8] {
-    cut(line, more(more(place(line, b':'))), line.len())
-}
-
-// Up to the first such byte.
-pub fn front(s: &[u8], mark: u8) -> &[u8] {
-    cut(s, 0, place(s, mark))
-}
-
-// Behind the first such byte; nothing where there is none.
-pub fn behind(s: &[u8], mark: u8) -> &[u8] {
-    let n = place(s, mark);
-    if n < s.len() {
-        return cut(s, more(n), s.len());
-    }
-    cut(s, s.len(), s.len())
-}
-
-// ---- bytes that tell places apart
-
-pub fn next(x: u8) -> u8 {
-    if x < 250 { x + 1 } else { 0 }
-}
-
-// Every buffer is filled so before it is lent; 251 is no multiple of a page, so that the bytes tell the pages apart.
-pub fn fill(s: &mut [u8], first: u8) {
-    let mut x = first;
-    let mut i = 0;
-    while i < s.len() {
-        s[i] = x;
-        x = next(x);
-        i += 1;
+    match split_once(line, b':') {
+        Some((_, [_, tried @ ..])) => tried,
+        _ => line,
     }
 }
+
+// ---- what is given for a loss of power
+
+// 0 the old contents, 1 a lent page, 2 a lent page and the lock.
+pub fn loss_of(n: usize) -> Loss {
+    if n == 0 {
+        return Loss::Old;
+    }
+    Loss::Lent(n == 2)
+}
+
+// ---- numbers that tell buffers apart
 
 // Two numbers as one that tells them apart.
-pub fn mix(sum: usize, x: usize) -> usize {
+pub fn mix(sum: usize, x: usize) -> usize
+    ensures { result < 1000003 }
+{
     (sum % 1000003 * 31 + x % 1000003) % 1000003
 }
 
-fn mix_byte(sum: usize, x: u8) -> usize {
-    mix(sum, x as usize)
-}
-
-// A number that tells buffers apart by their bytes and the places of these.
-pub fn mixed(s: &[u8]) -> usize {
-    let mut sum = 0;
-    let mut i = 0;
-    while i < s.len() {
-        sum = mix_byte(sum, s[i]);
-        i += 1;
-    }
-    sum
+// A number that tells lists apart by what stands in them and where.
+pub fn mixed<T: Copy + Into<u64>>(s: &[T]) -> usize {
+    s.iter().fold(0, |sum, x| mix(sum, (*x).into() as usize))
 }

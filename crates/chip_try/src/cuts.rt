@@ -2,107 +2,127 @@
 //
 // A line of `p` is a step and a run as those of `b`; in place of inhibited and locked stand the loss (`loss_of`) and the bytes lent of the page.
 // `c PART ENABLE LOSS PAGE FILL : what is tried/events` runs events, a digit for each code, on a chip in standby; the page is filled from FILL on.
-use cases::{cut, mixed, more};
+use crate::{Case, Tried, step_and_run, tell_tried};
+use cases::told::tell;
+use cases::{Laid, Lent, Pattern, fill, first, loss_of, mixed};
 use host::Host;
 use parts::Loss;
 use text::{narrow, wide};
 
-// The numbers of a line of `c`, behind the part and the enable.
-const LOSS: usize = 2;
-
-const PAGE: usize = 3;
-
-const FILL: usize = 4;
-
 // More than a line has.
 const MOST: usize = 1024;
 
-// ---- what is given for a loss of power
-
-// 0 the old contents, 1 a lent page, 2 a lent page and the lock.
-fn loss_of(n: usize) -> Loss {
-    if n == 0 {
-        return Loss::Old;
-    }
-    Loss::Lent(n == 2)
-}
-
-pub fn tell_page(host: &Host, v: [usize; 16]) {
-    let mut own = v;
-    own[crate::INHIBITED] = 0;
-    own[crate::LOCKED] = 0;
+pub fn tell_page(host: &Host, case: Case) {
     let mut page = [0u8; 65];
-    cases::fill(&mut page, 200);
-    crate::step_and_run(
+    fill(&mut page, 200);
+    step_and_run(
         host,
-        own,
-        loss_of(v[crate::INHIBITED]),
-        cut(&page, 0, v[crate::LOCKED]),
+        Case {
+            inhibited: 0,
+            locked: 0,
+            loss: loss_of(wide(case.inhibited)),
+            page: first(&page, wide(case.locked)),
+            ..case
+        },
     );
 }
 
-// ---- events
+// ---- a run on a chip in standby, and what it leaves
 
-fn laid(events: &mut [u8], n: usize, x: u8) -> usize {
-    if x < 48 {
-        return n;
-    }
-    if 57 < x {
-        return n;
-    }
-    crate::set(events, n, x - 48);
-    more(n)
+// What a run is given beside its events.
+#[derive(Clone, Copy)]
+struct Cut<'a> {
+    part: u8,
+    enable: u8,
+    loss: Loss,
+    page: &'a [u8],
 }
 
-// The digits of a text; answers how many.
-fn spell(typed: &[u8], events: &mut [u8]) -> usize {
-    let mut n = 0;
-    let mut i = 0;
-    while i < typed.len() {
-        n = laid(events, n, typed[i]);
-        i += 1;
+// A chip as bytes, what it stores, and the levels that it answered.
+#[derive(Clone, Copy, PartialEq, Eq)]
+struct Left {
+    held: [u8; 137],
+    lent: Lent,
+    levels: [u8; MOST],
+}
+
+fn fresh(part: u8) -> Left {
+    let mut held = [0u8; 137];
+    pack_chip::pack(chip::standby(part, false), &mut held);
+    Left {
+        held,
+        lent: Lent::filled(),
+        levels: [0; MOST],
     }
-    n
 }
 
-// ---- what is left
-
-fn tell(host: &Host, words: &[u8], n: usize) {
-    host.say(words);
-    host.say_number(n);
-}
-
-// One more where byte i of the latches is the high byte of a latched one.
-fn counted(n: usize, i: usize, x: u8) -> usize {
-    if i % 2 == 0 {
-        if x == 0 {
-            return more(n);
-        }
+impl Left {
+    fn run(&mut self, host: &Host, cut: Cut, events: &[u8]) {
+        let (array, id) = self.lent.part(cut.part);
+        let r = chip::run(
+            cut.part,
+            cut.enable,
+            cut.loss,
+            cut.page,
+            pack_chip::unpack(&self.held),
+            array,
+            id,
+            events,
+            &mut self.levels,
+        );
+        pack_chip::pack(r.chip, &mut self.held);
+        tell_tried(
+            host,
+            Tried {
+                verdict: r.verdict,
+                kept: self.lent.is_filled(),
+            },
+        );
+        tell(host, b", cycles ", r.cycles);
     }
-    n
+
+    fn step(&mut self, cut: Cut, event: u8) -> u8 {
+        let (array, id) = self.lent.part(cut.part);
+        let s = chip::step(
+            cut.part,
+            cut.enable,
+            cut.loss,
+            cut.page,
+            pack_chip::unpack(&self.held),
+            array,
+            id,
+            event,
+        );
+        pack_chip::pack(s.chip, &mut self.held);
+        s.level
+    }
 }
 
+// The events one by one.
+fn walked(cut: Cut, events: &[u8]) -> Left {
+    let mut left = fresh(cut.part);
+    for (i, event) in events.iter().enumerate() {
+        let level = left.step(cut, *event);
+        cases::set(&mut left.levels, i, level);
+    }
+    left
+}
+
+// ---- what is printed
+
+// Each of two bytes; the high byte of a latched one is 0.
 fn latched(latches: &[u8]) -> usize {
-    let mut n = 0;
-    let mut i = 0;
-    while i < latches.len() {
-        n = counted(n, i, latches[i]);
-        i += 1;
-    }
-    n
-}
-
-fn pair(high: u8, low: u8) -> usize {
-    high as usize * 256 + low as usize
+    latches.iter().step_by(2).filter(|high| **high == 0).count()
 }
 
 // A state's bytes, as pack_chip lays them.
 fn tell_state(host: &Host, held: &[u8; 137]) {
-    tell(host, b", counter ", pair(held[0], held[1]));
+    let counter = u16::from_be_bytes([held[0], held[1]]);
+    tell(host, b", counter ", usize::from(counter));
     tell(host, b", pin ", wide(held[2]));
     tell(host, b", locked ", wide(held[4]));
     tell(host, b", phase ", wide(held[5]));
-    tell(host, b", latches ", latched(cut(held, 9, 137)));
+    tell(host, b", latches ", latched(&held[9..]));
 }
 
 fn tell_byte(host: &Host, at: usize, x: u8) {
@@ -113,157 +133,24 @@ fn tell_byte(host: &Host, at: usize, x: u8) {
 }
 
 // Each byte that is not as it was lent.
-fn tell_changed(host: &Host, s: &[u8], first: u8) {
-    let mut x = first;
-    let mut i = 0;
-    while i < s.len() {
-        if s[i] != x {
-            tell_byte(host, i, s[i]);
+fn tell_changed(host: &Host, s: &[u8], from: u8) {
+    for (i, (x, lent)) in s.iter().zip(Pattern(from)).enumerate() {
+        if *x != lent {
+            tell_byte(host, i, *x);
         }
-        x = cases::next(x);
-        i += 1;
     }
 }
 
-// ---- the run, at once and event by event
-
-fn fresh(part: u8, held: &mut [u8], array: &mut [u8], id: &mut [u8]) {
-    pack_chip::pack(chip::standby(part, false), held);
-    cases::fill(array, 0);
-    cases::fill(id, 100);
-}
-
-fn run(
-    host: &Host,
-    v: [usize; 16],
-    page: &[u8],
-    events: &[u8],
-    held: &mut [u8],
-    array: &mut [u8],
-    id: &mut [u8],
-    levels: &mut [u8],
-) {
-    let r = chip::run(
-        narrow(v[crate::PART]),
-        narrow(v[crate::ENABLE]),
-        loss_of(v[LOSS]),
-        page,
-        pack_chip::unpack(held),
-        array,
-        id,
-        events,
-        levels,
-    );
-    let verdict = r.verdict;
-    let chip = r.chip;
-    pack_chip::pack(chip, held);
-    crate::tell_tried(
-        host,
-        crate::answered(verdict, crate::both_filled(array, id)),
-    );
-    tell(host, b", cycles ", r.cycles);
-}
-
-fn step(
-    v: [usize; 16],
-    page: &[u8],
-    event: u8,
-    held: &mut [u8],
-    array: &mut [u8],
-    id: &mut [u8],
-) -> u8 {
-    let s = chip::step(
-        narrow(v[crate::PART]),
-        narrow(v[crate::ENABLE]),
-        loss_of(v[LOSS]),
-        page,
-        pack_chip::unpack(held),
-        array,
-        id,
-        event,
-    );
-    let chip = s.chip;
-    pack_chip::pack(chip, held);
-    s.level
-}
-
-fn walk(
-    v: [usize; 16],
-    page: &[u8],
-    events: &[u8],
-    held: &mut [u8],
-    array: &mut [u8],
-    id: &mut [u8],
-    levels: &mut [u8],
-) {
-    let mut i = 0;
-    while i < events.len() {
-        let level = step(v, page, events[i], held, array, id);
-        crate::set(levels, i, level);
-        i += 1;
-    }
-}
-
-fn both_same(a: &[u8], b: &[u8], same: bool) -> bool {
-    if same {
-        return check::same(a, b);
-    }
-    false
-}
-
-// Whether the events one by one leave and answer the same.
-fn walked(
-    v: [usize; 16],
-    page: &[u8],
-    events: &[u8],
-    held: &[u8],
-    array: &[u8],
-    id: &[u8],
-    levels: &[u8],
-) -> bool {
-    let part = narrow(v[crate::PART]);
-    let mut own = [0u8; 137];
-    let mut cells = [0u8; 32768];
-    let mut ident = [0u8; 64];
-    let mut told = [0u8; MOST];
-    fresh(part, &mut own, &mut cells, &mut ident);
-    walk(
-        v,
-        page,
-        events,
-        &mut own,
-        fitted::array(part, &mut cells),
-        fitted::id(part, &mut ident),
-        &mut told,
-    );
-    let stored = both_same(&ident, id, check::same(&cells, array));
-    both_same(&told, levels, both_same(&own, held, stored))
-}
-
-fn tell_run(host: &Host, v: [usize; 16], page: &[u8], events: &[u8]) {
-    let part = narrow(v[crate::PART]);
-    let mut held = [0u8; 137];
-    let mut array = [0u8; 32768];
-    let mut id = [0u8; 64];
-    let mut levels = [0u8; MOST];
-    fresh(part, &mut held, &mut array, &mut id);
-    run(
-        host,
-        v,
-        page,
-        events,
-        &mut held,
-        fitted::array(part, &mut array),
-        fitted::id(part, &mut id),
-        &mut levels,
-    );
-    tell_state(host, &held);
-    tell(host, b", levels ", mixed(&levels));
+fn tell_run(host: &Host, cut: Cut, events: &[u8]) {
+    let mut left = fresh(cut.part);
+    left.run(host, cut, events);
+    tell_state(host, &left.held);
+    tell(host, b", levels ", mixed(&left.levels));
     host.say(b"; array");
-    tell_changed(host, &array, 0);
+    tell_changed(host, &left.lent.array, 0);
     host.say(b"; id");
-    tell_changed(host, &id, 100);
-    if walked(v, page, events, &held, &array, &id, &levels) {
+    tell_changed(host, &left.lent.id, 100);
+    if walked(cut, events) == left {
         host.say(b"; one by one the same");
     } else {
         host.say(b"; one by one OTHERWISE");
@@ -271,9 +158,21 @@ fn tell_run(host: &Host, v: [usize; 16], page: &[u8], events: &[u8]) {
 }
 
 pub fn tell_cut(host: &Host, v: [usize; 16], typed: &[u8]) {
-    let mut events = [0u8; MOST];
+    let [part, enable, loss, lent, from, ..] = v;
     let mut page = [0u8; 65];
-    let n = spell(typed, &mut events);
-    cases::fill(&mut page, narrow(v[FILL]));
-    tell_run(host, v, cut(&page, 0, v[PAGE]), cut(&events, 0, n));
+    let mut room = [0u8; MOST];
+    let mut events = Laid::new(&mut room);
+    for x in typed {
+        if let b'0'..=b'9' = x {
+            events.push(*x - b'0');
+        }
+    }
+    fill(&mut page, narrow(from));
+    let cut = Cut {
+        part: narrow(part),
+        enable: narrow(enable),
+        loss: loss_of(loss),
+        page: first(&page, lent),
+    };
+    tell_run(host, cut, events.bytes());
 }

@@ -1,22 +1,24 @@
 // Runs the driver on requests, limits and values out of range, and prints what it answers.
 #![tactic(auto)]
 
-ghost use Rattle.std.specs.Prelude.{◌≤◌};
-
+use cases::told::{tell, tell_each};
 use driver::{Answer, Counts, Driver, Failed, Phase, Place, Request, Slot};
 use host::Host;
 use parts::{ArrayAddress, IdLocation, Verdict};
+use text::wide;
 
-// How a run ended: 0 done, the refusal's number and its page or index, or 255 for no end.
+// The line is never released.
+const ALWAYS: usize = 60000;
+
+// How a run ended, which is not said of one without an end.
 #[derive(Clone, Copy)]
 struct Tally {
-    pub number: u8,
-    pub place: usize,
-    pub polls: usize,
-    pub bytes: usize,
-    pub events: usize,
-    pub clocks: usize,
+    answer: Option<Answer>,
+    events: usize,
+    clocks: usize,
 }
+
+// ---- requests
 
 fn array(part: u8, reads: bool, address: usize, length: usize, budget: usize) -> Request {
     Request {
@@ -31,140 +33,86 @@ fn array(part: u8, reads: bool, address: usize, length: usize, budget: usize) ->
 
 fn ident(part: u8, reads: bool, location: usize, length: usize, budget: usize) -> Request {
     Request {
-        part,
-        enable: 0,
         place: Place::Ident(IdLocation(location)),
-        reads,
-        length,
-        budget,
+        ..array(part, reads, 0, length, budget)
     }
 }
 
 fn enabled(part: u8, enable: u8) -> Request {
     Request {
-        part,
         enable,
-        place: Place::Array(ArrayAddress(0)),
-        reads: true,
-        length: 1,
-        budget: 1,
+        ..array(part, true, 0, 1, 1)
     }
 }
+
+// ---- runs
 
 // The line is pulled low for the first `low` askings, and never after.
 fn level_at(asking: usize, low: usize) -> u8 {
-    if asking < low { 0 } else { 1 }
-}
-
-fn ended(answer: Answer, events: usize, clocks: usize) -> Tally {
-    match answer {
-        Answer::Send(_) => Tally {
-            number: 255,
-            place: 0,
-            polls: 0,
-            bytes: 0,
-            events,
-            clocks,
-        },
-        Answer::Done(polls, bytes) => Tally {
-            number: 0,
-            place: 0,
-            polls,
-            bytes,
-            events,
-            clocks,
-        },
-        Answer::Refused(r, polls, bytes) => Tally {
-            number: parts::number(r),
-            place: parts::verdict_place(Verdict::Refused(r)),
-            polls,
-            bytes,
-            events,
-            clocks,
-        },
-    }
-}
-
-fn is_event(answer: Answer) -> bool {
-    match answer {
-        Answer::Send(_) => true,
-        Answer::Done(_, _) => false,
-        Answer::Refused(_, _, _) => false,
-    }
-}
-
-// 1 for a clock.
-fn clock(answer: Answer) -> usize
-    ensures { result ≤ 1 }
-{
-    let Answer::Send(e) = answer else {
-        return 0;
-    };
-    if e < 2 { 1 } else { 0 }
+    u8::from(low <= asking)
 }
 
 fn drive(request: Request, low: usize, buffer: &mut [u8]) -> Tally {
-    let begun = driver::begin(request);
-    let mut d = begun.driver;
-    let mut events: usize = 0;
-    let mut clocks: usize = 0;
-    while events < 60000 {
+    let mut d = driver::begin(request).driver;
+    let mut clocks = 0;
+    for events in 0..ALWAYS {
         let asked = driver::next(d, level_at(events, low), buffer);
-        let answer = asked.answer;
-        if !is_event(answer) {
-            return ended(answer, events, clocks);
+        let Answer::Send(code) = asked.answer else {
+            return Tally {
+                answer: Some(asked.answer),
+                events,
+                clocks,
+            };
+        };
+        if code < 2 {
+            clocks += 1;
         }
-        clocks += clock(answer);
-        let to = asked.driver;
-        d = to;
-        events += 1;
+        d = asked.driver;
     }
     Tally {
-        number: 255,
-        place: 0,
-        polls: 0,
-        bytes: 0,
-        events,
+        answer: None,
+        events: ALWAYS,
         clocks,
     }
 }
 
-fn tell(host: &Host, n: usize) {
-    host.say(b" ");
-    host.say_number(n);
+// 0 done, the refusal's number and its page or index, or 255 for no end; polls and bytes.
+fn ending(answer: Option<Answer>) -> [usize; 4] {
+    match answer {
+        None | Some(Answer::Send(_)) => [255, 0, 0, 0],
+        Some(Answer::Done(polls, bytes)) => [0, 0, polls, bytes],
+        Some(Answer::Refused(r, polls, bytes)) => [
+            wide(parts::number(r)),
+            parts::verdict_place(Err(r)),
+            polls,
+            bytes,
+        ],
+    }
 }
 
 fn say_first(host: &Host, buffer: &[u8; 128]) {
-    tell(host, text::wide(buffer[0]));
-}
-
-fn say_tally(host: &Host, t: Tally) {
-    tell(host, text::wide(t.number));
-    tell(host, t.place);
-    tell(host, t.polls);
-    tell(host, t.bytes);
-    tell(host, t.events);
-    tell(host, t.clocks);
+    tell(host, b" ", wide(buffer[0]));
+    host.say(b"\n");
 }
 
 // Writes number, page or index, polls, bytes, events, clocks, and the first byte of the buffer.
 fn run(host: &Host, label: &[u8], request: Request, low: usize) {
     let mut buffer = [90u8; 128];
-    let n = request.length;
     host.say(label);
-    if n <= 128 {
-        let t = drive(request, low, &mut buffer[..n]);
-        say_tally(host, t);
+    if let Some(lent) = buffer.get_mut(..request.length) {
+        let t = drive(request, low, lent);
+        tell_each(host, &ending(t.answer));
+        tell_each(host, &[t.events, t.clocks]);
     }
     say_first(host, &buffer);
-    host.say(b"\n");
 }
 
 fn judged(host: &Host, label: &[u8], request: Request) {
     host.say(label);
     tell(
         host,
-        text::wide(parts::verdict_number(driver::judge(request))),
+        b" ",
+        wide(parts::verdict_number(driver::judge(request))),
     );
     host.say(b"\n");
 }
@@ -173,16 +121,12 @@ fn judged(host: &Host, label: &[u8], request: Request) {
 fn step(host: &Host, label: &[u8], d: Driver, n: usize) {
     let mut buffer = [90u8; 128];
     host.say(label);
-    if n <= 128 {
-        let asked = driver::next(d, 0, &mut buffer[..n]);
-        let answer = asked.answer;
-        let t = ended(answer, 0, 0);
-        tell(host, text::wide(t.number));
-        tell(host, t.place);
-        tell(host, asked.driver.counts.at);
+    if let Some(lent) = buffer.get_mut(..n) {
+        let asked = driver::next(d, 0, lent);
+        let [number, place, _, _] = ending(Some(asked.answer));
+        tell_each(host, &[number, place, asked.driver.counts.at]);
     }
     say_first(host, &buffer);
-    host.say(b"\n");
 }
 
 fn made(phase: Phase, at: usize, seen: usize, tries: usize, polls: usize) -> Driver {
@@ -209,6 +153,8 @@ fn made_for(
         },
     }
 }
+
+// ---- what is tried
 
 fn requests(host: &Host) {
     judged(host, b"part 6", array(6, false, 0, 1, 1));
@@ -255,19 +201,19 @@ fn write_runs(host: &Host) {
         host,
         b"part 2 at 8192, 0 bytes",
         array(2, false, 8192, 0, 1),
-        60000,
+        ALWAYS,
     );
     run(
         host,
         b"part 2 at 8191, 1 byte",
         array(2, false, 8191, 1, 1),
-        60000,
+        ALWAYS,
     );
     run(
         host,
         b"part 2 at 30, 5 bytes",
         array(2, false, 30, 5, 10),
-        60000,
+        ALWAYS,
     );
     run(host, b"always released", array(2, false, 30, 5, 10), 0);
     run(host, b"address released", array(2, false, 30, 5, 10), 28);
@@ -277,13 +223,13 @@ fn write_runs(host: &Host) {
         host,
         b"part 0 at 250, 40 bytes",
         array(0, false, 250, 40, 1),
-        60000,
+        ALWAYS,
     );
     run(
         host,
         b"identification write",
         ident(1, false, 3, 13, 2),
-        60000,
+        ALWAYS,
     );
 }
 
@@ -292,7 +238,7 @@ fn read_runs(host: &Host) {
         host,
         b"read, always low",
         array(4, true, 32700, 68, 0),
-        60000,
+        ALWAYS,
     );
     run(
         host,
@@ -311,14 +257,14 @@ fn read_runs(host: &Host) {
         host,
         b"identification read",
         ident(5, true, 63, 1, 0),
-        60000,
+        ALWAYS,
     );
 }
 
 fn runs(host: &Host) {
     write_runs(host);
     read_runs(host);
-    run(host, b"refused request", array(2, false, 30, 5, 0), 60000);
+    run(host, b"refused request", array(2, false, 30, 5, 0), ALWAYS);
 }
 
 fn values(host: &Host) {
@@ -373,16 +319,14 @@ fn endings(host: &Host) {
 
 fn fails(host: &Host, label: &[u8], request: Request, low: usize) {
     host.say(label);
-    tell(host, low);
+    tell(host, b" ", low);
     run(host, b":", request, low);
 }
 
 // Which byte goes unanswered, on a line that fails after each number of askings.
 fn sweep(host: &Host, label: &[u8], request: Request, most: usize) {
-    let mut low: usize = 0;
-    while low < most {
+    for low in 0..most {
         fails(host, label, request, low);
-        low += 1;
     }
 }
 

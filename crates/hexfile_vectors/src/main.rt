@@ -3,42 +3,17 @@
 // answer also tells what was left alone.
 #![tactic(auto)]
 
-ghost use Rattle.std.specs.Prelude.{◌≡◌, ◌<◌, length};
-
-use cases::mixed;
+use cases::told::{tell, tell_done};
+use cases::{Laid, ended, fill, first, mixed, numbers};
 use host::{Host, STDIN};
-use parts::Verdict;
+use text::narrow;
 
 // ---- what is told
 
-fn tell(host: &Host, name: &[u8], n: usize) {
-    host.say(name);
-    host.say_number(n);
-}
-
-fn tell_refusal(host: &Host, verdict: Verdict) {
-    tell(
-        host,
-        b"refused ",
-        text::wide(parts::verdict_number(verdict)),
-    );
-    tell(host, b" at ", parts::verdict_place(verdict));
-}
-
-fn tell_verdict(host: &Host, verdict: Verdict) {
-    match verdict {
-        Verdict::Fine => {
-            host.say(b"done");
-        }
-        Verdict::Refused(_) => tell_refusal(host, verdict),
-    }
-}
-
 fn tell_read(host: &Host, part: u8, text: &[u8], array: &mut [u8]) {
-    cases::fill(array, 7);
+    fill(array, 7);
     let r = hexfile::read(part, text, array);
-    let verdict = r.verdict;
-    tell_verdict(host, verdict);
+    tell_done(host, r.verdict);
     tell(host, b", records ", r.records);
     tell(host, b", named ", r.named);
     tell(host, b", array ", mixed(array));
@@ -46,11 +21,11 @@ fn tell_read(host: &Host, part: u8, text: &[u8], array: &mut [u8]) {
 }
 
 // Of a length of the array; 0 stands for the part's own.
-fn lent(host: &Host, part: u8, n: usize, text: &[u8], array: &mut [u8]) {
-    let f = parts::facts_of(part);
-    if n == 0 {
-        return tell_read(host, part, text, fitted::first(array, f.size));
-    }
+fn lent(host: &Host, part: u8, length: usize, text: &[u8], array: &mut [u8]) {
+    let n = match length {
+        0 => parts::facts_of(part).size,
+        n => n,
+    };
     tell_read(host, part, text, fitted::first(array, n));
 }
 
@@ -58,83 +33,73 @@ fn lent(host: &Host, part: u8, n: usize, text: &[u8], array: &mut [u8]) {
 
 fn meant(x: u8) -> u8 {
     match x {
-        b'/' => 10,
-        b'~' => 13,
+        b'/' => b'\n',
+        b'~' => b'\r',
         b'@' => 0,
         b'^' => 200,
         _ => x,
     }
 }
 
-// Where the text stands: behind the third space of a line.
-fn third(line: &[u8]) -> usize {
-    let mut spaces = 0;
-    let mut i = 0;
-    while i < line.len() {
-        if line[i] == b' ' {
-            spaces = cases::more(spaces);
-            if spaces == 3 {
-                return i + 1;
-            }
-        }
-        i += 1;
-    }
-    i
-}
-
-fn spell(typed: &[u8], to: &mut [u8]) -> usize {
-    let mut i = 0;
-    while i < typed.len() {
-        if to.len() <= i {
-            return i;
-        }
-        to[i] = meant(typed[i]);
-        i += 1;
-    }
-    i
-}
-
+// The text stands behind the third space of the line.
 fn typed(host: &Host, line: &[u8], text: &mut [u8], array: &mut [u8]) {
-    let v = cases::numbers(line);
-    let at = third(line);
-    let n = spell(cases::cut(line, at, line.len()), text);
-    lent(
-        host,
-        text::narrow(v[0]),
-        v[1],
-        cases::cut(text, 0, n),
-        array,
-    );
+    let [part, length, ..] = numbers(line);
+    let mut laid = Laid::new(text);
+    if let Some(typed) = line.splitn(4, |x| *x == b' ').nth(3) {
+        for x in typed {
+            laid.push(meant(*x));
+        }
+    }
+    lent(host, narrow(part), length, laid.bytes(), array);
 }
 
 // ---- texts made of records
 
-// Behind the first n bytes of a text; what there is no room for is left out.
-fn add(text: &mut [u8], n: usize, b: u8) -> usize {
-    if n < text.len() {
-        text[n] = b;
-        return n + 1;
-    }
-    n
+// The end record of a text, with its line end or without.
+#[derive(Clone, Copy)]
+enum Last {
+    Missing,
+    Ended,
+    Open,
 }
 
-fn add_two(text: &mut [u8], n: usize, d: [u8; 2]) -> usize {
-    let k = add(text, n, d[0]);
-    add(text, k, d[1])
+// 0 no end record, 1 with its line end, 2 without.
+fn last_of(n: usize) -> Last {
+    match n {
+        0 => Last::Missing,
+        1 => Last::Ended,
+        _ => Last::Open,
+    }
 }
 
-fn add_byte(text: &mut [u8], n: usize, x: u8, small: bool) -> usize {
-    if small {
-        return add_two(text, n, text::small_hex(x));
-    }
-    add_two(text, n, text::hex(x))
+// `g PART LENGTH RECORDS FIRST STEP BYTES DOWN SMALL CR END ODD`: record number ODD has a wrong sum, 65536 for none.
+#[derive(Clone, Copy)]
+struct Plan {
+    records: usize,
+    first: usize,
+    step: usize,
+    bytes: usize,
+    down: bool,
+    small: bool,
+    cr: bool,
+    last: Last,
+    odd: usize,
 }
 
-fn add_end(text: &mut [u8], n: usize, cr: bool) -> usize {
-    if cr {
-        return add_two(text, n, [13, 10]);
+fn plan_of(v: [usize; 16]) -> Plan {
+    let [_, _, records, first, step, bytes, down, small, ..] = v;
+    let [.., cr, end, odd, _, _, _, _, _] = v;
+    Plan {
+        records: records % 65536,
+        first,
+        step,
+        bytes,
+        down: down == 1,
+        small: small == 1,
+        cr: cr == 1,
+        last: last_of(end),
+        odd,
     }
-    add(text, n, 10)
 }
 
 fn low(n: usize) -> u8 {
@@ -142,130 +107,117 @@ fn low(n: usize) -> u8 {
 }
 
 // The data bytes, each the low byte of its address and 3 more.
-fn add_data(text: &mut [u8], n: usize, at: usize, count: usize, small: bool) -> usize {
-    let mut k = n;
-    let mut i = 0;
-    while i < count {
-        k = add_byte(text, k, low(at % 65536 + i % 256 + 3), small);
-        i += 1;
+fn data_at(at: usize, i: usize) -> u8 {
+    low(at % 65536 + i % 256 + 3)
+}
+
+impl Plan {
+    // The address behind one: up by a step, or down, but not below 0.
+    fn behind(self, at: usize) -> usize {
+        if self.down {
+            return at.saturating_sub(self.step);
+        }
+        if at < 1000000 {
+            return at + self.step % 65536;
+        }
+        at
     }
-    k
 }
 
-// What the data bytes of a record add up to.
-fn total(at: usize, count: usize) -> usize
-    ensures { result < 256 }
-{
-    let mut sum = 0;
-    let mut i = 0;
-    while i < count {
-        sum = (sum + text::wide(low(at % 65536 + i % 256 + 3))) % 256;
-        i += 1;
-    }
-    sum
-}
-
-fn check_of(at: usize, count: usize, off: usize) -> u8 {
-    let sum = total(at, count) + count % 256 + at % 65536 / 256 + at % 256 + off % 256;
-    low(256 - sum % 256)
-}
-
-// ':' and the first four bytes of a record.
-fn add_head(text: &mut [u8], n: usize, head: [u8; 4], small: bool) -> usize {
-    let a = add(text, n, b':');
-    let b = add_byte(text, a, head[0], small);
-    let c = add_byte(text, b, head[1], small);
-    let d = add_byte(text, c, head[2], small);
-    add_byte(text, d, head[3], small)
-}
-
-// A data record; `off` is what its sum is off by.
-fn add_record(
-    text: &mut [u8],
-    n: usize,
-    at: usize,
-    count: usize,
+// A text under way, and what the bytes of its last record add up to.
+#[derive(Drop)]
+struct Records<'a> {
+    text: Laid<'a>,
     small: bool,
     cr: bool,
-    off: usize,
-) -> usize {
-    let head = [low(count), low(at / 256), low(at), 0];
-    let a = add_head(text, n, head, small);
-    let b = add_data(text, a, at, count, small);
-    let c = add_byte(text, b, check_of(at, count, off), small);
-    add_end(text, c, cr)
+    sum: u8,
 }
 
-fn end_bytes(text: &mut [u8], n: usize, small: bool) -> usize {
-    let k = add_head(text, n, [0, 0, 0, 1], small);
-    add_byte(text, k, 255, small)
-}
-
-// 0 no end record, 1 with its line end, 2 without.
-fn add_last(text: &mut [u8], n: usize, kind: usize, small: bool, cr: bool) -> usize {
-    if kind == 0 {
-        return n;
+impl<'a> Records<'a> {
+    fn add_byte(&mut self, x: u8) {
+        let digits = if self.small {
+            text::small_hex(x)
+        } else {
+            text::hex(x)
+        };
+        self.text.extend(&digits);
+        self.sum = self.sum.wrapping_add(x);
     }
-    let k = end_bytes(text, n, small);
-    if kind == 1 {
-        return add_end(text, k, cr);
-    }
-    k
-}
 
-// The address behind one: up by a step, or down, but not below 0.
-fn moved(at: usize, step: usize, down: bool) -> usize {
-    if down {
-        if step <= at {
-            return at - step;
+    fn add_end(&mut self) {
+        self.text.extend(if self.cr { b"\r\n" } else { b"\n" });
+    }
+
+    // ':' and the first four bytes of a record.
+    fn add_head(&mut self, head: [u8; 4]) {
+        self.text.push(b':');
+        self.sum = 0;
+        for x in head {
+            self.add_byte(x);
         }
-        return 0;
     }
-    if at < 1000000 {
-        return at + step % 65536;
+
+    // `off` is what the sum is off by.
+    fn add_sum(&mut self, off: u8) {
+        self.add_byte(self.sum.wrapping_add(off).wrapping_neg());
     }
-    at
+
+    // A data record.
+    fn add_record(&mut self, at: usize, count: usize, off: u8) {
+        self.add_head([low(count), low(at / 256), low(at), 0]);
+        for i in 0..count {
+            self.add_byte(data_at(at, i));
+        }
+        self.add_sum(off);
+        self.add_end();
+    }
+
+    fn add_last(&mut self, last: Last) {
+        if let Last::Missing = last {
+            return;
+        }
+        self.add_head([0, 0, 0, 1]);
+        self.add_sum(0);
+        if let Last::Ended = last {
+            self.add_end();
+        }
+    }
 }
 
-// `g PART LENGTH RECORDS FIRST STEP BYTES DOWN SMALL CR END ODD`: record number ODD has a wrong sum, 65536 for none.
-fn make(text: &mut [u8], v: [usize; 16]) -> usize {
-    let records = v[2] % 65536;
-    let mut at = v[3];
-    let mut n = 0;
-    let mut i = 0;
-    while i < records {
-        let off = text::wide(parts::flag(i == v[10]));
-        n = add_record(text, n, at, v[5], v[7] == 1, v[8] == 1, off);
-        at = moved(at, v[4], v[6] == 1);
-        i += 1;
+fn make<'a>(text: &'a mut [u8], plan: Plan) -> Laid<'a> {
+    let mut made = Records {
+        text: Laid::new(text),
+        small: plan.small,
+        cr: plan.cr,
+        sum: 0,
+    };
+    let mut at = plan.first;
+    for i in 0..plan.records {
+        made.add_record(at, plan.bytes, u8::from(i == plan.odd));
+        at = plan.behind(at);
     }
-    add_last(text, n, v[9], v[7] == 1, v[8] == 1)
+    made.add_last(plan.last);
+    made.text
 }
 
 fn made(host: &Host, line: &[u8], text: &mut [u8], array: &mut [u8]) {
-    let v = cases::numbers(line);
-    let n = make(text, v);
-    tell(host, b"text of ", n);
-    tell(host, b" bytes, ", mixed(cases::cut(text, 0, n)));
+    let v = numbers(line);
+    let laid = make(text, plan_of(v));
+    let text = laid.bytes();
+    tell(host, b"text of ", text.len());
+    tell(host, b" bytes, ", mixed(text));
     host.say(b": ");
-    lent(
-        host,
-        text::narrow(v[0]),
-        v[1],
-        cases::cut(text, 0, n),
-        array,
-    );
+    lent(host, narrow(v[0]), v[1], text, array);
 }
 
 // ---- arrays written, and read back
 
-fn back(host: &Host, part: u8, n: usize, text: &[u8], array: &mut [u8]) {
+fn back(host: &Host, part: u8, text: &[u8], array: &mut [u8]) {
     let before = mixed(array);
-    cases::fill(array, 99);
-    let r = hexfile::read(part, cases::cut(text, 0, n), array);
-    let verdict = r.verdict;
+    fill(array, 99);
+    let r = hexfile::read(part, text, array);
     host.say(b"; back ");
-    tell_verdict(host, verdict);
+    tell_done(host, r.verdict);
     tell(host, b", records ", r.records);
     tell(host, b", named ", r.named);
     if before == mixed(array) {
@@ -275,78 +227,48 @@ fn back(host: &Host, part: u8, n: usize, text: &[u8], array: &mut [u8]) {
 
 fn told(host: &Host, part: u8, text: &mut [u8], array: &mut [u8]) {
     let w = hexfile::write(part, array, text);
-    let verdict = w.verdict;
-    tell_verdict(host, verdict);
+    tell_done(host, w.verdict);
     tell(host, b", length ", w.length);
     tell(host, b", text ", mixed(text));
-    back(host, part, w.length, text, array);
+    back(host, part, first(text, w.length), array);
     host.say(b"\n");
 }
 
 // `w PART LENGTH ROOM FIRST`: an array of so many bytes from the first on, into so much room.
 fn written(host: &Host, line: &[u8], text: &mut [u8], array: &mut [u8]) {
-    let v = cases::numbers(line);
-    cases::fill(text, 1);
-    cases::fill(array, text::narrow(v[3]));
+    let [part, length, room, from, ..] = numbers(line);
+    fill(text, 1);
+    fill(array, narrow(from));
     told(
         host,
-        text::narrow(v[0]),
-        fitted::first(text, v[2]),
-        fitted::first(array, v[1]),
+        narrow(part),
+        fitted::first(text, room),
+        fitted::first(array, length),
     );
 }
 
 // ---- lines
 
 fn one(host: &Host, line: &[u8], text: &mut [u8], array: &mut [u8]) {
-    if line.len() == 0 {
+    let Some(letter) = line.first() else {
         return;
-    }
+    };
     host.say(line);
     host.say(b"\n  ");
-    match line[0] {
+    match letter {
         b't' => typed(host, line, text, array),
         b'g' => made(host, line, text, array),
         _ => written(host, line, text, array),
     }
 }
 
-// Where the line that is under way begins, once byte i is seen.
-fn ended(
-    host: &Host,
-    input: &[u8],
-    start: usize,
-    i: usize,
-    text: &mut [u8],
-    array: &mut [u8],
-) -> usize {
-    if parts::byte_at(input, i) != b'\n' {
-        return start;
-    }
-    one(host, cases::cut(input, start, i), text, array);
-    cases::more(i)
-}
-
-fn each(host: &Host, input: &[u8], text: &mut [u8], array: &mut [u8]) {
-    let mut start = 0;
-    let mut i = 0;
-    while i < input.len() {
-        start = ended(host, input, start, i, text, array);
-        i += 1;
-    }
-}
-
-fn blank() -> [u8; 92200]
-    ensures { 92200 ≡ length result }
-{
-    [0; 92200]
-}
-
 fn main(rt: HostRuntime) {
     let host = Host::new(rt);
     let mut input = io::large_buffer();
     let n = host.read_full(STDIN, &mut input);
-    let mut text = blank();
+    let mut text = [0u8; 92200];
     let mut array = [0u8; 32769];
-    each(&host, &input[..n], &mut text, &mut array);
+    for line in ended(&input[..n], b'\n') {
+        one(&host, line, &mut text, &mut array);
+    }
 }
