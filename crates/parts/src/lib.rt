@@ -269,7 +269,11 @@ pub fn copy(out: &mut [u8], at: usize, bytes: &[u8])
 {
     if at <= out.len() {
         let n = bytes.len().min(out.len() - at);
-        out[at..at + n].copy_from_slice(&bytes[..n]);
+        // By the index, not by `copy_from_slice`: between buffers of the caller that is a call of `memmove`, a name that the archive for C would need, and
+        // most copies are of a few bytes.
+        for i in 0..n {
+            out[at + i] = bytes[i];
+        }
     }
 }
 
