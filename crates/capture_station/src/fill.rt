@@ -67,20 +67,22 @@ impl<'a> Entries<'a> {
 }
 
 impl Entries<'_> {
-    // One more of the last entry, if the sample is the same and there is room in its count.
-    fn repeats(&mut self, s: u8) -> bool {
+    // Of n samples alike, as many more of the last entry as there is room for in its count, if it is of the same sample: how many.
+    fn repeats(&mut self, s: u8, n: usize) -> usize {
         let Some(last) = self.n.checked_sub(1) else {
-            return false;
+            return 0;
         };
         if parts::byte_at(self.samples, last) != s {
-            return false;
+            return 0;
         }
         match self.counts.get_mut(last) {
-            Some(k) if *k < u16::MAX => {
-                *k += 1;
-                true
+            Some(k) => {
+                let room = u16::MAX - *k;
+                let more = u16::try_from(n).map_or(room, |n| n.min(room));
+                *k = k.saturating_add(more);
+                usize::from(more)
             }
-            _ => false,
+            None => 0,
         }
     }
 
@@ -96,9 +98,12 @@ impl Entries<'_> {
         false
     }
 
-    // Whether there was room.
-    fn put(&mut self, s: u8) -> bool {
-        self.repeats(s) || self.adds(s)
+    // Of n samples alike, at least one where there is room: how many.
+    fn put(&mut self, s: u8, n: usize) -> usize {
+        match self.repeats(s, n) {
+            0 => usize::from(self.adds(s)),
+            k => k,
+        }
     }
 
     pub fn len(&self) -> usize {
@@ -206,16 +211,32 @@ impl Source<'_> {
         }
     }
 
-    // As many of the chunk's bytes as there is room for.
+    // How many bytes of the chunk are as the one at `at`.
+    fn alike(&self) -> usize {
+        let (at, got) = (self.at, self.got);
+        let first = parts::byte_at(self.chunk, at);
+        match self.chunk.get(at..got) {
+            Some(rest) => rest.iter().take_while(|b| **b == first).count(),
+            None => 0,
+        }
+    }
+
+    // As many of the chunk's bytes as there is room for, those that are alike at once: most samples repeat the one before.
     fn pack(&mut self) -> Option<Halt> {
-        for i in self.at..self.got {
-            let b = parts::byte_at(self.chunk, i);
+        for _ in self.at..self.got {
+            let n = self.alike();
+            if n == 0 {
+                return None;
+            }
+            let at = self.at;
+            let b = parts::byte_at(self.chunk, at);
             let s = self.sample(b);
-            if !self.entries.put(s) {
+            let taken = self.entries.put(s, n);
+            if taken == 0 {
                 return Some(Halt::Full);
             }
-            self.at = i + 1;
-            self.all = self.all.wrapping_add(1);
+            self.at = at.saturating_add(taken);
+            self.all = self.all.wrapping_add(taken);
         }
         None
     }
