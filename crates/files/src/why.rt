@@ -25,8 +25,8 @@ fn address(host: &Host, a: usize) {
     if 65535 < a {
         say(host, b"1");
     }
-    say(host, &text::word(a));
-    say(host, b"h");
+    let [a, b, c, d] = text::word(a);
+    say(host, &[a, b, c, d, b'h']);
 }
 
 // ---- lines

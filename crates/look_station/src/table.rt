@@ -20,12 +20,9 @@ fn named(host: &Host, ok: bool, part: u8) -> bool {
     left(host, ok, &name.bytes[..name.length])
 }
 
-fn has(host: &Host, ok: bool, there: bool) -> bool {
-    if there {
-        say(host, ok, b"yes ")
-    } else {
-        say(host, ok, b"no  ")
-    }
+// A column of one of two texts.
+fn has(host: &Host, ok: bool, there: bool, yes: &[u8], no: &[u8]) -> bool {
+    say(host, ok, if there { yes } else { no })
 }
 
 fn enables(host: &Host, ok: bool, n: u8) -> bool {
@@ -53,8 +50,8 @@ fn line(host: &Host, ok: bool, part: u8) -> bool {
         parts::address_bytes(f),
         8,
     );
-    let four = has(host, say(host, three, b" "), f.ident);
-    let five = has(host, say(host, four, b"  "), f.pin);
+    let four = has(host, three, f.ident, b" yes   ", b" no    ");
+    let five = has(host, four, f.pin, b"yes ", b"no  ");
     enables(host, five, f.enables)
 }
 

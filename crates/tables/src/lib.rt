@@ -762,10 +762,11 @@ fn tell_sent(host: &Host, d: Device, sent: Sent) {
         Sent::Ident => {
             host.say(b"11h at location 05h              ");
         }
-        Sent::Lock(flag) => {
-            host.say(b"lock command, flag ");
-            host.say_number(usize::from(flag));
-            host.say(b"             ");
+        Sent::Lock(false) => {
+            host.say(b"lock command, flag 0             ");
+        }
+        Sent::Lock(true) => {
+            host.say(b"lock command, flag 1             ");
         }
     }
 }

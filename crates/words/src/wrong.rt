@@ -69,13 +69,11 @@ fn tell_word(host: &Host, command: Command, word: &[u8], wrong: Wrong) {
 
 // There is no such word.
 fn tell_missing(host: &Host, wrong: Wrong) {
-    let why = if wrong == Wrong::Sources {
-        wrong
-    } else {
-        Wrong::Missing
-    };
-    tell(host, b" ");
-    tell(host, why.text().as_bytes());
+    if wrong == Wrong::Sources {
+        tell(host, b" ");
+        return tell(host, wrong.text().as_bytes());
+    }
+    tell(host, b" is missing\n");
 }
 
 // A word is named by its number too: it may be missing, or too long to show. The second line says how the command is used.
