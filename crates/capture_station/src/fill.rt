@@ -86,22 +86,23 @@ impl Entries<'_> {
         }
     }
 
-    // A new entry, where there is room.
-    fn adds(&mut self, s: u8) -> bool {
-        let n = self.n;
-        if n < self.samples.len() && n < self.counts.len() {
-            self.samples[n] = s;
-            self.counts[n] = 1;
-            self.n = n + 1;
-            return true;
+    // A new entry of n samples alike, where there is room for one, as many as its count can be: how many.
+    fn adds(&mut self, s: u8, n: usize) -> usize {
+        let at = self.n;
+        if at < self.samples.len() && at < self.counts.len() {
+            let k = u16::try_from(n).unwrap_or(u16::MAX);
+            self.samples[at] = s;
+            self.counts[at] = k;
+            self.n = at + 1;
+            return usize::from(k);
         }
-        false
+        0
     }
 
-    // Of n samples alike, at least one where there is room: how many.
+    // Of n samples alike, as many as go into one entry; none where there is no room: how many.
     fn put(&mut self, s: u8, n: usize) -> usize {
         match self.repeats(s, n) {
-            0 => usize::from(self.adds(s)),
+            0 => self.adds(s, n),
             k => k,
         }
     }
