@@ -53,6 +53,13 @@ impl Bits {
     }
 }
 
+fn picked(bits: Option<Bits>, b: u8) -> u8 {
+    match bits {
+        Some(bits) => bits.sample(b),
+        None => b,
+    }
+}
+
 // ---- the entries
 
 impl<'a> Entries<'a> {
@@ -205,33 +212,25 @@ impl Source<'_> {
         None
     }
 
-    fn sample(&self, b: u8) -> u8 {
-        match self.bits {
-            Some(bits) => bits.sample(b),
-            None => b,
-        }
-    }
-
-    // How many bytes of the chunk are as the one at `at`.
-    fn alike(&self) -> usize {
-        let (at, got) = (self.at, self.got);
-        let first = parts::byte_at(self.chunk, at);
+    // How many bytes of the chunk, from the one at `at` on, give this sample; other bits may change.
+    fn alike(&self, s: u8) -> usize {
+        let (bits, at, got) = (self.bits, self.at, self.got);
         match self.chunk.get(at..got) {
-            Some(rest) => rest.iter().take_while(|b| **b == first).count(),
+            Some(rest) => rest.iter().take_while(|b| picked(bits, **b) == s).count(),
             None => 0,
         }
     }
 
-    // As many of the chunk's bytes as there is room for, those that are alike at once: most samples repeat the one before.
+    // As many of the chunk's bytes as there is room for, those of samples alike at once: most samples repeat the one before.
     fn pack(&mut self) -> Option<Halt> {
         for _ in self.at..self.got {
-            let n = self.alike();
+            let (bits, at) = (self.bits, self.at);
+            let b = parts::byte_at(self.chunk, at);
+            let s = picked(bits, b);
+            let n = self.alike(s);
             if n == 0 {
                 return None;
             }
-            let at = self.at;
-            let b = parts::byte_at(self.chunk, at);
-            let s = self.sample(b);
             let taken = self.entries.put(s, n);
             if taken == 0 {
                 return Some(Halt::Full);
